@@ -1,0 +1,41 @@
+// Places of pixels and of half pixels, which look alike and are kept apart by their types; the bound on coordinates; and the answers that
+// questions on every figure share.
+ghost use mathlib.Core.Path.{_≡_};
+ghost use Rattle.geometry.specs.Bound.{isCoord, inBounds};
+
+// A pixel's place: its column and its row.
+pub struct Point(pub i32, pub i32);
+
+// A place in half-pixel (doubled) units, in which a circle's centre is a whole place too.
+pub struct Doubled(pub i64, pub i64);
+
+// A yes or no. The number is 0, or that of the refusal, and then the answer is no.
+#[repr(C)]
+pub struct Verdict {
+    pub number: u32,
+    pub yes: bool,
+}
+
+// A row's columns, from the first to one past the last; 0 to 0 where there are none. With a refusal its number and 0 to 0.
+#[repr(C)]
+pub struct Span {
+    pub number: u32,
+    pub start: i32,
+    pub end: i32,
+}
+
+// Whether a vertex, a line end or a circle's top-left may have the coordinate.
+fn is_coord(x: i32) -> bool
+    ensures { λ r. ⌜ r ≡ isCoord x ⌝ }
+{
+    -131072 <= x && x <= 131071
+}
+
+// Inside the library: whether a vertex, a line end or a circle's top-left may stand here. Where it may not, whoever asks refuses with 5.
+pub fn in_bounds(p: Point) -> bool
+    ensures { λ r. ⌜ r ≡ inBounds p ⌝ }
+{
+    let x = p.0;
+    let y = p.1;
+    is_coord(x) && is_coord(y)
+}

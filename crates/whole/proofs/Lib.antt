@@ -1,0 +1,6 @@
+pub mod Difference
+pub mod Order
+pub mod Ring
+pub mod Machine
+pub mod Sizes
+pub mod Decides

@@ -1,0 +1,51 @@
+-- The order of ℤ with sums, differences and products. Assumes nothing.
+use mathlib.Core.Path.{_≡_, refl, sym, subst}
+use mathlib.Core.Logic.{_⊎_, inl, inr}
+use Prim.Native.Nat.{ℕ, zero, suc, _+_, _*_, _≤_, _<_}
+use native.Mathlib.Nat.{mul-pos}
+use native.Mathlib.Omega.{arith}
+use lib.IntN.{ℤ, pos, negsuc, negℤ, _+ℤ_, _-ℤ_, _*ℤ_}
+use lib.Signed.{_≤ℤ_, _<ℤ_, ltZ}
+use Rattle.whole.proofs.Difference.{up, dn, as-mk, mks, mk-eq, mk-le, mk-lt, le-mk, lt-mk, le-nat, lt-nat, nat-le, nat-lt, nat-eq}
+
+-- ---- what `omega` does through the two parts: transitivity, antisymmetry, and any chain of variables and literals
+pub le-trans : {a b c : ℤ} → a ≤ℤ b → b ≤ℤ c → a ≤ℤ c
+le-trans {a} {b} {c} h k = nat-le (omega (arith, le-nat h, le-nat k))
+
+pub le-antisym : {a b : ℤ} → a ≤ℤ b → b ≤ℤ a → a ≡ b
+le-antisym {a} {b} h k = nat-eq (omega (arith, le-nat h, le-nat k))
+
+pub lt-le : {a b : ℤ} → a <ℤ b → a ≤ℤ b
+lt-le {a} {b} h = nat-le (omega (arith, lt-nat h))
+
+-- ---- a difference that is not negative
+pub le-sub : (a b : ℤ) → a ≤ℤ b → pos 0 ≤ℤ (b -ℤ a)
+le-sub a b h = rw (as-mk a, as-mk b) (simp mks (mk-le _ _ _ _ (omega (arith, le-nat h))))
+
+pub sub-le : (a b : ℤ) → pos 0 ≤ℤ (b -ℤ a) → a ≤ℤ b
+sub-le a b h =
+    let g = le-mk _ _ _ _ (simp mks at (rw (as-mk a, as-mk b) at h)) in
+    nat-le (omega arith)
+
+pub nonneg-add : (a b : ℤ) → pos 0 ≤ℤ a → pos 0 ≤ℤ b → pos 0 ≤ℤ (a +ℤ b)
+nonneg-add a b h k = rw (as-mk a, as-mk b) (simp mks (mk-le _ _ _ _ (omega (arith, le-nat h, le-nat k))))
+
+-- ---- products, by the signs
+pub nonneg-mul : (a b : ℤ) → pos 0 ≤ℤ a → pos 0 ≤ℤ b → pos 0 ≤ℤ (a *ℤ b)
+nonneg-mul (pos m) (pos n) h k = nat-le (omega arith)
+nonneg-mul (pos m) (negsuc n) h k = absurd (k .le)
+nonneg-mul (negsuc m) b h k = absurd (h .le)
+
+not-nonneg : (n : ℕ) → 0 < n → pos 0 ≤ℤ negℤ (pos n) → ⊥
+not-nonneg zero h k = omega arith
+not-nonneg (suc n) h k = k .le
+
+-- a positive factor goes
+pub nonneg-cancel : (a b : ℤ) → pos 0 <ℤ a → pos 0 ≤ℤ (a *ℤ b) → pos 0 ≤ℤ b
+nonneg-cancel (pos zero) b h k = absurd (omega (arith, lt-nat h))
+nonneg-cancel (pos (suc m)) (pos n) h k = nat-le (omega arith)
+nonneg-cancel (pos (suc m)) (negsuc n) h k = absurd (not-nonneg (suc m * suc n) (mul-pos {m = suc m} {n = suc n} (omega arith) (omega arith)) k)
+nonneg-cancel (negsuc m) b h k = absurd (h .lt)
+
+pub neg-flip : (a b : ℤ) → a ≤ℤ b → negℤ b ≤ℤ negℤ a
+neg-flip a b h = rw (as-mk a, as-mk b) (simp mks (mk-le _ _ _ _ (omega (arith, le-nat h))))

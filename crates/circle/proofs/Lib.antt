@@ -1,3 +1,5 @@
 pub mod Roots
 pub mod Containment
 pub mod Spans
+pub mod Refusals
+pub mod Worked

@@ -54,10 +54,13 @@ pub fn refusal(topleft: Point, diameter: u32) -> u32
     let left = topleft.0 as i64;
     let top = topleft.1 as i64;
     let side = diameter as i64;
-    if left + side <= 131072 && top + side <= 131072 {
-        return 0;
+    if 131072 < left + side {
+        return 6;
     }
-    6
+    if 131072 < top + side {
+        return 6;
+    }
+    0
 }
 
 // Whether the pixel lies in the circle's box.
@@ -69,7 +72,16 @@ fn in_box(topleft: Point, diameter: u32, p: Point) -> bool
     let side = diameter as i64;
     let x = p.0 as i64;
     let y = p.1 as i64;
-    left <= x && x < left + side && top <= y && y < top + side
+    if x < left {
+        return false;
+    }
+    if left + side <= x {
+        return false;
+    }
+    if y < top {
+        return false;
+    }
+    y < top + side
 }
 
 // The squared distance of two places that are near enough for it to fit.

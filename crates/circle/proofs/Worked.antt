@@ -1,0 +1,25 @@
+-- What the code works out from a pixel coordinate z and a diameter d, in 64 bits: nothing wraps. Assumes nothing.
+use Prim.Native.Nat.{ℕ}
+use lib.IntN.{ℤ, pos, _+ℤ_, _-ℤ_, _*ℤ_}
+use mir.Syntax.{w32, w64}
+use mir.Val.{SFits, Fits, toZ, ofZ}
+use Rattle.whole.proofs.Machine.{Has, back, lit, wide, wide-nat, plus, minus, times}
+
+-- z, cast and kept in a local
+abbrev pub local : ℤ → ℤ
+local z = toZ w64 (ofZ w64 (toZ w32 (ofZ w32 z)))
+
+-- `2 * z`
+pub twice : {z : ℤ} → SFits w32 z → Has w64 (pos 2 *ℤ local z) (pos 2 *ℤ z) 4294967296
+twice f = times (lit 2 tt) (back (wide f)) tt
+
+-- `z + d`
+pub end : {z : ℤ} {d : ℕ} → SFits w32 z → Fits w32 d → Has w64 (local z +ℤ toZ w64 d) (z +ℤ pos d) 6442450944
+end f g = plus (back (wide f)) (wide-nat g) tt
+
+-- `2 * z + d`, and one less
+pub twice-end : {z : ℤ} {d : ℕ} → SFits w32 z → Fits w32 d → Has w64 (toZ w64 (ofZ w64 (pos 2 *ℤ local z)) +ℤ toZ w64 d) (pos 2 *ℤ z +ℤ pos d) 8589934592
+twice-end f g = plus (back (twice f)) (wide-nat g) tt
+
+pub middle : {z : ℤ} {d : ℕ} → SFits w32 z → Fits w32 d → Has w64 (toZ w64 (ofZ w64 (toZ w64 (ofZ w64 (pos 2 *ℤ local z)) +ℤ toZ w64 d)) -ℤ pos 1) (pos 2 *ℤ z +ℤ pos d -ℤ pos 1) 8589934593
+middle f g = minus (back (twice-end f g)) (lit 1 tt) tt

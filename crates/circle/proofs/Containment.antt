@@ -7,12 +7,13 @@ use native.Mathlib.Omega.{arith}
 use lib.Dec.{leb, ltb}
 use lib.IntN.{ℤ, pos, negsuc, negℤ, natAbs, _+ℤ_, _-ℤ_, _*ℤ_}
 use lib.Signed.{leZ, ltZ, _≤ℤ_, _<ℤ_}
+use borrow.Author.Tests.{ltb-true}
 use Rattle.whole.specs.Decides.{Decides}
 use Rattle.whole.proofs.Decides.{decides-map, decides-and, decides-le, decides-lt, decides-leb, decides-ltb, decides-one, decides-yes, decides-no}
 use Rattle.whole.proofs.Difference.{up, dn, as-mk, mks, mk-eq, eq-mk, le-nat, lt-nat, nat-le, nat-lt, sum-nat}
 use Rattle.whole.proofs.Machine.{neg-size}
 use Rattle.geometry.specs.declared.Point.{Point}
-use Rattle.circle.specs.Circle.{doubled, centre, squaredDistance, thresholdOf, contained, between, inBox}
+use Rattle.circle.specs.Circle.{doubled, centre, squaredDistance, thresholdOf, contained, between, boxColumn, boxRow, inBox}
 use Rattle.circle.proofs.Roots.{square-mono, square-below}
 
 -- ---- how far column x is from the doubled centre of a side that starts at l and is d long; rows alike
@@ -22,7 +23,7 @@ off x l d = pos 2 *ℤ x -ℤ (pos 2 *ℤ l +ℤ pos d -ℤ pos 1)
 abbrev pub away : ℤ → ℤ → ℕ → ℕ
 away x l d = natAbs (off x l d)
 
-square-is : (z : ℤ) → z *ℤ z ≡ pos (natAbs z * natAbs z)
+pub square-is : (z : ℤ) → z *ℤ z ≡ pos (natAbs z * natAbs z)
 square-is (pos n) = refl
 square-is (negsuc n) = refl
 
@@ -50,6 +51,13 @@ threshold-low d = by (leb d 4)
     by : (b : Bool) → d * d ≤ cond b (d * d - d / 2) (d * d) + d / 2
     by true = omega arith
     by false = omega arith
+
+-- ---- the tests decide the orders
+pub between-decides : (a b x : ℤ) → Decides (between a b x) ((a ≤ℤ x) × (x <ℤ b))
+between-decides a b x = decides-and (leZ a x) (ltZ x b) (decides-le a x) (decides-lt x b)
+
+pub in-box-decides : (c : Point) (d : ℕ) (p : Point) → Decides (inBox c d p) (((c .0 ≤ℤ p .0) × (p .0 <ℤ (c .0 +ℤ pos d))) × ((c .1 ≤ℤ p .1) × (p .1 <ℤ (c .1 +ℤ pos d))))
+in-box-decides c d p = decides-and (boxColumn c d (p .0)) (boxRow c d (p .1)) (between-decides (c .0) (c .0 +ℤ pos d) (p .0)) (between-decides (c .1) (c .1 +ℤ pos d) (p .1))
 
 -- ---- a side that starts at l and is d long, with x - l = a - b: where x lies on it, by its distance from the centre
 parts : (z x l D : ℤ) → z ≡ pos 2 *ℤ x -ℤ (pos 2 *ℤ l +ℤ D -ℤ pos 1) → up z + 2 * (up l + dn x) + up D ≡ 2 * (up x + dn l) + 1 + dn z + dn D
@@ -80,7 +88,7 @@ inner-decides l x d e =
     let g = sum-nat (l +ℤ pos e) l e refl in
     let k = sum-nat (l +ℤ pos d) l d refl in
     let m = less-nat (l +ℤ pos d) e in
-    decides-map (decides-and _ _ (decides-le (l +ℤ pos e) x) (decides-lt x (l +ℤ pos d -ℤ pos e)))
+    decides-map (between-decides (l +ℤ pos e) (l +ℤ pos d -ℤ pos e) x)
     (λ h. (omega (arith, le-nat (h .0)), omega (arith, lt-nat (h .1)))) (λ h. (nat-le (omega arith), nat-lt (omega arith)))
 
 pub inner-is : (x l : ℤ) (d s : ℕ) → s < d → leb (away x l d) s ≡ between (l +ℤ pos ((d - s) / 2)) (l +ℤ pos d -ℤ pos ((d - s) / 2)) x
@@ -92,7 +100,7 @@ inner-is x l d s h =
 
 -- below d from the centre is to lie on the side
 pub side-is : (x l : ℤ) (d : ℕ) → between l (l +ℤ pos d) x ≡ ltb (away x l d) d
-side-is x l d = decides-one _ _ (decides-map (decides-and _ _ (decides-le l x) (decides-lt x (l +ℤ pos d))) on off-it) (decides-ltb (away x l d) d)
+side-is x l d = decides-one _ _ (decides-map (between-decides l (l +ℤ pos d) x) on off-it) (decides-ltb (away x l d) d)
   where
     end : up (l +ℤ pos d) + dn l ≡ up l + d + dn (l +ℤ pos d)
     end = sum-nat (l +ℤ pos d) l d refl
@@ -108,6 +116,15 @@ side-is x l d = decides-one _ _ (decides-map (decides-and _ _ (decides-le l x) (
     off-it h =
         let g = near-inner (off x l d) (up x + dn l) (up l + dn x) d (d - 1) (off-parts x l d) (omega arith) (omega arith) in
         (nat-le (omega (arith, g .0)), nat-lt (omega (arith, g .1, end)))
+
+-- a pixel of the box is less than d from the centre, on both axes
+pub in-box-away : (c : Point) (d : ℕ) (p : Point) → inBox c d p ≡ true → (away (p .0) (c .0) d < d) × (away (p .1) (c .1) d < d)
+in-box-away c d p e =
+    let h = in-box-decides c d p .yes e in
+    (on-side (p .0) (c .0) (h .0), on-side (p .1) (c .1) (h .1))
+  where
+    on-side : (x l : ℤ) → (l ≤ℤ x) × (x <ℤ (l +ℤ pos d)) → away x l d < d
+    on-side x l h = ltb-true (away x l d) d (sym (side-is x l d) ∙ decides-yes (between-decides l (l +ℤ pos d) x) h)
 
 -- pixels outside the box are not contained
 pub outside : (c : Point) (d : ℕ) (p : Point) → inBox c d p ≡ false → contained c d p ≡ false

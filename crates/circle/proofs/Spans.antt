@@ -16,7 +16,7 @@ use Rattle.geometry.specs.declared.Point.{Point}
 use Rattle.circle.specs.Circle.{thresholdOf, contained, between, boxColumn, boxRow, inBox, first, leadOf, spanStart, spanEnd}
 use Rattle.circle.specs.Root.{Root}
 use Rattle.circle.proofs.Roots.{Rooted, rooted, square-mono, square-below}
-use Rattle.circle.proofs.Containment.{away, squares, contained-is, threshold-high, threshold-low, inner-decides, inner-is, less-nat, side-is, outside}
+use Rattle.circle.proofs.Containment.{away, squares, contained-is, threshold-high, threshold-low, between-decides, inner-decides, inner-is, less-nat, side-is, outside}
 
 -- ---- a search ends at the first number that passes
 first-is : (test : ℕ → Bool) (k n r : ℕ) → ((j : ℕ) → j < r → test j ≡ false) → test r ≡ true → k ≤ r → r < k + n → first test k n ≡ r
@@ -29,39 +29,36 @@ first-is test k (suc n) r before at h g = by (decLe (suc k) r) (λ q. first-is t
         let e : k ≡ r = omega arith in
         rw (ap test e ∙ at) e
 
--- ---- a row b from the centre, with s the root of what it leaves below the threshold
+-- ---- a row b from the centre leaves room below the threshold, and from d = 2 on for one column more
+pub room : (d b : ℕ) → b < d → b * b < thresholdOf d
+room zero b h = absurd (omega arith)
+room (suc e) b h = omega (arith, square-mono b e (omega arith), threshold-low (suc e))
+
+more-room : (d b : ℕ) → b < d → 1 < d → b * b + 1 < thresholdOf d
+more-room zero b h g = absurd (omega arith)
+more-room (suc e) b h g = omega (arith, square-mono b e (omega arith), threshold-low (suc e))
+
+-- with s the root of what it leaves
 module _ (d b s : ℕ) (inside : b < d) (root : Root (thresholdOf d - 1 - b * b) s) where
-  -- what the row leaves
-  room : (d : ℕ) → b < d → b * b < thresholdOf d
-  room zero h = absurd (omega arith)
-  room (suc e) h = omega (arith, square-mono b e (omega arith), threshold-low (suc e))
-
-  more-room : (d : ℕ) → b < d → 1 < d → b * b + 1 < thresholdOf d
-  more-room zero h g = absurd (omega arith)
-  more-room (suc e) h g = omega (arith, square-mono b e (omega arith), threshold-low (suc e))
-
-  pub row-room : b * b < thresholdOf d
-  row-room = room d inside
-
   near-root : (a : ℕ) → a * a + b * b < thresholdOf d → a ≤ s
   near-root a h = omega (arith, square-below a (s + 1) (omega (arith, root .high)))
 
   root-near : (a : ℕ) → a ≤ s → a * a + b * b < thresholdOf d
-  root-near a h = omega (arith, square-mono a s h, root .low, row-room)
+  root-near a h = omega (arith, square-mono a s h, root .low, room d b inside)
 
   -- a column is contained exactly if it is at most s from the centre
   pub by-root : (a : ℕ) → ltb (a * a + b * b) (thresholdOf d) ≡ leb a s
   by-root a = decides-one _ _ (decides-ltb (a * a + b * b) (thresholdOf d)) (decides-map (decides-leb a s) (root-near a) (near-root a))
 
   pub root-below : s < d
-  root-below = square-below s d (omega (arith, root .low, row-room, threshold-high d))
+  root-below = square-below s d (omega (arith, root .low, room d b inside, threshold-high d))
 
   -- what is left out at both ends leaves a column
   pub some-left : 2 * ((d - s) / 2) < d
   some-left = by (decLe 2 d)
     where
       by : Dec (2 ≤ d) → 2 * ((d - s) / 2) < d
-      by (yes h) = omega (arith, near-root 1 (omega (arith, more-room d inside h)))
+      by (yes h) = omega (arith, near-root 1 (omega (arith, more-room d b inside h)))
       by (no h) = omega arith
 
 -- ---- a row of the box
@@ -130,7 +127,7 @@ module _ (c : Point) (d : ℕ) (y : ℤ) (row : boxRow c d y ≡ false) where
 
 -- ---- a row's span and containment agree
 empty : (x : ℤ) → between (pos 0) (pos 0) x ≡ false
-empty x = decides-no (decides-and _ _ (decides-le (pos 0) x) (decides-lt x (pos 0))) (λ h. omega (arith, le-nat (h .0), lt-nat (h .1)))
+empty x = decides-no (between-decides (pos 0) (pos 0) x) (λ h. omega (arith, le-nat (h .0), lt-nat (h .1)))
 
 pub span-agrees : (c : Point) (d : ℕ) (x y : ℤ) → contained c d (x, y) ≡ between (spanStart c d y) (spanEnd c d y) x
 span-agrees c d x y = by (boxRow c d y) refl
@@ -145,7 +142,7 @@ span-agrees c d x y = by (boxRow c d y) refl
 pub row-some : (c : Point) (d : ℕ) (y : ℤ) → boxRow c d y ≡ true → contained c d (spanStart c d y, y) ≡ true
 row-some c d y row =
     span-agrees c d (spanStart c d y) y
-    ∙ decides-yes (decides-and _ _ (decides-le (spanStart c d y) (spanStart c d y)) (decides-lt (spanStart c d y) (spanEnd c d y))) (nat-le (omega arith), span-box c d y row .1)
+    ∙ decides-yes (between-decides (spanStart c d y) (spanEnd c d y) (spanStart c d y)) (nat-le (omega arith), span-box c d y row .1)
 
 -- a row is in the box exactly if its pixel in the box's first column is
 pub first-column : (c : Point) (d : ℕ) (y : ℤ) → inBox c d (c .0, y) ≡ boxRow c d y
@@ -154,6 +151,6 @@ first-column c d y = by (boxRow c d y) refl
     by : (b : Bool) → boxRow c d y ≡ b → inBox c d (c .0, y) ≡ boxRow c d y
     by true row =
         ap (λ (b : Bool). b && boxRow c d y)
-        (decides-yes (decides-and _ _ (decides-le (c .0) (c .0)) (decides-lt (c .0) (c .0 +ℤ pos d)))
+        (decides-yes (between-decides (c .0) (c .0 +ℤ pos d) (c .0))
         (nat-le (omega arith), nat-lt (omega (arith, row-away c d y row, sum-nat (c .0 +ℤ pos d) (c .0) d refl))))
     by false row = ap (λ (b : Bool). boxColumn c d (c .0) && b) row ∙ and-false (boxColumn c d (c .0)) ∙ sym row

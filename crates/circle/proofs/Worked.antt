@@ -1,9 +1,13 @@
 -- What the code works out from a pixel coordinate z and a diameter d, in 64 bits: nothing wraps. Assumes nothing.
-use Prim.Native.Nat.{ℕ}
-use lib.IntN.{ℤ, pos, _+ℤ_, _-ℤ_, _*ℤ_}
+use mathlib.Core.Path.{_≡_, ap₂, subst}
+use Prim.Native.Nat.{ℕ, _*_, _^_, _<_, _≤_}
+use lib.Dec.{lit<}
+use lib.IntN.{ℤ, pos, natAbs, _+ℤ_, _-ℤ_, _*ℤ_}
+use lib.Signed.{mag}
 use mir.Syntax.{w32, w64}
 use mir.Val.{SFits, Fits, toZ, ofZ}
-use Rattle.whole.proofs.Machine.{Has, back, lit, wide, wide-nat, plus, minus, times}
+use Rattle.whole.proofs.Machine.{Has, back, field-back, lit, wide, wide-nat, plus, minus, times}
+use Rattle.circle.proofs.Containment.{square-is}
 
 -- z, cast and kept in a local
 abbrev pub local : ℤ → ℤ
@@ -23,3 +27,10 @@ twice-end f g = plus (back (twice f)) (wide-nat g) tt
 
 pub middle : {z : ℤ} {d : ℕ} → SFits w32 z → Fits w32 d → Has w64 (toZ w64 (ofZ w64 (toZ w64 (ofZ w64 (pos 2 *ℤ local z)) +ℤ toZ w64 d)) -ℤ pos 1) (pos 2 *ℤ z +ℤ pos d -ℤ pos 1) 8589934593
 middle f g = minus (back (twice-end f g)) (lit 1 tt) tt
+
+-- the difference of two doubled coordinates that are read, where it is small; and its square
+pub difference : (a b : ℤ) → mag a < 2 ^ 63 → mag b < 2 ^ 63 → natAbs (a -ℤ b) ≤ 262144 → Has w64 (toZ w64 (ofZ w64 a) -ℤ toZ w64 (ofZ w64 b)) (a -ℤ b) 262144
+difference a b f g h = record { is = ap₂ _-ℤ_ (field-back w64 a f) (field-back w64 b g); size = h; room = lit< tt }
+
+pub square : {e z : ℤ} → Has w64 e z 262144 → Has w64 (toZ w64 (ofZ w64 e) *ℤ toZ w64 (ofZ w64 e)) (pos (natAbs z * natAbs z)) 68719476736
+square {e} {z} h = subst (λ (v : ℤ). Has w64 (toZ w64 (ofZ w64 e) *ℤ toZ w64 (ofZ w64 e)) v 68719476736) (square-is z) (times (back h) (back h) tt)

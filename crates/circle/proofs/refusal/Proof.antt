@@ -1,0 +1,78 @@
+-- `circle::refusal` makes the tests in the order of the table, the last two in 64 bits, where left + d and top + d fit for every d.
+-- Assumes nothing.
+use mathlib.Core.Path.{_≡_, sym, _∙_}
+use lib.Dec.{lit<}
+use lib.IntN.{ℤ, pos, _+ℤ_}
+use lib.Signed.{_≤ℤ_, _<ℤ_, clashℤ}
+use mir.Syntax.{w32, w64}
+use mir.Val.{SFits}
+use borrow.Author.Needs.{needs, sfits-of}
+use borrow.Author.Tests.{not-true, not-false}
+use Rattle.whole.specs.Decides.{Decides}
+use Rattle.whole.proofs.Decides.{decides-at}
+use Rattle.whole.proofs.Machine.{Has, fits, back, lit, wide, tests-lt, lt-yes, lt-no}
+use Rattle.geometry.specs.Bound.{Bounded, inBounds}
+use Rattle.geometry.proofs.Bound.{bounded-decides}
+use Rattle.circle.proofs.Refusals.{refused-5, refused-6, accepted}
+use Rattle.circle.proofs.Worked.{end}
+use Rattle.circle.proofs.refusal.Statement.{statement}
+use Rattle.circle.proofs.refusal.Tie as tie
+
+in-bounds-requires : tie.Need-in-bounds-requires
+in-bounds-requires c κs = search needs
+
+-- what the call says
+bounded : (c : tie.After-in-bounds) → Decides (c .in-bounds .result) (Bounded (c .before .args .topleft))
+bounded c = decides-at (sym (c .in-bounds .ensures)) (bounded-decides (c .before .args .topleft))
+
+returns : tie.Need-returns
+returns c = sym (refused-5 (c .before .before .args .topleft) (c .before .before .args .diameter) .1 (bounded (c .before) .no (not-true _ (c .if1 .taken))))
+
+left : (c : tie.After-struct-told) → SFits w32 (c .before .before .before .before .args .topleft .0)
+left c = sfits-of (c .struct-told .given .0 .1)
+
+top : (c : tie.After-struct-told2) → SFits w32 (c .before .before .before .before .before .before .args .topleft .1)
+top c = sfits-of (c .struct-told2 .given .1 .0 .1)
+
+cast-left : tie.Need-cast-left
+cast-left c = fits (wide (left c))
+
+cast-top : tie.Need-cast-top
+cast-top c = fits (wide (top c))
+
+cast-side : tie.Need-cast-side
+cast-side c = search needs
+
+limit : Has w64 (pos 131072) (pos 131072) 131072
+limit = lit 131072 tt
+
+add-if2 : tie.Need-add-if2
+add-if2 c = fits (end (left (c .before .before)) (c .before .before .before .before .before .before .fits .diameter))
+
+inside : (c : tie.Else1) → Bounded (c .before .before .args .topleft)
+inside c = bounded (c .before) .yes (not-false _ (c .if1 .left))
+
+returns-2 : tie.Need-returns-2
+returns-2 c =
+    let s = c .before .before .before .before .before .before .before in
+    let e = sym (tests-lt limit (back (end (left (c .before .before .before)) (s .fits .diameter)))) ∙ c .if2 .taken in
+    sym (refused-6 (s .args .topleft) (s .args .diameter) .1 (inside (c .before .before .before .before .before), λ h. clashℤ (lt-yes e) (h .0)))
+
+add-if3 : tie.Need-add-if3
+add-if3 c = fits (end (top (c .before)) (c .before .before .before .before .before .before .before .fits .diameter))
+
+returns-3 : tie.Need-returns-3
+returns-3 c =
+    let s = c .before .before .before .before .before .before .before .before in
+    let e = sym (tests-lt limit (back (end (top (c .before .before)) (s .fits .diameter)))) ∙ c .if3 .taken in
+    sym (refused-6 (s .args .topleft) (s .args .diameter) .1 (inside (c .before .before .before .before .before .before), λ h. clashℤ (lt-yes e) (h .1)))
+
+returns-4 : tie.Need-returns-4
+returns-4 c =
+    let s = c .before .before .before .before .before .before .before .before in
+    let e = sym (tests-lt limit (back (end (left (c .before .before .before .before)) (s .fits .diameter)))) ∙ c .before .if2 .left in
+    let f = sym (tests-lt limit (back (end (top (c .before .before)) (s .fits .diameter)))) ∙ c .if3 .left in
+    sym (accepted (s .args .topleft) (s .args .diameter) .1 (inside (c .before .before .before .before .before .before), (lt-no e, lt-no f)))
+
+pub refusal-spec : {M : Type 1} → statement M
+refusal-spec = tie.close (tie.spec in-bounds-requires returns cast-left cast-top cast-side add-if2 returns-2 add-if3 returns-3 returns-4)

@@ -1,8 +1,8 @@
 -- Laws of containment: it is a sum of two squares below the threshold, one of the column and one of the row; it lies in the box; its mirror
 -- images and its move. For every top-left, diameter and pixel. Assumes nothing.
-use mathlib.Core.Path.{_≡_, refl, sym, ap, ap₂, subst, _∙_}
+use mathlib.Core.Path.{_≡_, refl, sym, ap, ap₂, _∙_}
 use mathlib.Core.Bool.{Bool, true, false, cond, _&&_, true≢false}
-use Prim.Native.Nat.{ℕ, zero, suc, _+_, _*_, _-_, _/_, _<_, _≤_}
+use Prim.Native.Nat.{ℕ, _+_, _*_, _-_, _/_, _<_, _≤_}
 use native.Mathlib.Omega.{arith}
 use lib.Dec.{leb, ltb}
 use lib.IntN.{ℤ, pos, negsuc, negℤ, natAbs, _+ℤ_, _-ℤ_, _*ℤ_}
@@ -14,7 +14,7 @@ use Rattle.whole.proofs.Difference.{up, dn, as-mk, mks, mk-eq, eq-mk, le-nat, l
 use Rattle.whole.proofs.Machine.{neg-size}
 use Rattle.geometry.specs.declared.Point.{Point}
 use Rattle.circle.specs.Circle.{doubled, centre, squaredDistance, thresholdOf, contained, between, boxColumn, boxRow, inBox}
-use Rattle.circle.proofs.Roots.{square-mono, square-below}
+use Rattle.circle.proofs.Roots.{square-below}
 
 -- ---- how far column x is from the doubled centre of a side that starts at l and is d long; rows alike
 abbrev pub off : ℤ → ℤ → ℕ → ℤ

@@ -3,3 +3,4 @@ pub mod Containment
 pub mod Spans
 pub mod Refusals
 pub mod Worked
+pub mod Determined

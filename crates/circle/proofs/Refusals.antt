@@ -4,13 +4,13 @@ use mathlib.Core.Bool.{Bool, true, false, cond}
 use mathlib.Core.Logic.{_↔_}
 use Prim.Native.Nat.{ℕ, _≤_}
 use native.Mathlib.Omega.{arith}
-use lib.IntN.{ℤ, pos, negsuc, _+ℤ_}
-use lib.Signed.{leZ, _≤ℤ_}
+use lib.IntN.{pos, negsuc, _+ℤ_}
+use lib.Signed.{_≤ℤ_}
 use Rattle.whole.specs.Decides.{Decides}
 use Rattle.whole.proofs.Decides.{decides-and, decides-le}
 use Rattle.whole.proofs.Difference.{le-nat, sum-nat}
 use Rattle.geometry.specs.declared.Point.{Point}
-use Rattle.geometry.specs.Bound.{Coord, Bounded, inBounds}
+use Rattle.geometry.specs.Bound.{Bounded, inBounds}
 use Rattle.geometry.proofs.Bound.{bounded-decides}
 use Rattle.circle.specs.Refusal.{boxFits, refusalOf}
 

@@ -1,6 +1,6 @@
 -- Laws of the integer square root: every number has one, and Newton's step, from any number, goes to one that is at least the root.
 -- Assumes nothing.
-use mathlib.Core.Path.{_≡_, sym, ap, subst, _∙_}
+use mathlib.Core.Path.{_≡_, ap, subst, _∙_}
 use Prim.Native.Nat.{ℕ, zero, suc, _+_, _*_, _-_, _/_, _%_, _^_, _≤_, _<_}
 use native.Mathlib.Nat.{mul-le-mul, div-lt-iff-lt-mul, lt-suc-self, lt-of-lt-of-le, lt-of-le-of-lt, mod-eq-of-lt}
 use native.Mathlib.Decide.{decLe}

@@ -1,22 +1,21 @@
 -- Laws of a row's span: it holds exactly the contained columns, it is not empty on a row of the box, and its first column comes from a root.
 -- For every top-left, diameter and row. Assumes nothing.
-use mathlib.Core.Path.{_≡_, refl, sym, ap, ap₂, subst, _∙_}
+use mathlib.Core.Path.{_≡_, refl, sym, ap, ap₂, _∙_}
 use mathlib.Core.Bool.{Bool, true, false, cond, _&&_, and-false}
 use Prim.Native.Nat.{ℕ, zero, suc, _+_, _*_, _-_, _/_, _<_, _≤_}
 use native.Mathlib.Decide.{decLe}
 use native.Mathlib.Omega.{arith}
 use lib.Dec.{leb, ltb}
 use lib.IntN.{ℤ, pos, _+ℤ_, _-ℤ_}
-use lib.Signed.{leZ, ltZ, _≤ℤ_, _<ℤ_}
+use lib.Signed.{_≤ℤ_, _<ℤ_}
 use borrow.Author.Tests.{ltb-true}
-use Rattle.whole.specs.Decides.{Decides}
-use Rattle.whole.proofs.Decides.{decides-at, decides-map, decides-and, decides-le, decides-lt, decides-leb, decides-ltb, decides-one, decides-yes, decides-no}
-use Rattle.whole.proofs.Difference.{up, dn, le-nat, lt-nat, nat-le, nat-lt, sum-nat}
+use Rattle.whole.proofs.Decides.{decides-map, decides-leb, decides-ltb, decides-one, decides-yes, decides-no}
+use Rattle.whole.proofs.Difference.{le-nat, lt-nat, nat-le, nat-lt, sum-nat}
 use Rattle.geometry.specs.declared.Point.{Point}
 use Rattle.circle.specs.Circle.{thresholdOf, contained, between, boxColumn, boxRow, inBox, first, leadOf, spanStart, spanEnd}
 use Rattle.circle.specs.Root.{Root}
 use Rattle.circle.proofs.Roots.{Rooted, rooted, square-mono, square-below}
-use Rattle.circle.proofs.Containment.{away, squares, contained-is, threshold-high, threshold-low, between-decides, inner-decides, inner-is, less-nat, side-is, outside}
+use Rattle.circle.proofs.Containment.{away, contained-is, threshold-high, threshold-low, between-decides, inner-decides, inner-is, less-nat, side-is, outside}
 
 -- ---- a search ends at the first number that passes
 first-is : (test : ℕ → Bool) (k n r : ℕ) → ((j : ℕ) → j < r → test j ≡ false) → test r ≡ true → k ≤ r → r < k + n → first test k n ≡ r

@@ -1,5 +1,5 @@
 -- What the code works out from a pixel coordinate z and a diameter d, in 64 bits: nothing wraps. Assumes nothing.
-use mathlib.Core.Path.{_≡_, ap₂, subst}
+use mathlib.Core.Path.{ap₂, subst}
 use Prim.Native.Nat.{ℕ, _*_, _^_, _<_, _≤_}
 use native.Mathlib.Nat.{lt-of-le-of-lt}
 use lib.Dec.{lit<}

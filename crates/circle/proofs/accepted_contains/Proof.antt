@@ -1,13 +1,12 @@
 -- `circle::accepted_contains` says no outside the box, where nothing is contained, and makes 01's comparison inside, where the differences
 -- are below d. Assumes nothing.
-use mathlib.Core.Path.{_≡_, ap₂, sym, subst, _∙_}
-use Prim.Native.Nat.{ℕ, _≤_}
+use mathlib.Core.Path.{ap₂, sym, _∙_}
+use Prim.Native.Nat.{ℕ}
 use native.Mathlib.Omega.{arith}
-use lib.IntN.{ℤ, pos, natAbs, _-ℤ_}
+use lib.IntN.{ℤ, pos}
 use lib.Signed.{ltZ}
 use borrow.Author.Needs.{needs}
 use borrow.Author.Tests.{not-true, not-false}
-use Rattle.geometry.specs.declared.Doubled.{Doubled}
 use Rattle.circle.specs.Circle.{squaredDistance}
 use Rattle.circle.proofs.Containment.{in-box-away, outside}
 use Rattle.circle.proofs.Refusals.{widest}

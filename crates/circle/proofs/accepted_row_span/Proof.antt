@@ -1,8 +1,8 @@
 -- `circle::accepted_row_span` is the span: on a row of the box the columns after the skipped ones, shortened equally, in 32 bits as the box is small;
 -- on another row 0 to 0. Assumes nothing.
 use mathlib.Core.Path.{_≡_, sym, ap, ap₂, subst, _∙_}
-use mathlib.Core.Bool.{Bool, true}
-use Prim.Native.Nat.{ℕ, _*_, _≤_, _<_}
+use mathlib.Core.Bool.{true}
+use Prim.Native.Nat.{ℕ, _≤_}
 use native.Mathlib.Omega.{arith}
 use lib.IntN.{ℤ, pos, _+ℤ_, _-ℤ_}
 use mir.Syntax.{w32}
@@ -42,11 +42,10 @@ row c = asked (c .before) ∙ not-false _ (c .if1 .left)
 
 lead-requires : tie.Need-lead-requires
 lead-requires c κs =
-    let s = c .before .before .before in
-    (
+    let s = c .before .before .before in (
       s .pre,
       subst (λ (y : ℤ). inBox (s .args .topleft) (s .args .diameter) (s .args .topleft .0, y) ≡ true) (sym (toZ-ofZ (s .fits .y)))
-      (first-column (s .args .topleft) (s .args .diameter) (s .args .y) ∙ row c),
+          (first-column (s .args .topleft) (s .args .diameter) (s .args .y) ∙ row c),
     )
 
 module _ (c : tie.After-lead) where

@@ -1,5 +1,5 @@
 -- `circle::in_box` makes the four comparisons of the box in 64 bits, where left + d and top + d fit for every d. Assumes nothing.
-use mathlib.Core.Path.{_≡_, sym, _∙_}
+use mathlib.Core.Path.{sym, _∙_}
 use lib.IntN.{pos, _+ℤ_}
 use lib.Signed.{_≤ℤ_, _<ℤ_, clashℤ}
 use mir.Syntax.{w32}

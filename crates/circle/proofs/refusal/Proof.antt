@@ -1,9 +1,8 @@
 -- `circle::refusal` makes the tests in the order of the table, the last two in 64 bits, where left + d and top + d fit for every d.
 -- Assumes nothing.
-use mathlib.Core.Path.{_≡_, sym, _∙_}
-use lib.Dec.{lit<}
-use lib.IntN.{ℤ, pos, _+ℤ_}
-use lib.Signed.{_≤ℤ_, _<ℤ_, clashℤ}
+use mathlib.Core.Path.{sym, _∙_}
+use lib.IntN.{pos}
+use lib.Signed.{clashℤ}
 use mir.Syntax.{w32, w64}
 use mir.Val.{SFits}
 use borrow.Author.Needs.{needs, sfits-of}
@@ -11,7 +10,7 @@ use borrow.Author.Tests.{not-true, not-false}
 use Rattle.whole.specs.Decides.{Decides}
 use Rattle.whole.proofs.Decides.{decides-at}
 use Rattle.whole.proofs.Machine.{Has, fits, back, lit, wide, tests-lt, lt-yes, lt-no}
-use Rattle.geometry.specs.Bound.{Bounded, inBounds}
+use Rattle.geometry.specs.Bound.{Bounded}
 use Rattle.geometry.proofs.Bound.{bounded-decides}
 use Rattle.circle.proofs.Refusals.{refused-5, refused-6, accepted}
 use Rattle.circle.proofs.Worked.{end}

@@ -1,8 +1,6 @@
 -- `circle::threshold` is the threshold, by the same test; the square of 32 bits fits 64. Assumes nothing.
-use mathlib.Core.Path.{_≡_}
 use Prim.Native.Nat.{ℕ, zero, suc, _*_, _/_, _≤_, _<_}
 use native.Mathlib.Omega.{arith}
-use borrow.Author.Needs.{needs}
 use borrow.Author.Tests.{le-leb, lt-leb}
 use Rattle.circle.proofs.Roots.{square-mono}
 use Rattle.circle.proofs.threshold.Statement.{statement}

@@ -1,6 +1,5 @@
 -- `circle::root::guess` is Newton's step from a power of two, where shifting divides; a step from any number is at least the root.
 -- Assumes nothing.
-use Prim.Native.Nat.{_+_, _<_, _≤_}
 use native.Mathlib.Omega.{arith}
 use lib.Count.{leading-le}
 use lib.Pow.{pow-pos}

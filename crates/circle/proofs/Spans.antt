@@ -10,7 +10,7 @@ use lib.IntN.{ℤ, pos, _+ℤ_, _-ℤ_}
 use lib.Signed.{_≤ℤ_, _<ℤ_}
 use borrow.Author.Tests.{ltb-true}
 use Rattle.whole.proofs.Decides.{decides-map, decides-leb, decides-ltb, decides-one, decides-yes, decides-no}
-use Rattle.whole.proofs.Difference.{le-nat, lt-nat, nat-le, nat-lt, sum-nat}
+use Rattle.whole.proofs.Difference.{le-nat, lt-nat, nat-le, nat-lt, nat-eq, sum-nat}
 use Rattle.geometry.specs.declared.Point.{Point}
 use Rattle.circle.specs.Circle.{thresholdOf, contained, between, boxColumn, boxRow, inBox, first, leadOf, spanStart, spanEnd}
 use Rattle.circle.specs.Root.{Root}
@@ -106,6 +106,15 @@ module _ (c : Point) (d : ℕ) (y : ℤ) (row : boxRow c d y ≡ true) where
 
   pub end-is : spanEnd c d y ≡ c .0 +ℤ pos d -ℤ pos (leadOf c d y)
   end-is = ap (λ (b : Bool). cond b (c .0 +ℤ pos d -ℤ pos (leadOf c d y)) (pos 0)) row
+
+  -- shortening the side before it is laid down comes to the same
+  pub kept-is : spanEnd c d y ≡ c .0 +ℤ pos (d - leadOf c d y)
+  kept-is =
+      let n = leadOf c d y in
+      let a = sum-nat (c .0 +ℤ pos d) (c .0) d refl in
+      let b = sum-nat (c .0 +ℤ pos (d - n)) (c .0) (d - n) refl in
+      let e = less-nat (c .0 +ℤ pos d) n in
+      end-is ∙ nat-eq (omega (arith, lead-some))
 
   -- the span is not empty, and lies in the box
   pub span-box : (c .0 ≤ℤ spanStart c d y) × (spanStart c d y <ℤ spanEnd c d y) × (spanEnd c d y ≤ℤ (c .0 +ℤ pos d))

@@ -1,5 +1,5 @@
 -- What the code works out from a pixel coordinate z and a diameter d, in 64 bits: nothing wraps. Assumes nothing.
-use mathlib.Core.Path.{ap₂, subst}
+use mathlib.Core.Path.{_≡_, ap₂, subst}
 use Prim.Native.Nat.{ℕ, _*_, _^_, _<_, _≤_}
 use native.Mathlib.Nat.{lt-of-le-of-lt}
 use lib.Dec.{lit<}
@@ -8,7 +8,9 @@ use lib.Signed.{mag}
 use mir.Syntax.{w32, w64}
 use mir.Val.{SFits, Fits, toZ, ofZ}
 use mir.Facts.{toZ-pos}
-use Rattle.whole.proofs.Machine.{Has, back, field-back, lit, wide, wide-nat, plus, minus, times}
+use Rattle.whole.proofs.Machine.{Has, fits, back, field-back, lit, wide, wide-nat, plus, minus, times}
+use Rattle.geometry.specs.Bound.{Coord}
+use Rattle.geometry.proofs.Bound.{coord}
 use Rattle.circle.proofs.Containment.{square-is}
 
 -- z, cast and kept in a local
@@ -37,6 +39,12 @@ difference a b f g h = record { is = ap₂ _-ℤ_ (field-back w64 a f) (field-ba
 pub square : {e z : ℤ} → Has w64 e z 262144 → Has w64 (toZ w64 (ofZ w64 e) *ℤ toZ w64 (ofZ w64 e)) (pos (natAbs z * natAbs z)) 68719476736
 square {e} {z} h = subst (λ (v : ℤ). Has w64 (toZ w64 (ofZ w64 e) *ℤ toZ w64 (ofZ w64 e)) v 68719476736) (square-is z) (times (back h) (back h) tt)
 
--- a number of an accepted box, cast to `i32`
-pub small : {n : ℕ} → n ≤ 262144 → Has w32 (toZ w32 n) (pos n) 262144
-small h = record { is = toZ-pos w32 (lt-of-le-of-lt h (lit< tt)); size = h; room = lit< tt }
+-- a number of columns after the left side of an accepted box, in 32 bits
+after : {z : ℤ} (n : ℕ) → Coord z → n ≤ 262144 → Has w32 (toZ w32 (ofZ w32 z) +ℤ toZ w32 n) (z +ℤ pos n) 393216
+after n f h = plus (back (coord f)) (record { is = toZ-pos w32 (lt-of-le-of-lt h (lit< tt)); size = h; room = lit< tt }) tt
+
+pub after-fits : (z : ℤ) (n : ℕ) → Coord z → n ≤ 262144 → SFits w32 (toZ w32 (ofZ w32 z) +ℤ toZ w32 n)
+after-fits z n f h = fits (after n f h)
+
+pub after-is : {z : ℤ} → Coord z → (n : ℕ) → n ≤ 262144 → toZ w32 (ofZ w32 (toZ w32 (ofZ w32 z) +ℤ toZ w32 n)) ≡ z +ℤ pos n
+after-is f n h = back (after n f h) .is

@@ -152,11 +152,12 @@ pub fn accepted_row_span(topleft: Point, diameter: u32, y: i32) -> Span
             end: 0,
         };
     }
-    let skipped = lead(topleft, diameter, y) as i32;
+    let skipped = lead(topleft, diameter, y);
+    let kept = diameter - skipped;
     Span {
         number: 0,
-        start: left + skipped,
-        end: left + (diameter as i32) - skipped,
+        start: left + (skipped as i32),
+        end: left + (kept as i32),
     }
 }
 

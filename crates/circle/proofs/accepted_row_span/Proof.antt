@@ -2,21 +2,20 @@
 -- on another row 0 to 0. Assumes nothing.
 use mathlib.Core.Path.{_≡_, sym, ap, ap₂, subst, _∙_}
 use mathlib.Core.Bool.{true}
-use Prim.Native.Nat.{ℕ, _≤_}
+use Prim.Native.Nat.{ℕ, _*_, _-_, _<_, _≤_}
 use native.Mathlib.Omega.{arith}
-use lib.IntN.{ℤ, pos, _+ℤ_, _-ℤ_}
+use lib.IntN.{ℤ, pos, _+ℤ_}
 use mir.Syntax.{w32}
-use mir.Val.{toZ, ofZ}
 use mir.Facts.{toZ-ofZ}
 use borrow.Author.Needs.{needs}
 use borrow.Author.Tests.{not-true, not-false}
-use Rattle.whole.proofs.Machine.{Has, fits, back, field-back, plus, minus}
+use Rattle.whole.proofs.Machine.{field-back}
 use Rattle.geometry.specs.Answer.{span}
-use Rattle.geometry.proofs.Bound.{coord}
+use Rattle.geometry.specs.Bound.{Coord}
 use Rattle.circle.specs.Circle.{boxRow, inBox, leadOf}
 use Rattle.circle.proofs.Refusals.{accepted, widest}
-use Rattle.circle.proofs.Spans.{first-column, lead-some, start-is, end-is, no-start, no-end}
-use Rattle.circle.proofs.Worked.{small}
+use Rattle.circle.proofs.Spans.{first-column, lead-some, start-is, kept-is, no-start, no-end}
+use Rattle.circle.proofs.Worked.{after-fits, after-is}
 use Rattle.circle.proofs.accepted_row_span.Statement.{statement}
 use Rattle.circle.proofs.accepted_row_span.Tie as tie
 
@@ -55,45 +54,41 @@ module _ (c : tie.After-lead) where
   skipped : c .lead .result ≡ leadOf (s .args .topleft) (s .args .diameter) (s .args .y)
   skipped = c .lead .ensures ∙ ap (leadOf (s .args .topleft) (s .args .diameter)) (toZ-ofZ (s .fits .y))
 
-  wide : s .args .diameter ≤ 262144
-  wide = widest (s .args .topleft) (s .args .diameter) (s .pre)
+  some : 2 * c .lead .result < s .args .diameter
+  some = omega (arith, skipped, lead-some (s .args .topleft) (s .args .diameter) (s .args .y) (row (c .before)))
+
+  -- the numbers that are added are small
+  left : Coord (s .args .topleft .0)
+  left = accepted (s .args .topleft) (s .args .diameter) .0 (s .pre) .0 .x
+
+  rest : (n : ℕ) → s .args .diameter - n ≤ 262144
+  rest n = omega (arith, widest (s .args .topleft) (s .args .diameter) (s .pre))
 
   few : c .lead .result ≤ 262144
-  few = omega (arith, skipped, wide, lead-some (s .args .topleft) (s .args .diameter) (s .args .y) (row (c .before)))
+  few = omega (arith, some, rest 0)
 
-  left : Has w32 (s .args .topleft .0) (s .args .topleft .0) 131072
-  left = coord (accepted (s .args .topleft) (s .args .diameter) .0 (s .pre) .0 .x)
+sub-kept : tie.Need-sub-kept
+sub-kept c = omega (arith, some c)
 
-  start : Has w32 (toZ w32 (ofZ w32 (s .args .topleft .0)) +ℤ toZ w32 (c .lead .result)) (s .args .topleft .0 +ℤ pos (c .lead .result)) 393216
-  start = plus (back left) (small few) tt
+cast-t10 : tie.Need-cast-t10
+cast-t10 c = record { sfits = omega (arith, few c) }
 
-  right : Has w32 (toZ w32 (ofZ w32 (s .args .topleft .0)) +ℤ toZ w32 (s .args .diameter)) (s .args .topleft .0 +ℤ pos (s .args .diameter)) 393216
-  right = plus (back left) (small wide) tt
+add-t11 : tie.Need-add-t11
+add-t11 c = search (after-fits, left c, few c)
 
-  end : Has w32 (toZ w32 (ofZ w32 (toZ w32 (ofZ w32 (s .args .topleft .0)) +ℤ toZ w32 (s .args .diameter))) -ℤ toZ w32 (c .lead .result)) (s .args .topleft .0 +ℤ pos (s .args .diameter) -ℤ pos (c .lead .result)) 655360
-  end = minus (back right) (small few) tt
+cast-t12 : tie.Need-cast-t12
+cast-t12 c = record { sfits = omega (arith, rest c 0) }
 
-cast-skipped : tie.Need-cast-skipped
-cast-skipped c = record { sfits = omega (arith, few c) }
-
-add-t10 : tie.Need-add-t10
-add-t10 c = fits (start c)
-
-cast-t11 : tie.Need-cast-t11
-cast-t11 c = record { sfits = omega (arith, wide c) }
-
-add-t12 : tie.Need-add-t12
-add-t12 c = fits (right c)
-
-sub-t13 : tie.Need-sub-t13
-sub-t13 c = fits (end c)
+add-t13 : tie.Need-add-t13
+add-t13 c = search (after-fits, left c, rest c)
 
 returns-2 : tie.Need-returns-2
 returns-2 c =
     let a = s c .args in
+    let r = row (c .before) in
     ap₂ (span 0)
-    (back (start c) .is ∙ ap (λ (n : ℕ). a .topleft .0 +ℤ pos n) (skipped c) ∙ sym (start-is (a .topleft) (a .diameter) (a .y) (row (c .before))))
-    (back (end c) .is ∙ ap (λ (n : ℕ). a .topleft .0 +ℤ pos (a .diameter) -ℤ pos n) (skipped c) ∙ sym (end-is (a .topleft) (a .diameter) (a .y) (row (c .before))))
+    (after-is (left c) (c .lead .result) (few c) ∙ ap (λ (n : ℕ). a .topleft .0 +ℤ pos n) (skipped c) ∙ sym (start-is (a .topleft) (a .diameter) (a .y) r))
+    (after-is (left c) (a .diameter - c .lead .result) (rest c _) ∙ ap (λ (n : ℕ). a .topleft .0 +ℤ pos (a .diameter - n)) (skipped c) ∙ sym (kept-is (a .topleft) (a .diameter) (a .y) r))
 
 pub accepted-row-span-spec : {M : Type 1} → statement M
-accepted-row-span-spec = tie.close (tie.spec in-box-requires returns lead-requires cast-skipped add-t10 cast-t11 add-t12 sub-t13 returns-2)
+accepted-row-span-spec = tie.close (tie.spec in-box-requires returns lead-requires sub-kept cast-t10 add-t11 cast-t12 add-t13 returns-2)

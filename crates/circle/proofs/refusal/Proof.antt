@@ -10,6 +10,7 @@ use borrow.Author.Tests.{not-true, not-false}
 use Rattle.whole.specs.Decides.{Decides}
 use Rattle.whole.proofs.Decides.{decides-at}
 use Rattle.whole.proofs.Machine.{Has, fits, back, lit, wide, tests-lt, lt-yes, lt-no}
+use Rattle.whole.proofs.Sizes.{sizes, sz-i32, sz-u32}
 use Rattle.geometry.specs.Bound.{Bounded}
 use Rattle.geometry.proofs.Bound.{bounded-decides}
 use Rattle.circle.proofs.Refusals.{refused-5, refused-6, accepted}
@@ -46,7 +47,7 @@ limit : Has w64 (pos 131072) (pos 131072) 131072
 limit = lit 131072 tt
 
 add-if2 : tie.Need-add-if2
-add-if2 c = fits (end (left (c .before .before)) (c .before .before .before .before .before .before .fits .diameter))
+add-if2 c = search (sizes, sz-i32, sz-u32, sfits-of) depth 20
 
 inside : (c : tie.Else1) → Bounded (c .before .before .args .topleft)
 inside c = bounded (c .before) .yes (not-false _ (c .if1 .left))
@@ -58,7 +59,7 @@ returns-2 c =
     sym (refused-6 (s .args .topleft) (s .args .diameter) .1 (inside (c .before .before .before .before .before), λ h. clashℤ (lt-yes e) (h .0)))
 
 add-if3 : tie.Need-add-if3
-add-if3 c = fits (end (top (c .before)) (c .before .before .before .before .before .before .before .fits .diameter))
+add-if3 c = search (sizes, sz-i32, sz-u32, sfits-of) depth 20
 
 returns-3 : tie.Need-returns-3
 returns-3 c =

@@ -20,13 +20,13 @@ sub-result : tie.Need-sub-result
 sub-result c = half-below (c .before .args .diameter)
 
 returns : tie.Need-returns
-returns c = simp (le-leb _ _ (c .if1 .taken))
+returns c = rw (le-leb (c .before .args .diameter) 4 (omega arith)) (omega arith)
 
 mul-result-2 : tie.Need-mul-result-2
 mul-result-2 c = omega (arith, square-fits (c .before .args .diameter) (c .before .fits .diameter .fits))
 
 returns-2 : tie.Need-returns-2
-returns-2 c = simp (lt-leb _ _ (c .if1 .left))
+returns-2 c = rw (lt-leb (c .before .args .diameter) 4 (omega arith)) (omega arith)
 
 pub threshold-spec : {M : Type 1} → statement M
 threshold-spec = tie.close (tie.spec mul-result sub-result returns mul-result-2 returns-2)

@@ -1,0 +1,55 @@
+-- Laws of a line's lengths: which is the major one, and how large they are. Assumes nothing.
+use mathlib.Core.Path.{_≡_, sym, ap, ap₂, subst}
+use mathlib.Core.Bool.{Bool, true, false, cond}
+use Prim.Native.Nat.{ℕ, _+_, _≤_, _<_, max, min}
+use native.Mathlib.Omega.{arith}
+use borrow.Author.Tests.{leb-true, leb-false}
+use lib.IntN.{ℤ, pos, negsuc, negℤ, natAbs, _-ℤ_}
+use lib.Signed.{leZ}
+use Rattle.whole.proofs.Machine.{add-size, neg-size}
+use Rattle.geometry.specs.declared.Point.{Point}
+use Rattle.geometry.specs.Bound.{Coord, Bounded}
+use Rattle.geometry.proofs.Bound.{coord-size}
+use Rattle.line.specs.Line.{toward, wide, high, steep, major, minor}
+
+module _ (s e : Point) where
+  pub narrow : minor s e ≤ major s e
+  unfolding major minor
+  narrow = omega arith
+
+  -- ---- by the axis
+  pub major-by : (b : Bool) → steep s e ≡ b → major s e ≡ cond b (high s e) (wide s e)
+  unfolding major
+  major-by true t = omega (arith, leb-true (wide s e) (high s e) t)
+  major-by false t = omega (arith, leb-false (wide s e) (high s e) t)
+
+  pub minor-by : (b : Bool) → steep s e ≡ b → minor s e ≡ cond b (wide s e) (high s e)
+  unfolding minor
+  minor-by true t = omega (arith, leb-true (wide s e) (high s e) t)
+  minor-by false t = omega (arith, leb-false (wide s e) (high s e) t)
+
+-- ---- sizes
+apart-size : {a b : ℤ} → Coord a → Coord b → natAbs (b -ℤ a) ≤ 262144
+apart-size {a} {b} h k = omega (arith, add-size b (negℤ a), neg-size a, coord-size h, coord-size k)
+
+pub wide-size : {s e : Point} → Bounded s → Bounded e → wide s e ≤ 262144
+unfolding wide
+wide-size hs he = apart-size (hs .x) (he .x)
+
+pub high-size : {s e : Point} → Bounded s → Bounded e → high s e ≤ 262144
+unfolding high
+high-size hs he = apart-size (hs .y) (he .y)
+
+pub major-size : {s e : Point} → Bounded s → Bounded e → major s e ≤ 262144
+unfolding major
+major-size hs he = omega (arith, wide-size hs he, high-size hs he)
+
+pub minor-size : {s e : Point} → Bounded s → Bounded e → minor s e ≤ 262144
+minor-size {s} {e} hs he = omega (arith, narrow s e, major-size hs he)
+
+pub toward-size : (a b : ℤ) → natAbs (toward a b) ≤ 1
+toward-size a b = by (leZ a b)
+  where
+    by : (t : Bool) → natAbs (cond t (pos 1) (negsuc 0)) ≤ 1
+    by true = omega arith
+    by false = omega arith

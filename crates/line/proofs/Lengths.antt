@@ -10,7 +10,7 @@ use Rattle.whole.proofs.Machine.{add-size, neg-size}
 use Rattle.geometry.specs.declared.Point.{Point}
 use Rattle.geometry.specs.Bound.{Coord, Bounded}
 use Rattle.geometry.proofs.Bound.{coord-size}
-use Rattle.line.specs.Line.{toward, wide, high, steep, major, minor}
+use Rattle.line.specs.Line.{toward, wide, high, steep, major, minor, moves, xMoves, yMoves}
 
 module _ (s e : Point) where
   pub narrow : minor s e ≤ major s e
@@ -27,6 +27,16 @@ module _ (s e : Point) where
   unfolding minor
   minor-by true t = omega (arith, leb-true (wide s e) (high s e) t)
   minor-by false t = omega (arith, leb-false (wide s e) (high s e) t)
+
+  pub x-by : (b : Bool) → steep s e ≡ b → (k : ℕ) → xMoves s e k ≡ cond b (moves (high s e) (wide s e) k) k
+  unfolding xMoves
+  x-by true h k = λ i. cond (h i) (moves (major-by true h i) (minor-by true h i) k) k
+  x-by false h k = ap (λ (t : Bool). cond t (moves (major s e) (minor s e) k) k) h
+
+  pub y-by : (b : Bool) → steep s e ≡ b → (k : ℕ) → yMoves s e k ≡ cond b k (moves (wide s e) (high s e) k)
+  unfolding yMoves
+  y-by true h k = ap (λ (t : Bool). cond t k (moves (major s e) (minor s e) k)) h
+  y-by false h k = λ i. cond (h i) k (moves (major-by false h i) (minor-by false h i) k)
 
 -- ---- sizes
 apart-size : {a b : ℤ} → Coord a → Coord b → natAbs (b -ℤ a) ≤ 262144

@@ -1,3 +1,5 @@
 pub mod Moves
 pub mod Lengths
 pub mod Walk
+pub mod Points
+pub mod Closed

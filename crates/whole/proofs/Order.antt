@@ -27,8 +27,20 @@ sub-le a b h =
     let g = le-mk _ _ _ _ (simp mks at (rw (as-mk a, as-mk b) at h)) in
     nat-le (omega arith)
 
+pub lt-sub : (a b : ℤ) → a <ℤ b → (a -ℤ b) <ℤ pos 0
+lt-sub a b h = rw (as-mk a, as-mk b) (simp mks (mk-lt _ _ _ _ (omega (arith, lt-nat h))))
+
 pub nonneg-add : (a b : ℤ) → pos 0 ≤ℤ a → pos 0 ≤ℤ b → pos 0 ≤ℤ (a +ℤ b)
 nonneg-add a b h k = rw (as-mk a, as-mk b) (simp mks (mk-le _ _ _ _ (omega (arith, le-nat h, le-nat k))))
+
+-- ---- the same on both sides
+pub le-move : (a b v : ℤ) → a ≤ℤ b → (a +ℤ v) ≤ℤ (b +ℤ v)
+le-move a b v h = rw (as-mk a, as-mk b, as-mk v) (simp mks (mk-le _ _ _ _ (omega (arith, le-nat h))))
+
+pub move-le : (a b v : ℤ) → (a +ℤ v) ≤ℤ (b +ℤ v) → a ≤ℤ b
+move-le a b v h =
+    let g = le-mk _ _ _ _ (simp mks at (rw (as-mk a, as-mk b, as-mk v) at h)) in
+    nat-le (omega arith)
 
 -- ---- products, by the signs
 pub nonneg-mul : (a b : ℤ) → pos 0 ≤ℤ a → pos 0 ≤ℤ b → pos 0 ≤ℤ (a *ℤ b)

@@ -6,10 +6,12 @@ use native.Mathlib.Omega.{arith}
 use borrow.Author.Tests.{leb-true, leb-false}
 use lib.IntN.{ℤ, pos, negsuc, negℤ, natAbs, _-ℤ_}
 use lib.Signed.{leZ}
-use Rattle.whole.proofs.Machine.{add-size, neg-size}
+use mir.Syntax.{w32}
+use mir.Val.{toZ, ofZ}
+use Rattle.whole.proofs.Machine.{Has, add-size, neg-size, at₂}
 use Rattle.geometry.specs.declared.Point.{Point}
 use Rattle.geometry.specs.Bound.{Coord, Bounded}
-use Rattle.geometry.proofs.Bound.{coord-size}
+use Rattle.geometry.proofs.Bound.{coord-size, coord-fits}
 use Rattle.line.specs.Line.{toward, wide, high, steep, major, minor, moves, xMoves, yMoves}
 
 module _ (s e : Point) where
@@ -49,6 +51,17 @@ wide-size hs he = apart-size (hs .x) (he .x)
 pub high-size : {s e : Point} → Bounded s → Bounded e → high s e ≤ 262144
 unfolding high
 high-size hs he = apart-size (hs .y) (he .y)
+
+-- a distance that was worked out from coordinates as they are read
+pub wide-of : {s e : Point} {r : ℤ} → Bounded s → Bounded e → r ≡ pos (natAbs (toZ w32 (ofZ w32 (e .0)) -ℤ toZ w32 (ofZ w32 (s .0)))) → Has w32 r (pos (wide s e)) 262144
+unfolding wide
+wide-of {r = r} hs he h =
+    record { is = at₂ (coord-fits (hs .x)) (coord-fits (he .x)) (λ (a b : ℤ). r ≡ pos (natAbs (b -ℤ a))) h; size = wide-size hs he; room = omega arith }
+
+pub high-of : {s e : Point} {r : ℤ} → Bounded s → Bounded e → r ≡ pos (natAbs (toZ w32 (ofZ w32 (e .1)) -ℤ toZ w32 (ofZ w32 (s .1)))) → Has w32 r (pos (high s e)) 262144
+unfolding high
+high-of {r = r} hs he h =
+    record { is = at₂ (coord-fits (hs .y)) (coord-fits (he .y)) (λ (a b : ℤ). r ≡ pos (natAbs (b -ℤ a))) h; size = high-size hs he; room = omega arith }
 
 pub major-size : {s e : Point} → Bounded s → Bounded e → major s e ≤ 262144
 unfolding major

@@ -3,3 +3,5 @@ pub mod Lengths
 pub mod Walk
 pub mod Points
 pub mod Closed
+pub mod Refusals
+pub mod Answer

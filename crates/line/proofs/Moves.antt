@@ -33,8 +33,8 @@ module _ (M n k : ℕ) where
       let e : moves M n k * (2 * M) ≡ a / (2 * M) * (2 * M) = ap (λ (x : ℕ). x * (2 * M)) (moves-quotient M n k h) in
       record { low = omega arith; high = omega arith }
 
-  is-some : (q : ℕ) → 0 < M → Band M n k q → moves M n k ≡ q
-  is-some q h b = moves-quotient M n k h ∙ div-eq-of-lt-le {k = q} (2 * M) (omega (arith, b .low)) (omega (arith, b .high))
+  pub moves-fixed : (q : ℕ) → 0 < M → Band M n k q → moves M n k ≡ q
+  moves-fixed q h b = moves-quotient M n k h ∙ div-eq-of-lt-le {k = q} (2 * M) (omega (arith, b .low)) (omega (arith, b .high))
 
 pub moves-band : (M n k : ℕ) → n ≤ M → k ≤ M → Band M n k (moves M n k)
 moves-band zero zero k l h = record { low = omega arith; high = omega arith }
@@ -43,7 +43,7 @@ moves-band (suc N) n k l h = band-some (suc N) n k (omega arith)
 
 pub moves-is : (M n k q : ℕ) → k ≤ M → q ≤ k → Band M n k q → moves M n k ≡ q
 moves-is zero n k q h f b = moves-none n k ∙ omega arith
-moves-is (suc N) n k q h f b = is-some (suc N) n k q (omega arith) b
+moves-is (suc N) n k q h f b = moves-fixed (suc N) n k q (omega arith) b
 
 -- ---- m at the ends of a line
 pub moves-start : (M n : ℕ) → moves M n 0 ≡ 0
@@ -72,7 +72,7 @@ module _ (M n : ℕ) (some : 0 < M) where
 
   -- halfway between q and q + 1 moves: q
   pub moves-tie : (k q : ℕ) → 2 * n * k ≡ 2 * M * q + M → moves M n k ≡ q
-  moves-tie k q e = is-some M n k q some (record { low = omega arith; high = omega arith })
+  moves-tie k q e = moves-fixed M n k q some (record { low = omega arith; high = omega arith })
 
 pub moves-minor : (M n k : ℕ) → k ≤ M → moves M n k ≤ n
 moves-minor zero n k h = omega (arith, moves-none n k)

@@ -20,7 +20,7 @@ use Rattle.geometry.specs.Place.{samePlace, moved}
 use Rattle.geometry.proofs.Place.{same-decides}
 use Rattle.line.specs.Line.{toward, wide, high, steep, major, minor, moves, xMoves, yMoves, pointAt, points, HasPoint, someStep, hasPoint}
 use Rattle.line.proofs.Moves.{Band, moves-start, moves-end, moves-band, moves-one, moves-mono}
-use Rattle.line.proofs.Lengths.{narrow, major-by, minor-by}
+use Rattle.line.proofs.Lengths.{narrow, major-by, minor-by, x-by, y-by}
 
 -- ---- along one axis: the place so many moves from a towards b
 -- the moves that lead from a to b
@@ -47,20 +47,18 @@ stay a b = still a (toward a b)
 -- ---- both ends are points
 module _ (s e : Point) where
   x-start : xMoves s e 0 ≡ 0
-  unfolding xMoves
-  x-start = by (steep s e)
+  x-start = by (steep s e) refl
     where
-      by : (t : Bool) → cond t (moves (major s e) (minor s e) 0) 0 ≡ 0
-      by true = moves-start (major s e) (minor s e)
-      by false = refl
+      by : (t : Bool) → steep s e ≡ t → xMoves s e 0 ≡ 0
+      by true h = x-by s e true h 0 ∙ moves-start (high s e) (wide s e)
+      by false h = x-by s e false h 0
 
   y-start : yMoves s e 0 ≡ 0
-  unfolding yMoves
-  y-start = by (steep s e)
+  y-start = by (steep s e) refl
     where
-      by : (t : Bool) → cond t 0 (moves (major s e) (minor s e) 0) ≡ 0
-      by true = refl
-      by false = moves-start (major s e) (minor s e)
+      by : (t : Bool) → steep s e ≡ t → yMoves s e 0 ≡ 0
+      by true h = y-by s e true h 0
+      by false h = y-by s e false h 0 ∙ moves-start (wide s e) (high s e)
 
   x-end : xMoves s e (major s e) ≡ wide s e
   unfolding xMoves

@@ -11,7 +11,7 @@ use lib.Signed.{_≤ℤ_, _<ℤ_}
 use mir.Syntax.{w32}
 use mir.Val.{toZ, ofZ}
 use Rattle.whole.proofs.Difference.{as-mk, mks, mk-eq, mk-lt, mk-le, lt-mk, le-mk, lt-nat, le-nat}
-use Rattle.whole.proofs.Machine.{Has, one, back, add-size, mul-size, minus-within}
+use Rattle.whole.proofs.Machine.{Has, read, add-size, mul-size, minus-within}
 use Rattle.geometry.specs.declared.Point.{Point}
 use Rattle.geometry.specs.Bound.{Bounded}
 use Rattle.geometry.proofs.Bound.{coord-size}
@@ -48,44 +48,46 @@ place-size s a b k m h g =
     omega (arith, add-size (s +ℤ a *ℤ pos k) (b *ℤ pos m), add-size s (a *ℤ pos k), mul-size a (pos k), mul-size b (pos m), mul-le-mul-right k h, mul-le-mul-right m g)
 
 -- a field that is read: it is z, which is y, and y is at most n from 0
-read : {z y : ℤ} {n : ℕ} → z ≡ y → natAbs y ≤ n → T (ltb n 2147483648) → Has w32 (toZ w32 (ofZ w32 z)) z n
-read {n = n} e h t = back (one (subst (λ (v : ℤ). natAbs v ≤ n) (sym e) h) t)
+read-as : {z y : ℤ} {n : ℕ} → z ≡ y → natAbs y ≤ n → T (ltb n 2147483648) → Has w32 (toZ w32 (ofZ w32 z)) z n
+read-as {z} {n = n} e h t = read z (subst (λ (v : ℤ). natAbs v ≤ n) (sym e) h) t
+
+module _ {s e : Point} {c : Course} (h : CourseOf s e c) where
+  pub xmajor-read : Has w32 (toZ w32 (ofZ w32 (c .xmajor))) (c .xmajor) 1
+  xmajor-read = read-as (h .major-x) (cond-size (steep s e) (pos 0) (toward (s .0) (e .0)) (omega arith) (toward-size (s .0) (e .0))) tt
+
+  pub ymajor-read : Has w32 (toZ w32 (ofZ w32 (c .ymajor))) (c .ymajor) 1
+  ymajor-read = read-as (h .major-y) (cond-size (steep s e) (toward (s .1) (e .1)) (pos 0) (toward-size (s .1) (e .1)) (omega arith)) tt
+
+  pub xminor-read : Has w32 (toZ w32 (ofZ w32 (c .xminor))) (c .xminor) 1
+  xminor-read = read-as (h .minor-x) (cond-size (steep s e) (toward (s .0) (e .0)) (pos 0) (toward-size (s .0) (e .0)) (omega arith)) tt
+
+  pub yminor-read : Has w32 (toZ w32 (ofZ w32 (c .yminor))) (c .yminor) 1
+  yminor-read = read-as (h .minor-y) (cond-size (steep s e) (pos 0) (toward (s .1) (e .1)) (omega arith) (toward-size (s .1) (e .1))) tt
+
+  module _ (start : Bounded s) (end : Bounded e) where
+    pub threshold-read : Has w32 (toZ w32 (ofZ w32 (c .threshold))) (c .threshold) 262144
+    threshold-read = read-as (h .threshold) (major-size start end) tt
+
+    pub up-read : Has w32 (toZ w32 (ofZ w32 (c .up))) (c .up) 524288
+    up-read = read-as (h .up) (omega (arith, minor-size start end)) tt
+
+    pub down-read : Has w32 (toZ w32 (ofZ w32 (c .down))) (c .down) 524288
+    down-read = read-as (h .down) (omega (arith, major-size start end)) tt
 
 module _ {s e : Point} {k m : ℕ} {w : Walker} (h : Stands s e k m w) where
-  pub xmajor-read : Has w32 (toZ w32 (ofZ w32 (w .course .xmajor))) (w .course .xmajor) 1
-  xmajor-read = read (h .course .major-x) (cond-size (steep s e) (pos 0) (toward (s .0) (e .0)) (omega arith) (toward-size (s .0) (e .0))) tt
-
-  pub ymajor-read : Has w32 (toZ w32 (ofZ w32 (w .course .ymajor))) (w .course .ymajor) 1
-  ymajor-read = read (h .course .major-y) (cond-size (steep s e) (toward (s .1) (e .1)) (pos 0) (toward-size (s .1) (e .1)) (omega arith)) tt
-
-  pub xminor-read : Has w32 (toZ w32 (ofZ w32 (w .course .xminor))) (w .course .xminor) 1
-  xminor-read = read (h .course .minor-x) (cond-size (steep s e) (toward (s .0) (e .0)) (pos 0) (toward-size (s .0) (e .0)) (omega arith)) tt
-
-  pub yminor-read : Has w32 (toZ w32 (ofZ w32 (w .course .yminor))) (w .course .yminor) 1
-  yminor-read = read (h .course .minor-y) (cond-size (steep s e) (pos 0) (toward (s .1) (e .1)) (omega arith) (toward-size (s .1) (e .1))) tt
-
-  pub threshold-read : Has w32 (toZ w32 (ofZ w32 (w .course .threshold))) (w .course .threshold) 262144
-  threshold-read = read (h .course .threshold) (major-size (h .start) (h .end)) tt
-
-  pub up-read : Has w32 (toZ w32 (ofZ w32 (w .course .up))) (w .course .up) 524288
-  up-read = read (h .course .up) (omega (arith, minor-size (h .start) (h .end))) tt
-
-  pub down-read : Has w32 (toZ w32 (ofZ w32 (w .course .down))) (w .course .down) 524288
-  down-read = read (h .course .down) (omega (arith, major-size (h .start) (h .end))) tt
-
   pub x-read : k ≤ major s e + 1 → Has w32 (toZ w32 (ofZ w32 (w .x))) (w .x) 655362
   x-read l =
-      read (h .x)
-      (omega (arith, place-size (s .0) (w .course .xmajor) (w .course .xminor) k m (xmajor-read .size) (xminor-read .size), coord-size (h .start .x), major-size (h .start) (h .end), h .few)) tt
+      read-as (h .x)
+      (omega (arith, place-size (s .0) (w .course .xmajor) (w .course .xminor) k m (xmajor-read (h .course) .size) (xminor-read (h .course) .size), coord-size (h .start .x), major-size (h .start) (h .end), h .few)) tt
 
   pub y-read : k ≤ major s e + 1 → Has w32 (toZ w32 (ofZ w32 (w .y))) (w .y) 655362
   y-read l =
-      read (h .y)
-      (omega (arith, place-size (s .1) (w .course .ymajor) (w .course .yminor) k m (ymajor-read .size) (yminor-read .size), coord-size (h .start .y), major-size (h .start) (h .end), h .few)) tt
+      read-as (h .y)
+      (omega (arith, place-size (s .1) (w .course .ymajor) (w .course .yminor) k m (ymajor-read (h .course) .size) (yminor-read (h .course) .size), coord-size (h .start .y), major-size (h .start) (h .end), h .few)) tt
 
   pub error-read : 2 * minor s e * k ≤ 2 * major s e * m + major s e + 2 * minor s e → Has w32 (toZ w32 (ofZ w32 (w .error))) (w .error) 786432
   error-read u =
-      read (h .error)
+      read-as (h .error)
       (minus-within (2 * minor s e * k) (2 * major s e * m) 786432 (omega (arith, h .low, major-size (h .start) (h .end), minor-size (h .start) (h .end))) (omega (arith, h .low, major-size (h .start) (h .end)))) tt
 
 -- ---- the point it stands at
@@ -97,21 +99,29 @@ axis-y : (b : Bool) (s d : ℤ) (k m : ℕ) → s +ℤ cond b d (pos 0) *ℤ pos
 axis-y true s d k m = ap (λ (z : ℤ). s +ℤ d *ℤ pos k +ℤ z) (zero-*ℤ (pos m)) ∙ +ℤ-idr (s +ℤ d *ℤ pos k)
 axis-y false s d k m = ap (λ (z : ℤ). s +ℤ z +ℤ d *ℤ pos m) (zero-*ℤ (pos k)) ∙ ap (λ (z : ℤ). z +ℤ d *ℤ pos m) (+ℤ-idr s)
 
+-- so many moves by the line's parameters lead to the rule's point
+module _ {s e : Point} {c : Course} (course : CourseOf s e c) (k : ℕ) where
+  pub course-x : s .0 +ℤ c .xmajor *ℤ pos k +ℤ c .xminor *ℤ pos (moves (major s e) (minor s e) k) ≡ pointAt s e k .0
+  unfolding xMoves pointAt
+  course-x =
+      ap₂ (λ (a b : ℤ). s .0 +ℤ a *ℤ pos k +ℤ b *ℤ pos (moves (major s e) (minor s e) k)) (course .major-x) (course .minor-x)
+      ∙ axis-x (steep s e) (s .0) (toward (s .0) (e .0)) k (moves (major s e) (minor s e) k)
+
+  pub course-y : s .1 +ℤ c .ymajor *ℤ pos k +ℤ c .yminor *ℤ pos (moves (major s e) (minor s e) k) ≡ pointAt s e k .1
+  unfolding yMoves pointAt
+  course-y =
+      ap₂ (λ (a b : ℤ). s .1 +ℤ a *ℤ pos k +ℤ b *ℤ pos (moves (major s e) (minor s e) k)) (course .major-y) (course .minor-y)
+      ∙ axis-y (steep s e) (s .1) (toward (s .1) (e .1)) k (moves (major s e) (minor s e) k)
+
 module _ {s e : Point} {k : ℕ} {w : Walker} (at : WalkerAt s e k w) (walked : k ≤ major s e) where
-  m-is : moves (major s e) (minor s e) k ≡ at .m
-  m-is = moves-is (major s e) (minor s e) k (at .m) walked (at .stands .few) (record { low = at .stands .low; high = at .near })
+  m-is : at .m ≡ moves (major s e) (minor s e) k
+  m-is = sym (moves-is (major s e) (minor s e) k (at .m) walked (at .stands .few) (record { low = at .stands .low; high = at .near }))
 
   pub stands-x : w .x ≡ pointAt s e k .0
-  unfolding xMoves pointAt
-  stands-x =
-      at .stands .x ∙ ap₂ (λ (a b : ℤ). s .0 +ℤ a *ℤ pos k +ℤ b *ℤ pos (at .m)) (at .stands .course .major-x) (at .stands .course .minor-x)
-      ∙ axis-x (steep s e) (s .0) (toward (s .0) (e .0)) k (at .m) ∙ ap (λ (n : ℕ). s .0 +ℤ toward (s .0) (e .0) *ℤ pos (cond (steep s e) n k)) (sym m-is)
+  stands-x = at .stands .x ∙ ap (λ (n : ℕ). s .0 +ℤ w .course .xmajor *ℤ pos k +ℤ w .course .xminor *ℤ pos n) m-is ∙ course-x (at .stands .course) k
 
   pub stands-y : w .y ≡ pointAt s e k .1
-  unfolding yMoves pointAt
-  stands-y =
-      at .stands .y ∙ ap₂ (λ (a b : ℤ). s .1 +ℤ a *ℤ pos k +ℤ b *ℤ pos (at .m)) (at .stands .course .major-y) (at .stands .course .minor-y)
-      ∙ axis-y (steep s e) (s .1) (toward (s .1) (e .1)) k (at .m) ∙ ap (λ (n : ℕ). s .1 +ℤ toward (s .1) (e .1) *ℤ pos (cond (steep s e) k n)) (sym m-is)
+  stands-y = at .stands .y ∙ ap (λ (n : ℕ). s .1 +ℤ w .course .ymajor *ℤ pos k +ℤ w .course .yminor *ℤ pos n) m-is ∙ course-y (at .stands .course) k
 
 -- ---- moves over ℤ
 more-major : (s a b k m : ℤ) → (s +ℤ a *ℤ k +ℤ b *ℤ m) +ℤ a ≡ s +ℤ a *ℤ (k +ℤ pos 1) +ℤ b *ℤ m

@@ -1,6 +1,6 @@
 -- The points of a line, from its start to its end (01, "Lines").
 use mathlib.Core.Path.{_≡_}
-use mathlib.Core.Bool.{Bool, true, false, cond, _||_}
+use mathlib.Core.Bool.{Bool, true, false, cond, _&&_, _||_}
 use Prim.Native.Nat.{ℕ, zero, suc, _+_, _*_, _-_, _/_, _≤_, max, min}
 use lib.Dec.{leb, eqb}
 use lib.IntN.{ℤ, pos, negsuc, natAbs, _+ℤ_, _-ℤ_, _*ℤ_}
@@ -64,3 +64,10 @@ someStep f p (suc n) = samePlace p (f n) || someStep f p n
 -- the same as a yes or no that computes
 unfoldable pub hasPoint : Point → Point → Point → Bool
 hasPoint s e p = someStep (pointAt s e) p (points s e)
+
+-- u moves along x and v along y, from the start towards the end of a line that is w wide and h high, lead to a point of it: the moves along the
+-- minor axis are m at the moves along the major one
+abbrev pub onLine : ℕ → ℕ → ℤ → ℤ → Bool
+onLine w h (pos u) (pos v) = cond (leb w h) (leb v h && eqb u (moves h w v)) (leb u w && eqb v (moves w h u))
+onLine w h (pos u) (negsuc v) = false
+onLine w h (negsuc u) y = false

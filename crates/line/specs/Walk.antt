@@ -2,9 +2,9 @@
 use mathlib.Core.Path.{_≡_}
 use mathlib.Core.Bool.{cond}
 use Prim.Native.Nat.{ℕ, _+_, _*_, _-_, _≤_}
-use lib.IntN.{ℤ, pos, _+ℤ_, _-ℤ_, _*ℤ_}
+use lib.IntN.{ℤ, pos, natAbs, _+ℤ_, _-ℤ_, _*ℤ_}
 use Rattle.geometry.specs.declared.Point.{Point}
-use Rattle.geometry.specs.Bound.{Bounded}
+use Rattle.geometry.specs.Bound.{Coord, Bounded}
 use Rattle.line.specs.declared.Course.{Course}
 use Rattle.line.specs.declared.Walker.{Walker}
 use Rattle.line.specs.Line.{toward, steep, major, minor}
@@ -18,6 +18,14 @@ pub record CourseOf (s e : Point) (c : Course) : Type 0 where
   pub major-y : c .ymajor ≡ cond (steep s e) (toward (s .1) (e .1)) (pos 0)
   pub minor-x : c .xminor ≡ cond (steep s e) (toward (s .0) (e .0)) (pos 0)
   pub minor-y : c .yminor ≡ cond (steep s e) (pos 0) (toward (s .1) (e .1))
+
+-- a coordinate, and moves from it of at most one place each
+pub record Placing (a major along minor across : ℤ) : Type 0 where
+  pub from : Coord a
+  pub one : natAbs major ≤ 1
+  pub other : natAbs minor ≤ 1
+  pub many : natAbs along ≤ 262144
+  pub few : natAbs across ≤ 262144
 
 -- w has made k moves along the major axis and m along the minor axis from s, and its error says by how much it is off
 pub record Stands (s e : Point) (k m : ℕ) (w : Walker) : Type 0 where

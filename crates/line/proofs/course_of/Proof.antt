@@ -2,7 +2,7 @@
 use mathlib.Core.Path.{_≡_, refl, sym, _∙_}
 use mathlib.Core.Bool.{true, false}
 use native.Mathlib.Omega.{arith}
-use lib.IntN.{ℤ, pos, natAbs, _-ℤ_}
+use lib.IntN.{ℤ, pos}
 use lib.Signed.{leZ}
 use mir.Syntax.{w32}
 use mir.Val.{toZ, ofZ}
@@ -10,7 +10,7 @@ use borrow.Author.Needs.{needs}
 use Rattle.whole.proofs.Machine.{Has, lit, times, fits, back, tests-le, at₂}
 use Rattle.geometry.proofs.Bound.{coord-fits}
 use Rattle.line.specs.Line.{toward, wide, high, steep}
-use Rattle.line.proofs.Lengths.{wide-size, high-size, toward-size}
+use Rattle.line.proofs.Lengths.{wide-of, high-of, toward-size}
 use Rattle.line.proofs.Walk.{course-by}
 use Rattle.line.proofs.course_of.Statement.{statement}
 use Rattle.line.proofs.course_of.Tie as tie
@@ -33,22 +33,10 @@ entry c = c .before .before .before .before .before .before .before .before
 -- what the four calls give, at the line's ends
 module _ (c : tie.After-direction2) where
   A : Has w32 (c .before .before .before .distance .result) (pos (wide (entry c .args .start) (entry c .args .end))) 262144
-  unfolding wide
-  A =
-      record {
-        is = at₂ (coord-fits (entry c .pre .0 .x)) (coord-fits (entry c .pre .1 .x)) (λ (x y : ℤ). c .before .before .before .distance .result ≡ pos (natAbs (y -ℤ x))) (c .before .before .before .distance .ensures);
-        size = wide-size (entry c .pre .0) (entry c .pre .1);
-        room = omega arith;
-      }
+  A = wide-of (entry c .pre .0) (entry c .pre .1) (c .before .before .before .distance .ensures)
 
   B : Has w32 (c .before .before .distance2 .result) (pos (high (entry c .args .start) (entry c .args .end))) 262144
-  unfolding high
-  B =
-      record {
-        is = at₂ (coord-fits (entry c .pre .0 .y)) (coord-fits (entry c .pre .1 .y)) (λ (x y : ℤ). c .before .before .distance2 .result ≡ pos (natAbs (y -ℤ x))) (c .before .before .distance2 .ensures);
-        size = high-size (entry c .pre .0) (entry c .pre .1);
-        room = omega arith;
-      }
+  B = high-of (entry c .pre .0) (entry c .pre .1) (c .before .before .distance2 .ensures)
 
   DX : Has w32 (c .before .direction .result) (toward (entry c .args .start .0) (entry c .args .end .0)) 1
   DX =

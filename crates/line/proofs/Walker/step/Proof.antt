@@ -20,13 +20,13 @@ module _ {w : Walker} (h : Walking w) where
   within = omega (arith, h .more)
 
   X : Has w32 (toZ w32 (ofZ w32 (w .x)) +ℤ toZ w32 (ofZ w32 (w .course .xmajor))) (w .x +ℤ w .course .xmajor) 655363
-  X = plus (x-read (h .here .stands) within) (xmajor-read (h .here .stands)) tt
+  X = plus (x-read (h .here .stands) within) (xmajor-read (h .here .stands .course)) tt
 
   Y : Has w32 (toZ w32 (ofZ w32 (w .y)) +ℤ toZ w32 (ofZ w32 (w .course .ymajor))) (w .y +ℤ w .course .ymajor) 655363
-  Y = plus (y-read (h .here .stands) within) (ymajor-read (h .here .stands)) tt
+  Y = plus (y-read (h .here .stands) within) (ymajor-read (h .here .stands .course)) tt
 
   E : Has w32 (toZ w32 (ofZ w32 (w .error)) +ℤ toZ w32 (ofZ w32 (w .course .up))) (w .error +ℤ w .course .up) 1310720
-  E = plus (error-read (h .here .stands) (omega (arith, h .here .near))) (up-read (h .here .stands)) tt
+  E = plus (error-read (h .here .stands) (omega (arith, h .here .near))) (up-read (h .here .stands .course) (h .here .stands .start) (h .here .stands .end)) tt
 
 add-t8 : tie.Need-add-t8
 add-t8 c = fits (X (c .before .before .before .before .before .pre))

@@ -5,3 +5,4 @@ pub mod Points
 pub mod Closed
 pub mod Refusals
 pub mod Answer
+pub mod Determined

@@ -1,18 +1,18 @@
--- Laws of containment: it is a sum of two squares below the threshold, one of the column and one of the row; it lies in the box; its mirror
--- images and its move. For every top-left, diameter and pixel. Assumes nothing.
+-- Laws of containment: a pixel's two squares, of its column and of its row, are below the threshold together; it lies in the box; mirrored or
+-- moved with the circle it stays what it is. For every top-left, diameter and pixel. Assumes nothing.
 use mathlib.Core.Path.{_≡_, refl, sym, ap, ap₂, _∙_}
-use mathlib.Core.Bool.{Bool, true, false, cond, _&&_, true≢false}
+use mathlib.Core.Bool.{Bool, true, false, cond}
 use Prim.Native.Nat.{ℕ, _+_, _*_, _-_, _/_, _<_, _≤_}
 use native.Mathlib.Omega.{arith}
 use lib.Dec.{leb, ltb}
 use lib.IntN.{ℤ, pos, negsuc, negℤ, natAbs, _+ℤ_, _-ℤ_, _*ℤ_}
 use lib.Signed.{leZ, ltZ, _≤ℤ_, _<ℤ_}
-use borrow.Author.Tests.{ltb-true}
 use Rattle.whole.specs.Decides.{Decides}
-use Rattle.whole.proofs.Decides.{decides-map, decides-and, decides-le, decides-lt, decides-leb, decides-ltb, decides-one, decides-yes, decides-no}
+use Rattle.whole.proofs.Decides.{decides-map, decides-and, decides-le, decides-lt, decides-leb, decides-ltb, decides-one, decides-no}
 use Rattle.whole.proofs.Difference.{up, dn, as-mk, mks, mk-eq, eq-mk, le-nat, lt-nat, nat-le, nat-lt, sum-nat}
 use Rattle.whole.proofs.Machine.{neg-size}
 use Rattle.geometry.specs.declared.Point.{Point}
+use Rattle.geometry.specs.Place.{moved}
 use Rattle.circle.specs.Circle.{doubled, centre, squaredDistance, thresholdOf, contained, between, boxColumn, boxRow, inBox}
 use Rattle.circle.proofs.Roots.{square-below}
 
@@ -59,7 +59,8 @@ between-decides a b x = decides-and (leZ a x) (ltZ x b) (decides-le a x) (decide
 pub in-box-decides : (c : Point) (d : ℕ) (p : Point) → Decides (inBox c d p) (((c .0 ≤ℤ p .0) × (p .0 <ℤ (c .0 +ℤ pos d))) × ((c .1 ≤ℤ p .1) × (p .1 <ℤ (c .1 +ℤ pos d))))
 in-box-decides c d p = decides-and (boxColumn c d (p .0)) (boxRow c d (p .1)) (between-decides (c .0) (c .0 +ℤ pos d) (p .0)) (between-decides (c .1) (c .1 +ℤ pos d) (p .1))
 
--- ---- a side that starts at l and is d long, with x - l = a - b: where x lies on it, by its distance from the centre
+-- ---- a side that starts at l and is d long: where x lies on it, by its distance from the centre. By parts x - l is a - b, with
+-- a = up x + dn l and b = up l + dn x
 parts : (z x l D : ℤ) → z ≡ pos 2 *ℤ x -ℤ (pos 2 *ℤ l +ℤ D -ℤ pos 1) → up z + 2 * (up l + dn x) + up D ≡ 2 * (up x + dn l) + 1 + dn z + dn D
 parts z x l D e =
     let g = eq-mk _ _ _ _ (simp mks at (rw (as-mk z, as-mk x, as-mk l, as-mk D) at e)) in
@@ -99,45 +100,40 @@ inner-is x l d s h =
     (inner-decides l x d ((d - s) / 2))
 
 -- below d from the centre is to lie on the side
-pub side-is : (x l : ℤ) (d : ℕ) → between l (l +ℤ pos d) x ≡ ltb (away x l d) d
-side-is x l d = decides-one _ _ (decides-map (between-decides l (l +ℤ pos d) x) on off-it) (decides-ltb (away x l d) d)
-  where
-    end : up (l +ℤ pos d) + dn l ≡ up l + d + dn (l +ℤ pos d)
-    end = sum-nat (l +ℤ pos d) l d refl
+module _ (x l : ℤ) (d : ℕ) where
+  end : up (l +ℤ pos d) + dn l ≡ up l + d + dn (l +ℤ pos d)
+  end = sum-nat (l +ℤ pos d) l d refl
 
-    on : (l ≤ℤ x) × (x <ℤ (l +ℤ pos d)) → away x l d < d
-    on h =
-        let g = le-nat (h .0) in
-        let k = lt-nat (h .1) in
-        let near = inner-near (off x l d) (up x + dn l) (up l + dn x) d (d - 1) (off-parts x l d) (omega (arith, end)) (omega (arith, end), omega (arith, end)) in
-        omega (arith, end)
+  side-near : (l ≤ℤ x) × (x <ℤ (l +ℤ pos d)) → away x l d < d
+  side-near h =
+      let g = le-nat (h .0) in
+      let k = lt-nat (h .1) in
+      let near = inner-near (off x l d) (up x + dn l) (up l + dn x) d (d - 1) (off-parts x l d) (omega (arith, end)) (omega (arith, end), omega (arith, end)) in
+      omega (arith, end)
 
-    off-it : away x l d < d → (l ≤ℤ x) × (x <ℤ (l +ℤ pos d))
-    off-it h =
-        let g = near-inner (off x l d) (up x + dn l) (up l + dn x) d (d - 1) (off-parts x l d) (omega arith) (omega arith) in
-        (nat-le (omega (arith, g .0)), nat-lt (omega (arith, g .1, end)))
+  near-side : away x l d < d → (l ≤ℤ x) × (x <ℤ (l +ℤ pos d))
+  near-side h =
+      let g = near-inner (off x l d) (up x + dn l) (up l + dn x) d (d - 1) (off-parts x l d) (omega arith) (omega arith) in
+      (nat-le (omega (arith, g .0)), nat-lt (omega (arith, g .1, end)))
+
+  pub side-is : between l (l +ℤ pos d) x ≡ ltb (away x l d) d
+  side-is = decides-one _ _ (decides-map (between-decides l (l +ℤ pos d) x) side-near near-side) (decides-ltb (away x l d) d)
 
 -- a pixel of the box is less than d from the centre, on both axes
 pub in-box-away : (c : Point) (d : ℕ) (p : Point) → inBox c d p ≡ true → (away (p .0) (c .0) d < d) × (away (p .1) (c .1) d < d)
 in-box-away c d p e =
     let h = in-box-decides c d p .yes e in
-    (on-side (p .0) (c .0) (h .0), on-side (p .1) (c .1) (h .1))
-  where
-    on-side : (x l : ℤ) → (l ≤ℤ x) × (x <ℤ (l +ℤ pos d)) → away x l d < d
-    on-side x l h = ltb-true (away x l d) d (sym (side-is x l d) ∙ decides-yes (between-decides l (l +ℤ pos d) x) h)
+    (side-near (p .0) (c .0) d (h .0), side-near (p .1) (c .1) d (h .1))
 
 -- pixels outside the box are not contained
 pub outside : (c : Point) (d : ℕ) (p : Point) → inBox c d p ≡ false → contained c d p ≡ false
 outside c d p e =
     contained-is c d p
     ∙ decides-no (decides-ltb (squares c d p) (thresholdOf d))
-    (λ h. not-in (below (away (p .0) (c .0) d) (omega arith)) (below (away (p .1) (c .1) d) (omega arith)))
+    (λ h. in-box-decides c d p .no e (near-side (p .0) (c .0) d (below (away (p .0) (c .0) d) (omega arith)), near-side (p .1) (c .1) d (below (away (p .1) (c .1) d) (omega arith))))
   where
     below : (a : ℕ) → a * a < thresholdOf d → a < d
     below a h = square-below a d (omega (arith, threshold-high d))
-
-    not-in : away (p .0) (c .0) d < d → away (p .1) (c .1) d < d → ⊥
-    not-in h k = true≢false (sym (ap₂ _&&_ (side-is (p .0) (c .0) d ∙ decides-yes (decides-ltb _ d) h) (side-is (p .1) (c .1) d ∙ decides-yes (decides-ltb _ d) k)) ∙ e)
 
 -- d = 0 contains nothing
 pub nothing : (c p : Point) → contained c 0 p ≡ false
@@ -164,11 +160,8 @@ top-bottom c d x y =
     ∙ ap (λ (b : ℕ). ltb (away x (c .0) d * away x (c .0) d + b * b) (thresholdOf d)) (mirror-away y (c .1) d) ∙ sym (contained-is c d (x, y))
 
 -- ---- moving circle and pixel together changes nothing
-abbrev pub shifted : Point → Point → Point
-shifted p by = (p .0 +ℤ by .0, p .1 +ℤ by .1)
-
 moved-off : (x l D u : ℤ) → pos 2 *ℤ (x +ℤ u) -ℤ (pos 2 *ℤ (l +ℤ u) +ℤ D -ℤ pos 1) ≡ pos 2 *ℤ x -ℤ (pos 2 *ℤ l +ℤ D -ℤ pos 1)
 moved-off x l D u = rw (as-mk x, as-mk l, as-mk D, as-mk u) (simp mks (mk-eq _ _ _ _ (omega arith)))
 
-pub moved : (c : Point) (d : ℕ) (p by : Point) → contained (shifted c by) d (shifted p by) ≡ contained c d p
-moved c d p by = ap₂ (λ (a b : ℤ). ltZ (a *ℤ a +ℤ b *ℤ b) (pos (thresholdOf d))) (moved-off (p .0) (c .0) (pos d) (by .0)) (moved-off (p .1) (c .1) (pos d) (by .1))
+pub contained-moved : (v c : Point) (d : ℕ) (p : Point) → contained (moved v c) d (moved v p) ≡ contained c d p
+contained-moved v c d p = ap₂ (λ (a b : ℤ). ltZ (a *ℤ a +ℤ b *ℤ b) (pos (thresholdOf d))) (moved-off (p .0) (c .0) (pos d) (v .0)) (moved-off (p .1) (c .1) (pos d) (v .1))

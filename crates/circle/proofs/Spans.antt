@@ -12,6 +12,7 @@ use borrow.Author.Tests.{ltb-true}
 use Rattle.whole.proofs.Decides.{decides-map, decides-leb, decides-ltb, decides-one, decides-yes, decides-no}
 use Rattle.whole.proofs.Difference.{le-nat, lt-nat, nat-le, nat-lt, nat-eq, sum-nat}
 use Rattle.geometry.specs.declared.Point.{Point}
+use Rattle.geometry.specs.Answer.{verdict, span}
 use Rattle.circle.specs.Circle.{thresholdOf, contained, between, boxColumn, boxRow, inBox, first, leadOf, spanStart, spanEnd}
 use Rattle.circle.specs.Root.{Root}
 use Rattle.circle.proofs.Roots.{Rooted, rooted, square-mono, square-below}
@@ -145,6 +146,11 @@ span-agrees c d x y = by (boxRow c d y) refl
     by false row =
         outside c d (x, y) (ap (λ (b : Bool). boxColumn c d x && b) row ∙ and-false (boxColumn c d x))
         ∙ sym (ap₂ (λ (a b : ℤ). between a b x) (no-start c d y row) (no-end c d y row) ∙ empty x)
+
+-- so do the two answers, those to a refused circle too
+pub answers-agree : (n : ℕ) (c : Point) (d : ℕ) (x y : ℤ) → verdict n (contained c d (x, y)) .yes ≡ between (span n (spanStart c d y) (spanEnd c d y) .start) (span n (spanStart c d y) (spanEnd c d y) .end) x
+answers-agree zero c d x y = span-agrees c d x y
+answers-agree (suc n) c d x y = sym (empty x)
 
 -- each row of the box has a contained pixel
 pub row-some : (c : Point) (d : ℕ) (y : ℤ) → boxRow c d y ≡ true → contained c d (spanStart c d y, y) ≡ true

@@ -1,14 +1,12 @@
 -- What the code works out from a pixel coordinate z and a diameter d, in 64 bits: nothing wraps. Assumes nothing.
 use mathlib.Core.Path.{_≡_, ap₂, subst}
 use Prim.Native.Nat.{ℕ, _*_, _^_, _<_, _≤_}
-use native.Mathlib.Nat.{lt-of-le-of-lt}
 use lib.Dec.{lit<}
 use lib.IntN.{ℤ, pos, natAbs, _+ℤ_, _-ℤ_, _*ℤ_}
 use lib.Signed.{mag}
 use mir.Syntax.{w32, w64}
 use mir.Val.{SFits, Fits, toZ, ofZ}
-use mir.Facts.{toZ-pos}
-use Rattle.whole.proofs.Machine.{Has, fits, back, field-back, lit, wide, wide-nat, plus, minus, times}
+use Rattle.whole.proofs.Machine.{Has, fits, back, field-back, lit, wide, wide-nat, same-bits, plus, minus, times}
 use Rattle.geometry.specs.Bound.{Coord}
 use Rattle.geometry.proofs.Bound.{coord}
 use Rattle.circle.proofs.Containment.{square-is}
@@ -41,7 +39,7 @@ square {e} {z} h = subst (λ (v : ℤ). Has w64 (toZ w64 (ofZ w64 e) *ℤ toZ w6
 
 -- a number of columns after the left side of an accepted box, in 32 bits
 after : {z : ℤ} (n : ℕ) → Coord z → n ≤ 262144 → Has w32 (toZ w32 (ofZ w32 z) +ℤ toZ w32 n) (z +ℤ pos n) 393216
-after n f h = plus (back (coord f)) (record { is = toZ-pos w32 (lt-of-le-of-lt h (lit< tt)); size = h; room = lit< tt }) tt
+after n f h = plus (back (coord f)) (same-bits h tt) tt
 
 pub after-fits : (z : ℤ) (n : ℕ) → Coord z → n ≤ 262144 → SFits w32 (toZ w32 (ofZ w32 z) +ℤ toZ w32 n)
 after-fits z n f h = fits (after n f h)

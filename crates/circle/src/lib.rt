@@ -14,7 +14,8 @@ ghost use Rattle.geometry.specs.Answer.{verdict, span};
 ghost use Rattle.circle.specs.Circle.{centre, thresholdOf, doubled, squaredDistance, contained, inBox, leadOf, spanStart, spanEnd};
 ghost use Rattle.circle.specs.Refusal.{refusalOf};
 
-// The circle's centre, which lies between pixels where the diameter is even. For the diameter 0 it is the place 2l - 1, 2t - 1.
+// The circle's centre, in half-pixel units since it lies between pixels where the diameter is even. For the diameter 0, which contains
+// nothing, it is 2l - 1, 2t - 1 by the rule, and 2l, 2t in the Rust.
 fn center_2x(topleft: Point, diameter: u32) -> Doubled
     ensures { λ r. ⌜ r ≡ centre topleft diameter ⌝ }
 {
@@ -24,7 +25,7 @@ fn center_2x(topleft: Point, diameter: u32) -> Doubled
     Doubled(2 * left + side - 1, 2 * top + side - 1)
 }
 
-// The pixel's place in half-pixel units.
+// The pixel's place, in half-pixel units.
 fn place_2x(p: Point) -> Doubled
     ensures { λ r. ⌜ r ≡ doubled p ⌝ }
 {
@@ -44,7 +45,7 @@ fn threshold(diameter: u32) -> u64
     d * d
 }
 
-// 0 for an accepted circle, else the number of its refusal: 5, then 6.
+// Inside the library: 0 for an accepted circle, else the number of its refusal, 5 before 6.
 pub fn refusal(topleft: Point, diameter: u32) -> u32
     ensures { λ r. ⌜ r ≡ refusalOf topleft diameter ⌝ }
 {
@@ -114,10 +115,7 @@ pub fn contains(topleft: Point, diameter: u32, p: Point) -> Verdict
 {
     let number = refusal(topleft, diameter);
     if number != 0 {
-        return Verdict {
-            number: number,
-            yes: false,
-        };
+        return Verdict { number, yes: false };
     }
     Verdict {
         number: 0,
@@ -125,8 +123,8 @@ pub fn contains(topleft: Point, diameter: u32, p: Point) -> Verdict
     }
 }
 
-// How many columns of the box come before the first contained one, on a row of the box. A contained column is at most a root away from the
-// centre, in half pixels; the rest of the side is halved.
+// How many columns of the box come before the first contained one, on a row of the box. A column is contained exactly if it is at most dx
+// half pixels from the centre, so of the rest of the side one half comes before and the other after.
 fn lead(topleft: Point, diameter: u32, y: i32) -> u32
     requires { ⌜ (refusalOf topleft diameter ≡ 0) × (inBox topleft diameter (topleft .0, y) ≡ true) ⌝ }
     ensures { λ r. ⌜ r ≡ leadOf topleft diameter y ⌝ }
@@ -168,7 +166,7 @@ pub fn row_span(topleft: Point, diameter: u32, y: i32) -> Span
     let number = refusal(topleft, diameter);
     if number != 0 {
         return Span {
-            number: number,
+            number,
             start: 0,
             end: 0,
         };

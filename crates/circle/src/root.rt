@@ -2,8 +2,8 @@
 ghost use Prim.Native.Nat.{_+_, _*_, _<_};
 ghost use Rattle.circle.specs.Root.{Root};
 
-// A number that is at least the root of n. It is Newton's step from 2^half, where dividing is a shift; half is half of n's binary digits, so
-// that the guess is at most a sixteenth too large.
+// A number that is at least the root of n, and close to it: Newton's step from the power of two that has half as many binary digits as n,
+// by which a shift divides.
 fn guess(n: u64) -> u64
     ensures { λ r. ⌜ (n < (r + 1) * (r + 1)) × (r < 4294967296) ⌝ }
 {

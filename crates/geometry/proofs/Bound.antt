@@ -37,7 +37,7 @@ coord-fits h = sized (coord-size h) (lit< tt)
 
 -- a coordinate as it stands, and cast to `i64`
 pub coord : {z : ℤ} → Coord z → Has w32 z z 131072
-coord h = one (coord-size h) tt
+coord {z} h = one z (coord-size h) tt
 
 pub coord-wide : {z : ℤ} → Coord z → Has w64 (toZ w32 (ofZ w32 z)) z 131072
 coord-wide h = cast (coord h) tt

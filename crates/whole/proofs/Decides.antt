@@ -1,14 +1,15 @@
 -- Laws of a yes or no that decides a statement: by parts, through an equivalence, and that there is one such answer. Assumes nothing.
-use mathlib.Core.Path.{_≡_, refl, sym, subst, _∙_}
+use mathlib.Core.Path.{_≡_, refl, sym, ap, subst, _∙_}
 use mathlib.Core.Bool.{Bool, true, false, not, _&&_, _||_, true≢false, false≢true}
 use mathlib.Core.Logic.{_⊎_, inl, inr, ⊎-elim}
 use Prim.Native.Nat.{ℕ, _≤_, _<_}
 use native.Mathlib.Omega.{arith}
 use lib.Dec.{T, leb, ltb, eqb}
-use lib.IntN.{ℤ}
-use lib.Signed.{leZ, ltZ, _≤ℤ_, _<ℤ_}
-use borrow.Author.Tests.{leb-true, leb-false, ltb-true, ltb-false}
+use lib.IntN.{ℤ, pos, negsuc, natAbs, pos-ne-negsuc}
+use lib.Signed.{leZ, ltZ, mag, _≤ℤ_, _<ℤ_}
+use borrow.Author.Tests.{leb-true, leb-false, ltb-true, ltb-false, eqb-true, eqb-false}
 use Rattle.whole.specs.Decides.{Decides}
+use Rattle.whole.specs.Equal.{eqZ}
 
 -- ---- a test decides that it passes
 pub tested : (b : Bool) → Decides b (T b)
@@ -32,6 +33,15 @@ decides-le a b = decides-map (tested (leZ a b)) (λ h. record { le = h }) (λ h.
 
 pub decides-lt : (a b : ℤ) → Decides (ltZ a b) (a <ℤ b)
 decides-lt a b = decides-map (tested (ltZ a b)) (λ h. record { lt = h }) (λ h. h .lt)
+
+pub decides-eqb : (a b : ℕ) → Decides (eqb a b) (a ≡ b)
+decides-eqb a b = record { yes = eqb-true a b; no = eqb-false a b }
+
+pub decides-eq : (a b : ℤ) → Decides (eqZ a b) (a ≡ b)
+decides-eq (pos a) (pos b) = decides-map (decides-eqb a b) (ap pos) (ap natAbs)
+decides-eq (pos a) (negsuc b) = never (pos-ne-negsuc a b)
+decides-eq (negsuc a) (pos b) = never (λ e. pos-ne-negsuc b a (sym e))
+decides-eq (negsuc a) (negsuc b) = decides-map (decides-eqb a b) (ap negsuc) (ap mag)
 
 pub decides-leb : (a b : ℕ) → Decides (leb a b) (a ≤ b)
 decides-leb a b = record { yes = leb-true a b; no = λ e h. omega (arith, leb-false a b e) }

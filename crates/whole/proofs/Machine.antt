@@ -78,6 +78,9 @@ sized {w} {z} h k = record { sfits = omega (arith, mag-size z) }
 pub fits : {w : Width} {e z : ℤ} {b : ℕ} → Has w e z b → SFits w e
 fits {w} h = subst (λ (v : ℤ). SFits w v) (sym (h .is)) (sized (h .size) (h .room))
 
+pub size-of : {w : Width} {e z : ℤ} {b : ℕ} → Has w e z b → natAbs e ≤ b
+size-of {b = b} h = subst (λ (v : ℤ). natAbs v ≤ b) (sym (h .is)) (h .size)
+
 -- a local holds bits: what is read back from them
 pub back : {w : Width} {e z : ℤ} {b : ℕ} → Has w e z b → Has w (toZ w (ofZ w e)) z b
 back h = record { is = toZ-ofZ (fits h) ∙ h .is; size = h .size; room = h .room }
@@ -86,12 +89,15 @@ back h = record { is = toZ-ofZ (fits h) ∙ h .is; size = h .size; room = h .roo
 pub field-back : (w : Width) (z : ℤ) → mag z < 2 ^ hbits w → toZ w (ofZ w z) ≡ z
 field-back w z h = toZ-ofZ (record { sfits = h })
 
--- a parameter, a call's result, a field; a literal
-pub one : {w : Width} {z : ℤ} {b : ℕ} → natAbs z ≤ b → T (ltb b (2 ^ hbits w)) → Has w z z b
-one {w} {z} {b} h t = record { is = refl; size = h; room = ltb→lt b (2 ^ hbits w) t }
+-- a call's result; a parameter or a field that is read; a literal
+pub one : {w : Width} (z : ℤ) {b : ℕ} → natAbs z ≤ b → T (ltb b (2 ^ hbits w)) → Has w z z b
+one {w} z {b} h t = record { is = refl; size = h; room = ltb→lt b (2 ^ hbits w) t }
+
+pub read : {w : Width} (z : ℤ) {b : ℕ} → natAbs z ≤ b → T (ltb b (2 ^ hbits w)) → Has w (toZ w (ofZ w z)) z b
+read z h t = back (one z h t)
 
 pub lit : {w : Width} (n : ℕ) → T (ltb n (2 ^ hbits w)) → Has w (pos n) (pos n) n
-lit n t = one (le-refl n) t
+lit n t = one (pos n) (le-refl n) t
 
 -- with a nearer bound
 pub at-most : {w : Width} {e z : ℤ} {b : ℕ} (d : ℕ) → Has w e z b → natAbs z ≤ d → T (ltb d (2 ^ hbits w)) → Has w e z d
@@ -106,6 +112,10 @@ wide {z} f = record { is = toZ-ofZ f; size = natAbs-le z (f .sfits); room = lit<
 
 pub wide-nat : {n : ℕ} → Fits w32 n → Has w64 (toZ w64 n) (pos n) 4294967296
 wide-nat {n} f = record { is = toZ-pos w64 (lt-trans (f .fits) (lit< tt)); size = le-of-lt (f .fits); room = lit< tt }
+
+-- a `u32` that a signed number of its width holds too, cast to it: its bits are the number itself
+pub same-bits : {w : Width} {n b : ℕ} → n ≤ b → T (ltb b (2 ^ hbits w)) → Has w (toZ w n) (pos n) b
+same-bits {w} {n} {b} h t = record { is = toZ-pos w (lt-of-le-of-lt h (ltb→lt b (2 ^ hbits w) t)); size = h; room = ltb→lt b (2 ^ hbits w) t }
 
 -- the operations, over operands as they stand: a local is read by `back`
 module _ {w : Width} {e f y z : ℤ} {b d : ℕ} (h : Has w e y b) (k : Has w f z d) where

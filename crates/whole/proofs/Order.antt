@@ -2,11 +2,12 @@
 use mathlib.Core.Path.{_≡_, refl, sym, subst}
 use mathlib.Core.Logic.{_⊎_, inl, inr}
 use Prim.Native.Nat.{ℕ, zero, suc, _+_, _*_, _≤_, _<_}
+use native.Mathlib.Decide.{decLt}
 use native.Mathlib.Nat.{mul-pos}
 use native.Mathlib.Omega.{arith}
 use lib.IntN.{ℤ, pos, negsuc, negℤ, _+ℤ_, _-ℤ_, _*ℤ_}
 use lib.Signed.{_≤ℤ_, _<ℤ_, ltZ}
-use Rattle.whole.proofs.Difference.{up, dn, as-mk, mks, mk-eq, mk-le, mk-lt, le-mk, lt-mk, le-nat, lt-nat, nat-le, nat-lt, nat-eq}
+use Rattle.whole.proofs.Difference.{up, dn, as-mk, mks, mk-eq, mk-le, mk-lt, le-mk, lt-mk, le-nat, lt-nat, nat-le, nat-lt, nat-eq, eq-nat}
 
 -- ---- what `omega` does through the two parts: transitivity, antisymmetry, and any chain of variables and literals
 pub le-trans : {a b c : ℤ} → a ≤ℤ b → b ≤ℤ c → a ≤ℤ c
@@ -15,8 +16,31 @@ le-trans {a} {b} {c} h k = nat-le (omega (arith, le-nat h, le-nat k))
 pub le-antisym : {a b : ℤ} → a ≤ℤ b → b ≤ℤ a → a ≡ b
 le-antisym {a} {b} h k = nat-eq (omega (arith, le-nat h, le-nat k))
 
+pub le-self : (a : ℤ) → a ≤ℤ a
+le-self a = nat-le (omega arith)
+
+pub le-of : {a b : ℤ} → a ≡ b → a ≤ℤ b
+le-of {a} {b} h = nat-le (omega (arith, eq-nat h))
+
 pub lt-le : {a b : ℤ} → a <ℤ b → a ≤ℤ b
 lt-le {a} {b} h = nat-le (omega (arith, lt-nat h))
+
+pub lt-apart : {a b : ℤ} → a <ℤ b → a ≡ b → ⊥
+lt-apart {a} {b} h k = omega (arith, lt-nat h, eq-nat k)
+
+pub lt-of : {a b : ℤ} → a ≤ℤ b → (a ≡ b → ⊥) → a <ℤ b
+lt-of {a} {b} h k = go (decLt (up a + dn b) (up b + dn a))
+  where
+    go : Dec (up a + dn b < up b + dn a) → a <ℤ b
+    go (yes l) = nat-lt l
+    go (no l) = absurd (k (nat-eq (omega (arith, le-nat h))))
+
+-- one more
+pub le-lt-more : {a b : ℤ} → a ≤ℤ b → a <ℤ (b +ℤ pos 1)
+le-lt-more {a} {b} h = rw (as-mk a, as-mk b) (simp mks (mk-lt _ _ _ _ (omega (arith, le-nat h))))
+
+pub lt-more-le : {a b : ℤ} → a <ℤ b → (a +ℤ pos 1) ≤ℤ b
+lt-more-le {a} {b} h = rw (as-mk a, as-mk b) (simp mks (mk-le _ _ _ _ (omega (arith, lt-nat h))))
 
 -- ---- a difference that is not negative
 pub le-sub : (a b : ℤ) → a ≤ℤ b → pos 0 ≤ℤ (b -ℤ a)
@@ -27,8 +51,20 @@ sub-le a b h =
     let g = le-mk _ _ _ _ (simp mks at (rw (as-mk a, as-mk b) at h)) in
     nat-le (omega arith)
 
+pub lt-sub : (a b : ℤ) → a <ℤ b → (a -ℤ b) <ℤ pos 0
+lt-sub a b h = rw (as-mk a, as-mk b) (simp mks (mk-lt _ _ _ _ (omega (arith, lt-nat h))))
+
 pub nonneg-add : (a b : ℤ) → pos 0 ≤ℤ a → pos 0 ≤ℤ b → pos 0 ≤ℤ (a +ℤ b)
 nonneg-add a b h k = rw (as-mk a, as-mk b) (simp mks (mk-le _ _ _ _ (omega (arith, le-nat h, le-nat k))))
+
+-- ---- the same on both sides
+pub le-move : (a b v : ℤ) → a ≤ℤ b → (a +ℤ v) ≤ℤ (b +ℤ v)
+le-move a b v h = rw (as-mk a, as-mk b, as-mk v) (simp mks (mk-le _ _ _ _ (omega (arith, le-nat h))))
+
+pub move-le : (a b v : ℤ) → (a +ℤ v) ≤ℤ (b +ℤ v) → a ≤ℤ b
+move-le a b v h =
+    let g = le-mk _ _ _ _ (simp mks at (rw (as-mk a, as-mk b, as-mk v) at h)) in
+    nat-le (omega arith)
 
 -- ---- products, by the signs
 pub nonneg-mul : (a b : ℤ) → pos 0 ≤ℤ a → pos 0 ≤ℤ b → pos 0 ≤ℤ (a *ℤ b)

@@ -1,0 +1,261 @@
+-- Laws of a walker: how large its numbers are, where it stands, and what a major and a minor move do. That its k-th point is the rule's
+-- rests on one thing: its error keeps m within the band that fixes it. Assumes nothing.
+use mathlib.Core.Path.{_≡_, refl, sym, ap, ap₂, subst, _∙_}
+use mathlib.Core.Bool.{Bool, true, false, cond}
+use Prim.Native.Nat.{ℕ, zero, suc, _+_, _*_, _-_, _≤_, _<_}
+use native.Mathlib.Nat.{mul-le-mul-right, lt-of-mul-lt-mul-left}
+use native.Mathlib.Omega.{arith}
+use lib.Dec.{T, ltb}
+use lib.IntN.{ℤ, pos, negsuc, negℤ, natAbs, _+ℤ_, _-ℤ_, _*ℤ_, zero-*ℤ, +ℤ-idr}
+use lib.Signed.{_≤ℤ_, _<ℤ_}
+use mir.Syntax.{w32}
+use mir.Val.{toZ, ofZ}
+use Rattle.whole.proofs.Difference.{as-mk, mks, mk-eq, mk-lt, mk-le, lt-mk, le-mk, lt-nat, le-nat}
+use Rattle.whole.proofs.Machine.{Has, read, add-size, mul-size, minus-within}
+use Rattle.geometry.specs.declared.Point.{Point}
+use Rattle.geometry.specs.Bound.{Bounded}
+use Rattle.geometry.proofs.Bound.{coord-size}
+use Rattle.line.specs.declared.Course.{Course}
+use Rattle.line.specs.declared.Walker.{Walker}
+use Rattle.line.specs.Line.{toward, wide, high, steep, major, minor, moves, xMoves, yMoves, pointAt}
+use Rattle.line.specs.Walk.{CourseOf, Stands, DueAt, WalkerAt}
+use Rattle.line.proofs.Moves.{moves-is}
+use Rattle.line.proofs.Lengths.{narrow, major-by, minor-by, major-size, minor-size, toward-size}
+
+-- ---- the parameters of a line, by its major axis
+module _ {s e : Point} {c : Course} (b : Bool) (axis : steep s e ≡ b) where
+  pub course-by : c .threshold ≡ pos (cond b (high s e) (wide s e)) → c .up ≡ pos (2 * cond b (wide s e) (high s e)) → c .down ≡ pos (2 * cond b (high s e) (wide s e))
+      → c .xmajor ≡ cond b (pos 0) (toward (s .0) (e .0)) → c .ymajor ≡ cond b (toward (s .1) (e .1)) (pos 0)
+      → c .xminor ≡ cond b (toward (s .0) (e .0)) (pos 0) → c .yminor ≡ cond b (pos 0) (toward (s .1) (e .1)) → CourseOf s e c
+  course-by th u d xa ya xi yi =
+      record {
+        threshold = th ∙ ap pos (sym (major-by s e b axis));
+        up = u ∙ ap (λ (n : ℕ). pos (2 * n)) (sym (minor-by s e b axis));
+        down = d ∙ ap (λ (n : ℕ). pos (2 * n)) (sym (major-by s e b axis));
+        major-x = xa ∙ ap (λ (t : Bool). cond t (pos 0) (toward (s .0) (e .0))) (sym axis);
+        major-y = ya ∙ ap (λ (t : Bool). cond t (toward (s .1) (e .1)) (pos 0)) (sym axis);
+        minor-x = xi ∙ ap (λ (t : Bool). cond t (toward (s .0) (e .0)) (pos 0)) (sym axis);
+        minor-y = yi ∙ ap (λ (t : Bool). cond t (pos 0) (toward (s .1) (e .1))) (sym axis);
+      }
+
+-- ---- sizes
+cond-size : (b : Bool) (y z : ℤ) → natAbs y ≤ 1 → natAbs z ≤ 1 → natAbs (cond b y z) ≤ 1
+cond-size true y z h k = h
+cond-size false y z h k = k
+
+place-size : (s a b : ℤ) (k m : ℕ) → natAbs a ≤ 1 → natAbs b ≤ 1 → natAbs (s +ℤ a *ℤ pos k +ℤ b *ℤ pos m) ≤ natAbs s + k + m
+place-size s a b k m h g =
+    omega (arith, add-size (s +ℤ a *ℤ pos k) (b *ℤ pos m), add-size s (a *ℤ pos k), mul-size a (pos k), mul-size b (pos m), mul-le-mul-right k h, mul-le-mul-right m g)
+
+-- a field that is read: it is z, which is y, and y is at most n from 0
+read-as : {z y : ℤ} {n : ℕ} → z ≡ y → natAbs y ≤ n → T (ltb n 2147483648) → Has w32 (toZ w32 (ofZ w32 z)) z n
+read-as {z} {n = n} e h t = read z (subst (λ (v : ℤ). natAbs v ≤ n) (sym e) h) t
+
+module _ {s e : Point} {c : Course} (h : CourseOf s e c) where
+  pub xmajor-read : Has w32 (toZ w32 (ofZ w32 (c .xmajor))) (c .xmajor) 1
+  xmajor-read = read-as (h .major-x) (cond-size (steep s e) (pos 0) (toward (s .0) (e .0)) (omega arith) (toward-size (s .0) (e .0))) tt
+
+  pub ymajor-read : Has w32 (toZ w32 (ofZ w32 (c .ymajor))) (c .ymajor) 1
+  ymajor-read = read-as (h .major-y) (cond-size (steep s e) (toward (s .1) (e .1)) (pos 0) (toward-size (s .1) (e .1)) (omega arith)) tt
+
+  pub xminor-read : Has w32 (toZ w32 (ofZ w32 (c .xminor))) (c .xminor) 1
+  xminor-read = read-as (h .minor-x) (cond-size (steep s e) (toward (s .0) (e .0)) (pos 0) (toward-size (s .0) (e .0)) (omega arith)) tt
+
+  pub yminor-read : Has w32 (toZ w32 (ofZ w32 (c .yminor))) (c .yminor) 1
+  yminor-read = read-as (h .minor-y) (cond-size (steep s e) (pos 0) (toward (s .1) (e .1)) (omega arith) (toward-size (s .1) (e .1))) tt
+
+  module _ (start : Bounded s) (end : Bounded e) where
+    pub threshold-read : Has w32 (toZ w32 (ofZ w32 (c .threshold))) (c .threshold) 262144
+    threshold-read = read-as (h .threshold) (major-size start end) tt
+
+    pub up-read : Has w32 (toZ w32 (ofZ w32 (c .up))) (c .up) 524288
+    up-read = read-as (h .up) (omega (arith, minor-size start end)) tt
+
+    pub down-read : Has w32 (toZ w32 (ofZ w32 (c .down))) (c .down) 524288
+    down-read = read-as (h .down) (omega (arith, major-size start end)) tt
+
+module _ {s e : Point} {k m : ℕ} {w : Walker} (h : Stands s e k m w) where
+  pub x-read : k ≤ major s e + 1 → Has w32 (toZ w32 (ofZ w32 (w .x))) (w .x) 655362
+  x-read l =
+      read-as (h .x)
+      (omega (arith, place-size (s .0) (w .course .xmajor) (w .course .xminor) k m (xmajor-read (h .course) .size) (xminor-read (h .course) .size), coord-size (h .start .x), major-size (h .start) (h .end), h .few)) tt
+
+  pub y-read : k ≤ major s e + 1 → Has w32 (toZ w32 (ofZ w32 (w .y))) (w .y) 655362
+  y-read l =
+      read-as (h .y)
+      (omega (arith, place-size (s .1) (w .course .ymajor) (w .course .yminor) k m (ymajor-read (h .course) .size) (yminor-read (h .course) .size), coord-size (h .start .y), major-size (h .start) (h .end), h .few)) tt
+
+  pub error-read : 2 * minor s e * k ≤ 2 * major s e * m + major s e + 2 * minor s e → Has w32 (toZ w32 (ofZ w32 (w .error))) (w .error) 786432
+  error-read u =
+      read-as (h .error)
+      (minus-within (2 * minor s e * k) (2 * major s e * m) 786432 (omega (arith, h .low, major-size (h .start) (h .end), minor-size (h .start) (h .end))) (omega (arith, h .low, major-size (h .start) (h .end)))) tt
+
+-- ---- the point it stands at
+axis-x : (b : Bool) (s d : ℤ) (k m : ℕ) → s +ℤ cond b (pos 0) d *ℤ pos k +ℤ cond b d (pos 0) *ℤ pos m ≡ s +ℤ d *ℤ pos (cond b m k)
+axis-x true s d k m = ap (λ (z : ℤ). s +ℤ z +ℤ d *ℤ pos m) (zero-*ℤ (pos k)) ∙ ap (λ (z : ℤ). z +ℤ d *ℤ pos m) (+ℤ-idr s)
+axis-x false s d k m = ap (λ (z : ℤ). s +ℤ d *ℤ pos k +ℤ z) (zero-*ℤ (pos m)) ∙ +ℤ-idr (s +ℤ d *ℤ pos k)
+
+axis-y : (b : Bool) (s d : ℤ) (k m : ℕ) → s +ℤ cond b d (pos 0) *ℤ pos k +ℤ cond b (pos 0) d *ℤ pos m ≡ s +ℤ d *ℤ pos (cond b k m)
+axis-y true s d k m = ap (λ (z : ℤ). s +ℤ d *ℤ pos k +ℤ z) (zero-*ℤ (pos m)) ∙ +ℤ-idr (s +ℤ d *ℤ pos k)
+axis-y false s d k m = ap (λ (z : ℤ). s +ℤ z +ℤ d *ℤ pos m) (zero-*ℤ (pos k)) ∙ ap (λ (z : ℤ). z +ℤ d *ℤ pos m) (+ℤ-idr s)
+
+-- so many moves by the line's parameters lead to the rule's point
+module _ {s e : Point} {c : Course} (course : CourseOf s e c) (k : ℕ) where
+  pub course-x : s .0 +ℤ c .xmajor *ℤ pos k +ℤ c .xminor *ℤ pos (moves (major s e) (minor s e) k) ≡ pointAt s e k .0
+  unfolding xMoves pointAt
+  course-x =
+      ap₂ (λ (a b : ℤ). s .0 +ℤ a *ℤ pos k +ℤ b *ℤ pos (moves (major s e) (minor s e) k)) (course .major-x) (course .minor-x)
+      ∙ axis-x (steep s e) (s .0) (toward (s .0) (e .0)) k (moves (major s e) (minor s e) k)
+
+  pub course-y : s .1 +ℤ c .ymajor *ℤ pos k +ℤ c .yminor *ℤ pos (moves (major s e) (minor s e) k) ≡ pointAt s e k .1
+  unfolding yMoves pointAt
+  course-y =
+      ap₂ (λ (a b : ℤ). s .1 +ℤ a *ℤ pos k +ℤ b *ℤ pos (moves (major s e) (minor s e) k)) (course .major-y) (course .minor-y)
+      ∙ axis-y (steep s e) (s .1) (toward (s .1) (e .1)) k (moves (major s e) (minor s e) k)
+
+module _ {s e : Point} {k : ℕ} {w : Walker} (at : WalkerAt s e k w) (walked : k ≤ major s e) where
+  m-is : at .m ≡ moves (major s e) (minor s e) k
+  m-is = sym (moves-is (major s e) (minor s e) k (at .m) walked (at .stands .few) (record { low = at .stands .low; high = at .near }))
+
+  pub stands-x : w .x ≡ pointAt s e k .0
+  stands-x = at .stands .x ∙ ap (λ (n : ℕ). s .0 +ℤ w .course .xmajor *ℤ pos k +ℤ w .course .xminor *ℤ pos n) m-is ∙ course-x (at .stands .course) k
+
+  pub stands-y : w .y ≡ pointAt s e k .1
+  stands-y = at .stands .y ∙ ap (λ (n : ℕ). s .1 +ℤ w .course .ymajor *ℤ pos k +ℤ w .course .yminor *ℤ pos n) m-is ∙ course-y (at .stands .course) k
+
+-- ---- moves over ℤ
+more-major : (s a b k m : ℤ) → (s +ℤ a *ℤ k +ℤ b *ℤ m) +ℤ a ≡ s +ℤ a *ℤ (k +ℤ pos 1) +ℤ b *ℤ m
+more-major s a b k m = rw (as-mk s, as-mk a, as-mk b, as-mk k, as-mk m) (simp mks (mk-eq _ _ _ _ (omega arith)))
+
+more-minor : (s a b k m : ℤ) → (s +ℤ a *ℤ k +ℤ b *ℤ m) +ℤ b ≡ s +ℤ a *ℤ k +ℤ b *ℤ (m +ℤ pos 1)
+more-minor s a b k m = rw (as-mk s, as-mk a, as-mk b, as-mk k, as-mk m) (simp mks (mk-eq _ _ _ _ (omega arith)))
+
+less : (x y z : ℤ) → (x -ℤ y) -ℤ z ≡ x -ℤ (y +ℤ z)
+less x y z = rw (as-mk x, as-mk y, as-mk z) (simp mks (mk-eq _ _ _ _ (omega arith)))
+
+more : (x y z : ℤ) → (x -ℤ y) +ℤ z ≡ (x +ℤ z) -ℤ y
+more x y z = rw (as-mk x, as-mk y, as-mk z) (simp mks (mk-eq _ _ _ _ (omega arith)))
+
+over : (t x y : ℤ) → t <ℤ (x -ℤ y) → (t +ℤ y) <ℤ x
+over t x y h =
+    let g = lt-mk _ _ _ _ (simp mks at (rw (as-mk t, as-mk x, as-mk y) at h)) in
+    rw (as-mk t, as-mk x, as-mk y) (simp mks (mk-lt _ _ _ _ (omega arith)))
+
+under : (t x y : ℤ) → (x -ℤ y) ≤ℤ t → x ≤ℤ (t +ℤ y)
+under t x y h =
+    let g = le-mk _ _ _ _ (simp mks at (rw (as-mk t, as-mk x, as-mk y) at h)) in
+    rw (as-mk t, as-mk x, as-mk y) (simp mks (mk-le _ _ _ _ (omega arith)))
+
+-- ---- moves over ℕ: M major, n minor, k steps, m minor moves
+twice-more : (n k : ℕ) → 2 * n * k + 2 * n ≡ 2 * n * (k + 1)
+twice-more n k = omega arith
+
+positive : (M n k m : ℕ) → n ≤ M → M + 2 * M * m < 2 * n * k → 0 < M
+positive zero zero k m h t = absurd (omega arith)
+positive zero (suc n) k m h t = absurd (omega arith)
+positive (suc M) n k m h t = omega arith
+
+-- a minor move that is due: there are still no more minor moves than steps
+still-few : (M n k m : ℕ) → n ≤ M → M + 2 * M * m < 2 * n * k → m + 1 ≤ k
+still-few M n k m h t =
+    let a : n * k ≤ M * k = mul-le-mul-right k h in
+    let p : 0 < M = positive M n k m h t in
+    let b : M * m < M * k = omega arith in
+    let d : m < k = lt-of-mul-lt-mul-left M b in
+    omega arith
+
+still-low : (M n k m : ℕ) → M + 2 * M * m < 2 * n * k → 2 * M * (m + 1) ≤ 2 * n * k + (M - 1)
+still-low M n k m h = omega arith
+
+then-near : (M n k m : ℕ) → n ≤ M → 2 * n * k ≤ 2 * M * m + M + 2 * n → 2 * n * k ≤ 2 * M * (m + 1) + M
+then-near M n k m h u = omega arith
+
+-- a major move
+later-low : (M n k m : ℕ) → 2 * M * m ≤ 2 * n * k + (M - 1) → 2 * M * m ≤ 2 * n * (k + 1) + (M - 1)
+later-low M n k m h = omega arith
+
+then-due : (M n k m : ℕ) → 2 * n * k ≤ 2 * M * m + M → 2 * n * (k + 1) ≤ 2 * M * m + M + 2 * n
+then-due M n k m h = omega arith
+
+-- ---- the walker's moves, to a walker r of the same course
+module _ {s e : Point} {k : ℕ} {w r : Walker} (same : r .course ≡ w .course) where
+  -- the minor move, where it is due
+  pub settles : DueAt s e k w → w .course .threshold <ℤ w .error
+      → r .x ≡ w .x +ℤ w .course .xminor → r .y ≡ w .y +ℤ w .course .yminor → r .error ≡ w .error -ℤ w .course .down → WalkerAt s e k r
+  settles h t rx ry re =
+      let st = h .stands in
+      let M = major s e in
+      let n = minor s e in
+      let m = h .m in
+      let above : pos M <ℤ (pos (2 * n * k) -ℤ pos (2 * M * m)) = subst (λ (z : ℤ). pos M <ℤ z) (st .error) (subst (λ (z : ℤ). z <ℤ w .error) (st .course .threshold) t) in
+      let due : M + 2 * M * m < 2 * n * k = omega (arith, lt-nat (over (pos M) (pos (2 * n * k)) (pos (2 * M * m)) above)) in
+      record {
+        m = m + 1;
+        stands = record {
+          start = st .start;
+          end = st .end;
+          course = subst (CourseOf s e) (sym same) (st .course);
+          x = rx ∙ ap (λ (z : ℤ). z +ℤ w .course .xminor) (st .x) ∙ more-minor (s .0) (w .course .xmajor) (w .course .xminor) (pos k) (pos m) ∙ ap (λ (c : Course). s .0 +ℤ c .xmajor *ℤ pos k +ℤ c .xminor *ℤ pos (m + 1)) (sym same);
+          y = ry ∙ ap (λ (z : ℤ). z +ℤ w .course .yminor) (st .y) ∙ more-minor (s .1) (w .course .ymajor) (w .course .yminor) (pos k) (pos m) ∙ ap (λ (c : Course). s .1 +ℤ c .ymajor *ℤ pos k +ℤ c .yminor *ℤ pos (m + 1)) (sym same);
+          error = re ∙ ap₂ _-ℤ_ (st .error) (st .course .down) ∙ less (pos (2 * n * k)) (pos (2 * M * m)) (pos (2 * M)) ∙ ap (λ (a : ℕ). pos (2 * n * k) -ℤ pos a) (twice-more M m);
+          few = still-few M n k m (narrow s e) due;
+          low = still-low M n k m due;
+        };
+        near = then-near M n k m (narrow s e) (h .due);
+      }
+
+  -- the major move
+  pub advances : WalkerAt s e k w → r .x ≡ w .x +ℤ w .course .xmajor → r .y ≡ w .y +ℤ w .course .ymajor → r .error ≡ w .error +ℤ w .course .up → DueAt s e (k + 1) r
+  advances h rx ry re =
+      let st = h .stands in
+      let M = major s e in
+      let n = minor s e in
+      let m = h .m in
+      record {
+        m = m;
+        stands = record {
+          start = st .start;
+          end = st .end;
+          course = subst (CourseOf s e) (sym same) (st .course);
+          x = rx ∙ ap (λ (z : ℤ). z +ℤ w .course .xmajor) (st .x) ∙ more-major (s .0) (w .course .xmajor) (w .course .xminor) (pos k) (pos m) ∙ ap (λ (c : Course). s .0 +ℤ c .xmajor *ℤ pos (k + 1) +ℤ c .xminor *ℤ pos m) (sym same);
+          y = ry ∙ ap (λ (z : ℤ). z +ℤ w .course .ymajor) (st .y) ∙ more-major (s .1) (w .course .ymajor) (w .course .yminor) (pos k) (pos m) ∙ ap (λ (c : Course). s .1 +ℤ c .ymajor *ℤ pos (k + 1) +ℤ c .yminor *ℤ pos m) (sym same);
+          error = re ∙ ap₂ _+ℤ_ (st .error) (st .course .up) ∙ more (pos (2 * n * k)) (pos (2 * M * m)) (pos (2 * n)) ∙ ap (λ (a : ℕ). pos a -ℤ pos (2 * M * m)) (twice-more n k);
+          few = omega (arith, st .few);
+          low = later-low M n k m (st .low);
+        };
+        due = then-due M n k m (h .near);
+      }
+
+-- no minor move is due
+pub settles-not : {s e : Point} {k : ℕ} {w : Walker} → DueAt s e k w → w .error ≤ℤ w .course .threshold → WalkerAt s e k w
+settles-not {s} {e} {k} {w} h t =
+    let st = h .stands in
+    let M = major s e in
+    let n = minor s e in
+    let m = h .m in
+    let within : (pos (2 * n * k) -ℤ pos (2 * M * m)) ≤ℤ pos M = subst (λ (z : ℤ). z ≤ℤ pos M) (st .error) (subst (λ (z : ℤ). w .error ≤ℤ z) (st .course .threshold) t) in
+    record { m = m; stands = st; near = omega (arith, le-nat (under (pos M) (pos (2 * n * k)) (pos (2 * M * m)) within)) }
+
+-- a walker that has not moved
+pub begins : (s e : Point) (w : Walker) → Bounded s → Bounded e → CourseOf s e (w .course) → w .x ≡ s .0 → w .y ≡ s .1 → w .error ≡ pos 0 → WalkerAt s e 0 w
+begins s e w hs he hc x y er =
+    record {
+      m = 0;
+      stands = record {
+        start = hs;
+        end = he;
+        course = hc;
+        x = x ∙ sym (still (s .0) (w .course .xmajor) (w .course .xminor));
+        y = y ∙ sym (still (s .1) (w .course .ymajor) (w .course .yminor));
+        error = er ∙ ap₂ (λ (a b : ℕ). pos a -ℤ pos b) (nought (minor s e)) (nought (major s e));
+        few = omega arith;
+        low = omega arith;
+      };
+      near = omega arith;
+    }
+  where
+    still : (s a b : ℤ) → s +ℤ a *ℤ pos 0 +ℤ b *ℤ pos 0 ≡ s
+    still s a b = rw (as-mk s, as-mk a, as-mk b) (simp mks (mk-eq _ _ _ _ (omega arith)))
+
+    nought : (n : ℕ) → 0 ≡ 2 * n * 0
+    nought n = omega arith

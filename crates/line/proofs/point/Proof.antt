@@ -1,0 +1,59 @@
+-- `line::point` refuses by 5, then by 7, and else gives the point at the step. Assumes nothing.
+use mathlib.Core.Path.{_≡_, sym, ap, ap₂, _∙_}
+use Prim.Native.Nat.{ℕ, _≤_, _<_}
+use native.Mathlib.Omega.{arith}
+use borrow.Author.Needs.{needs}
+use Rattle.geometry.specs.Bound.{Bounded}
+use Rattle.line.specs.Line.{major, pointAt}
+use Rattle.line.specs.Answer.{stepAnswer}
+use Rattle.line.proofs.Answer.{step-refused}
+use Rattle.line.proofs.Refusals.{is-accepted, refused-7, reached, refused-first}
+use Rattle.line.proofs.point.Statement.{statement}
+use Rattle.line.proofs.point.Tie as tie
+
+refusal-requires : tie.Need-refusal-requires
+refusal-requires c κs = search needs
+
+returns : tie.Need-returns
+returns c =
+    let s = c .before .before in
+    let p = pointAt (s .args .start) (s .args .end) (s .args .step) in
+    step-refused _ p (c .if1 .taken)
+    ∙ ap (λ (r : ℕ). stepAnswer r p) (c .before .refusal .ensures ∙ refused-first (s .args .start) (s .args .end) _ (λ e. c .if1 .taken (c .before .refusal .ensures ∙ e)))
+
+-- past the test both ends are in bounds
+ends : (c : tie.Else1) → Bounded (c .before .before .args .start) × Bounded (c .before .before .args .end)
+ends c = is-accepted (c .before .before .args .start) (c .before .before .args .end) (sym (c .before .refusal .ensures) ∙ c .if1 .left)
+
+last-step-requires : tie.Need-last-step-requires
+last-step-requires c κs = ends c
+
+returns-2 : tie.Need-returns-2
+returns-2 c =
+    let s = c .before .before .before .before in
+    let b = ends (c .before .before) in
+    let past : major (s .args .start) (s .args .end) < s .args .step = omega (arith, c .before .last-step .ensures) in
+    ap (λ (r : ℕ). stepAnswer r (pointAt (s .args .start) (s .args .end) (s .args .step))) (sym (refused-7 (s .args .start) (s .args .end) (s .args .step) (b .0) (b .1) past))
+
+within : (c : tie.Else2) → c .before .before .before .before .args .step ≤ major (c .before .before .before .before .args .start) (c .before .before .before .before .args .end)
+within c = omega (arith, c .before .last-step .ensures)
+
+point-at-requires : tie.Need-point-at-requires
+point-at-requires c κs = (ends (c .before .before), within c)
+
+returns-3 : tie.Need-returns-3
+returns-3 c =
+    let s = c .before .before .before .before .before in
+    let b = ends (c .before .before .before) in
+    ap₂ stepAnswer (sym (reached (s .args .start) (s .args .end) (s .args .step) (b .0) (b .1) (within (c .before)))) (c .point-at .ensures)
+
+pub point-spec : {M : Type 1} → statement M
+point-spec =
+    tie.close
+    (tie.spec
+    refusal-requires
+    returns
+    last-step-requires
+    returns-2
+    point-at-requires
+    returns-3)

@@ -1,4 +1,4 @@
--- What the code works out from a pixel coordinate z and a diameter d, in 64 bits: nothing wraps. Assumes nothing.
+-- What the code works out from coordinates, places and a diameter, as numbers of ℤ: nothing wraps. Assumes nothing.
 use mathlib.Core.Path.{_≡_, ap₂, subst}
 use Prim.Native.Nat.{ℕ, _*_, _^_, _<_, _≤_}
 use lib.Dec.{lit<}

@@ -99,6 +99,9 @@ fn boxed<F: Frame + 'static>(new: fn() -> F) -> Box<dyn Frame> {
     Box::new(new())
 }
 
+/// What may change the bytes. Where the Rust can't do it, its bytes are unknown until the next frame.
+const CHANGES: [&str; 7] = ["preset", "pixel", "fill", "line", "triangle", "outline", "circle"];
+
 /// The frame described last; none if the Rust can't have it.
 #[derive(Default)]
 pub struct Frames(Option<Described>);
@@ -115,7 +118,11 @@ impl Frames {
             self.0 = None;
             return self.describe((width, height), depth, order, length);
         }
-        self.0.as_mut()?.answer(question, figures)
+        let answer = self.0.as_mut()?.answer(question, figures);
+        if answer.is_none() && CHANGES.contains(&question.word) {
+            self.0 = None;
+        }
+        answer
     }
 
     /// A buffer too short for the frame is the Rust's failed assertion at compile time.

@@ -1,11 +1,13 @@
 """All kinds of cases by name: those that leave nothing out, once, and random ones, a batch a round."""
 
+from itertools import product
+
 from . import corners, frames, grids
 from .figures import Figures
 from .frames import Drawings
 from .refusals import Limits
 
-SMALL_FRAMES = [(width, height) for width in (0, 1, 2, 3, 5, 8, 9, 13, 17, 24, 33) for height in (0, 1, 2, 5, 12, 20)]
+FRAMES = [*product((0, 1, 2, 3, 5, 8, 9, 13, 17, 24, 33), (0, 1, 2, 5, 12, 20)), (100, 80), (320, 9), (2, 2_048), (2_048, 2)]
 
 
 def once_by_rust(random, sizes):
@@ -24,11 +26,11 @@ def once_by_rust(random, sizes):
 def round_by_rust(random, sizes):
     """Kinds and what makes a batch, which the Rust can answer."""
     near = Figures(random, corners.LOW, corners.HIGH, corners.LOW, corners.HIGH)
-    drawings = Drawings(random, sizes, with_fill=False, refused=0)
+    drawings = Drawings(random, sizes, reach=4_000, with_fill=False, refused=0)
     return {
-        "lines": near.lines,
-        "triangles": near.triangles,
-        "circles": near.circles,
+        "lines": lambda: near.lines(8_000),
+        "triangles": lambda: near.triangles(8_000),
+        "circles": lambda: near.circles(800),
         "drawing": lambda: drawings.sequences(300),
     }
 
@@ -36,14 +38,14 @@ def round_by_rust(random, sizes):
 def round_by_model(random):
     """Kinds and what makes a batch, beyond what the Rust can answer."""
     far = Figures(random, -131_072, 131_071, -(2**31), 2**31 - 1)
-    drawings = Drawings(random, SMALL_FRAMES, with_fill=True, refused=0.2)
+    drawings = Drawings(random, FRAMES, reach=130_000, with_fill=True, refused=0.2)
     limits = Limits(random)
     return {
-        "far lines": far.lines,
-        "far triangles": far.triangles,
-        "far circles": far.circles,
-        "drawing, fills and refused calls": lambda: drawings.sequences(100),
-        "questions at their limits": limits.questions,
-        "calls at their limits": limits.calls,
-        "bad lines": limits.bad_lines,
+        "far lines": lambda: far.lines(1_000),
+        "far triangles": lambda: far.triangles(1_000),
+        "far circles": lambda: far.circles(100),
+        "drawing, fills and refused calls": lambda: drawings.sequences(300),
+        "questions at their limits": lambda: limits.questions(3_000),
+        "calls at their limits": lambda: limits.calls(300),
+        "bad lines": lambda: limits.bad_lines(3_000),
     }

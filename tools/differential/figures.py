@@ -2,8 +2,6 @@
 
 from .questions import box_of, on_circle, on_line, on_triangle, steps_of
 
-FIGURES_IN_BATCH = 2_000
-
 
 class Figures:
     """Figures whose coordinates lie from low to high, asked about pixels from pixel_low to pixel_high."""
@@ -14,14 +12,14 @@ class Figures:
         self.pixel_low, self.pixel_high = pixel_low, pixel_high
         self.doublings = (high - low + 1).bit_length() - 1
 
-    def lines(self):
-        return [line for _ in range(FIGURES_IN_BATCH) for line in self.line()]
+    def lines(self, count):
+        return [line for _ in range(count) for line in self.line()]
 
-    def triangles(self):
-        return [line for _ in range(FIGURES_IN_BATCH) for line in self.triangle()]
+    def triangles(self, count):
+        return [line for _ in range(count) for line in self.triangle()]
 
-    def circles(self):
-        return [line for _ in range(FIGURES_IN_BATCH // 10) for line in self.circle()]
+    def circles(self, count):
+        return [line for _ in range(count) for line in self.circle()]
 
     def line(self):
         start, end = self.within(self.scattered(2, self.reach()))

@@ -3,7 +3,7 @@
 from itertools import product
 
 from model.frames import Frame
-from model.replay import BYTES
+from model.replay import BYTES, MOST_DUMPED
 
 from .questions import asked
 
@@ -15,9 +15,10 @@ def size_of(width, height, depth):
     return Frame(width, height, depth, False).size()
 
 
-def dump(size):
-    """The frame's bytes and some of the tail, as far as one line takes them."""
-    return asked("dump", 0, min(size + 8, 4_096))
+def dumps(size):
+    """The frame's bytes and some of the tail, in as many lines as they need."""
+    end = min(size + 8, BYTES)
+    return [asked("dump", start, min(end - start, MOST_DUMPED)) for start in range(0, end, MOST_DUMPED)]
 
 
 def every_pixel(random, sizes):
@@ -32,15 +33,15 @@ def one_by_one(random, width, height, depth, order):
     lines = [asked("frame", width, height, depth, order, size), asked("preset", random.choice([0, 85, 165, 255]))]
     for x, y in product(range(-1, width + 1), range(-1, height + 1)):
         colour = random.choice([0, 2**depth - 1, random.randrange(2**depth)])
-        lines += [asked("pixel", x, y, colour), asked("read", x, y), dump(size)]
+        lines += [asked("pixel", x, y, colour), asked("read", x, y), *dumps(size)]
     return lines
 
 
 class Drawings:
-    """Sequences of calls on frames of the given sizes; with_fill and refused say what the other side can answer."""
+    """Sequences of calls on frames of the given sizes, on and around them as far as reach; of the calls, the part refused is."""
 
-    def __init__(self, random, sizes, with_fill, refused):
-        self.random, self.sizes, self.refused = random, sizes, refused
+    def __init__(self, random, sizes, reach, with_fill, refused):
+        self.random, self.sizes, self.reach, self.refused = random, sizes, reach, refused
         self.calls = [self.pixel, self.line, self.triangle, self.outline, self.circle] + [self.fill] * with_fill
 
     def sequences(self, count):
@@ -57,8 +58,9 @@ class Drawings:
             yield asked("preset", self.random.randrange(256))
         for _ in range(self.random.randint(1, 12)):
             yield self.call(width, height, depth)
-            yield dump(size)
+            yield self.random.choice(dumps(size))
             yield asked("read", *self.place(width, height))
+        yield from dumps(size)
 
     def call(self, width, height, depth):
         colour = self.random.choice([0, 2**depth - 1, self.random.randrange(2**depth)])
@@ -96,5 +98,5 @@ class Drawings:
 
     def place(self, width, height):
         """A place in the frame, near it or far away."""
-        reach = self.random.choice([0, 0, 2, 10, 1_000])
+        reach = self.random.choice([0, 0, 2, 10, self.reach])
         return tuple(self.random.randint(-reach, max(side - 1, 0) + reach) for side in (width, height))

@@ -20,8 +20,8 @@ class Limits:
     def __init__(self, random):
         self.random = random
 
-    def questions(self):
-        return [self.question() for _ in range(5_000)]
+    def questions(self, count):
+        return [self.question() for _ in range(count)]
 
     def question(self):
         word = self.random.choice(QUESTIONS)
@@ -33,9 +33,9 @@ class Limits:
             numbers[-1] = self.random.choice([0, 1, abs(numbers[0] - numbers[2]), 262_143, 262_144, 2**32 - 1])
         return asked(word, *numbers)
 
-    def calls(self):
+    def calls(self, count):
         """Frames at and past their limits, each with calls that are refused for several reasons at once, and the bytes after."""
-        return [line for _ in range(100) for line in self.frame()]
+        return [line for _ in range(count) for line in self.frame()]
 
     def frame(self):
         width, height = self.random.choice(SIDES), self.random.choice(SIDES)
@@ -65,8 +65,9 @@ class Limits:
     def near(self, side):
         return self.random.choice([-1, 0, min(side - 1, 2**31 - 1), min(side, 2**31 - 1), -(2**31)])
 
-    def bad_lines(self):
-        return [self.bad_line() for _ in range(5_000)] + [asked("length", 0, 0, 3, 1)]
+    def bad_lines(self, count):
+        # The last is a good one: an empty line at the end of input would be none.
+        return [self.bad_line() for _ in range(count)] + [asked("length", 0, 0, 3, 1)]
 
     def bad_line(self):
         """A line with one thing about it that may make it bad."""

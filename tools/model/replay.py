@@ -20,8 +20,11 @@ FIELDS = {
     "length": "ssss", "point": "ssssu", "online": "ssssss",
     "inside": "ssssssss", "span": "sssssss", "rows": "ssssss", "disc": "ssuss", "discspan": "ssus",
 }
-RANGE = {"s": (-(2**31), 2**31 - 1), "u": (0, 2**32 - 1)}
-NUMBER = {"s": re.compile(rb"-?[0-9]{1,10}"), "u": re.compile(rb"[0-9]{1,10}")}
+NUMBER = {"s": "(-?[0-9]{1,10})", "u": "([0-9]{1,10})"}
+RANGE = {"s": range(-(2**31), 2**31), "u": range(2**32)}
+SHAPE = {
+    word: re.compile("\t".join([word, *(NUMBER[kind] for kind in kinds)]).encode()) for word, kinds in FIELDS.items()
+}
 
 # Questions on one figure often stand together.
 line, triangle, circle = (lru_cache(maxsize=16)(figure) for figure in (Line, Triangle, Circle))
@@ -150,16 +153,11 @@ def answered(number, count, values):
 
 
 def parsed(text):
-    word, *fields = text.split(b"\t")
-    word = word.decode("latin-1")
-    kinds = FIELDS.get(word)
-    if kinds is None or len(fields) != len(kinds) or len(text) > LONGEST_LINE:
+    word = text.split(b"\t", 1)[0].decode("latin-1")
+    taken = word in FIELDS and len(text) <= LONGEST_LINE and SHAPE[word].fullmatch(text)
+    if not taken:
         raise BadLine
-    return word, [number(field, kind) for field, kind in zip(fields, kinds)]
-
-
-def number(field, kind):
-    least, most = RANGE[kind]
-    if not NUMBER[kind].fullmatch(field) or not least <= int(field) <= most:
+    given = [int(field) for field in taken.groups()]
+    if not all(number in RANGE[kind] for number, kind in zip(given, FIELDS[word])):
         raise BadLine
-    return int(field)
+    return word, given

@@ -13,6 +13,8 @@ use std::fmt::Write;
 /// The bytes of `replay`'s buffer. A frame's own bytes are the first of them; the rest is its tail.
 const LENGTH: usize = 65_536;
 
+const MOST_DUMPED: usize = 4_096;
+
 /// A frame buffer of any size, depth and order.
 trait Frame {
     fn set(&mut self, p: Point, colour: u32);
@@ -129,9 +131,10 @@ impl Frames {
     fn describe(&mut self, (width, height): (i64, i64), depth: i64, order: i64, length: i64) -> Option<String> {
         let size = (u32::try_from(width).ok()?, u32::try_from(height).ok()?);
         let depth = u32::try_from(depth).ok()?;
-        let frame = new_frame(size, depth, order == 1)?;
+        let big = [false, true].get(usize::try_from(order).ok()?)?;
+        let frame = new_frame(size, depth, *big)?;
         let bytes = buffer_size_bpp(size.0 as usize, size.1 as usize, depth as usize);
-        if usize::try_from(length).ok()? < bytes {
+        if !(bytes..=LENGTH).contains(&usize::try_from(length).ok()?) {
             return None;
         }
         let height = size.1 as i32;
@@ -154,7 +157,8 @@ impl Described {
             }),
             ("dump", &[from, count]) => {
                 let (from, count) = (usize::try_from(from).ok()?, usize::try_from(count).ok()?);
-                Some(hexadecimal(self.frame.bytes().get(from..from + count)?))
+                let bytes = self.frame.bytes().get(from..from + count)?;
+                (count <= MOST_DUMPED).then(|| hexadecimal(bytes))
             }
             (word, [figure @ .., colour]) => {
                 let colour = self.colour(*colour)?;

@@ -1,7 +1,7 @@
 //! The questions on triangles and circles, and a line's points.
 
 use crate::{
-    inputs::{point, Inputs, Vertices},
+    inputs::{point, triangle, Inputs, Vertices},
     ours,
     race::{Race, Work},
 };
@@ -19,7 +19,7 @@ const SMALL: Vertices = [(0, 0), (500, 6), (188, 494)];
 
 pub fn races<'a>() -> Vec<Race<'a>> {
     let mut inputs = Inputs::new();
-    let triangle = inputs.triangle(LARGE);
+    let triangle = triangle(LARGE);
     let inside = inputs.pixels(PIXELS, (0, 8_000), |p| triangle.contains(p));
     let beside = inputs.pixels(PIXELS, (0, 7_900), |p| !triangle.contains(p));
     let outside = inputs.pixels(PIXELS, (8_001, 8_191), |_| true);
@@ -129,6 +129,8 @@ fn line_off_the_frame<'a>() -> Race<'a> {
     let line = Line::new(point(start), point(end));
     let points = line.points().count();
     let mut frame = ours::Frame::new(64, 64, 1);
+    frame.draw_line(start, end, 1);
+    assert!(frame.bytes.iter().all(|byte| *byte == 0), "a line off the frame: our library painted");
     Race {
         name: "a line of 16,000 points, drawn off the frame, against the Rust's points".into(),
         against: "the Rust",
@@ -138,10 +140,6 @@ fn line_off_the_frame<'a>() -> Race<'a> {
             black_box(rust_points(black_box(&line)));
         }),
     }
-}
-
-fn triangle([v1, v2, v3]: Vertices) -> Triangle {
-    Triangle::new(point(v1), point(v2), point(v3))
 }
 
 #[inline(never)]

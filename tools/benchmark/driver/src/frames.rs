@@ -1,17 +1,17 @@
 //! Setting pixels, filling triangles and circles, filling the frame.
 
 use crate::{
-    inputs::{point, Inputs, Vertices},
+    inputs::{point, triangle, Inputs, Vertices},
     ours::{row_bytes, Frame},
     race::{Race, Work},
 };
 use embedded_graphics::{
     framebuffer::Framebuffer,
-    geometry::Point,
+    geometry::{Dimensions, Point},
     pixelcolor::raw::{LittleEndian, RawU1, RawU2, RawU4, RawU8},
-    primitives::{Circle, Triangle},
+    primitives::Circle,
 };
-use std::{hint::black_box, ops::Range};
+use std::{hint::black_box, ops::Range, slice};
 
 const SIDE: usize = 2_048;
 const PIXELS: usize = 1_000;
@@ -87,7 +87,12 @@ fn set_pixel<'a, R: Rust + 'a>(depth: u32, mut rust: Box<R>) -> Race<'a> {
 
 fn triangle_against_memset<'a>(depth: u32, goal: f64) -> Race<'a> {
     let mut bytes = new_frame(depth).bytes;
-    let parts: Vec<Range<usize>> = rows(HALF).into_iter().map(|row| bytes_of(row, depth)).collect();
+    let parts = parts_of(rows(HALF), depth);
+    if depth >= 8 {
+        let mut frame = new_frame(depth);
+        frame.draw_triangle(HALF, colour(depth));
+        hold(&frame, &parts, depth);
+    }
     Race {
         name: format!("a triangle over half of the frame, depth {depth}"),
         against: "`memset` a row",
@@ -116,6 +121,8 @@ fn fill_against_memset<'a>(depth: u32, goal: f64) -> Race<'a> {
     let mut frame = new_frame(depth);
     let mut bytes = frame.bytes.clone();
     let colour = colour(depth);
+    frame.fill(colour);
+    hold(&frame, slice::from_ref(&(0..bytes.len())), depth);
     Race {
         name: format!("filling the frame, depth {depth}"),
         against: "one `memset`",
@@ -129,7 +136,10 @@ fn grown_triangle<'a>() -> Race<'a> {
     let drawn = |n: i32| {
         let vertices = [(0, 0), (n - 1, n / 4), (n / 3, n - 1)];
         let mut frame = new_frame(8);
-        Work::new(pixels_in(rows(vertices)), move || frame.draw_triangle(black_box(vertices), 165))
+        let parts = parts_of(rows(vertices), 8);
+        frame.draw_triangle(vertices, colour(8));
+        hold(&frame, &parts, 8);
+        Work::new(bytes_in(&parts), move || frame.draw_triangle(black_box(vertices), colour(8)))
     };
     grown("a triangle", drawn(500), drawn(2_000))
 }
@@ -137,8 +147,10 @@ fn grown_triangle<'a>() -> Race<'a> {
 fn grown_circle<'a>() -> Race<'a> {
     let drawn = |n: u32| {
         let mut frame = new_frame(8);
-        let rows = Circle::new(Point::new(0, 0), n).row_spans().collect();
-        Work::new(pixels_in(rows), move || frame.draw_circle((0, 0), black_box(n), 165))
+        let parts = parts_of(Circle::new(Point::new(0, 0), n).row_spans().collect(), 8);
+        frame.draw_circle((0, 0), n, colour(8));
+        hold(&frame, &parts, 8);
+        Work::new(bytes_in(&parts), move || frame.draw_circle((0, 0), black_box(n), colour(8)))
     };
     grown("a circle", drawn(500), drawn(2_000))
 }
@@ -162,20 +174,44 @@ fn colour(depth: u32) -> u32 {
     0xa5c3_96a5 >> (32 - depth)
 }
 
-fn rows([v1, v2, v3]: Vertices) -> Vec<Row> {
-    let triangle = Triangle::new(point(v1), point(v2), point(v3));
-    let last = v1.1.max(v2.1).max(v3.1);
-    (0..=last).map(|y| (y, triangle.row_span(y))).collect()
+fn rows(vertices: Vertices) -> Vec<Row> {
+    let triangle = triangle(vertices);
+    triangle.bounding_box().rows().map(|y| (y, triangle.row_span(y))).collect()
 }
 
-fn pixels_in(rows: Vec<Row>) -> usize {
-    rows.into_iter().map(|(_, span)| span.len()).sum()
+/// The bytes of the frame that hold pixels of the rows' spans.
+fn parts_of(rows: Vec<Row>, depth: u32) -> Vec<Range<usize>> {
+    let (row_bytes, depth) = (row_bytes(SIDE as u32, depth), depth as usize);
+    let part = |(y, span): Row| {
+        let row = y as usize * row_bytes;
+        row + span.start as usize * depth / 8..row + (span.end as usize * depth).div_ceil(8)
+    };
+    rows.into_iter().map(part).collect()
 }
 
-/// The bytes of the frame that hold pixels of the row's span.
-fn bytes_of((y, span): Row, depth: u32) -> Range<usize> {
-    let (row, depth) = (y as usize * row_bytes(SIDE as u32, depth), depth as usize);
-    row + span.start as usize * depth / 8..row + (span.end as usize * depth).div_ceil(8)
+fn bytes_in(parts: &[Range<usize>]) -> usize {
+    parts.iter().map(ExactSizeIterator::len).sum()
+}
+
+/// Holds a frame that was zero to what was to be painted: these bytes, with whole pixels of our colour.
+fn hold(frame: &Frame, parts: &[Range<usize>], depth: u32) {
+    let pixels = whole_pixels(depth);
+    let mut expected = vec![0; frame.bytes.len()];
+    for part in parts {
+        for (byte, value) in expected[part.clone()].iter_mut().zip(pixels.iter().cycle()) {
+            *byte = *value;
+        }
+    }
+    assert!(frame.bytes == expected, "depth {depth}: our library painted something else");
+}
+
+/// The bytes of as few whole pixels of our colour as fill whole bytes.
+fn whole_pixels(depth: u32) -> Vec<u8> {
+    if depth >= 8 {
+        return colour(depth).to_le_bytes()[..depth as usize / 8].to_vec();
+    }
+    let byte = (0..8 / depth).fold(0, |byte, place| byte | colour(depth) << (place * depth));
+    vec![byte as u8]
 }
 
 #[inline(never)]

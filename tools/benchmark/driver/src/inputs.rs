@@ -24,15 +24,15 @@ impl Inputs {
         places
     }
 
-    pub fn number(&mut self, first: i32, last: i32) -> i32 {
+    fn number(&mut self, first: i32, last: i32) -> i32 {
         // Knuth's MMIX generator; its high bits are the good ones.
         self.0 = self.0.wrapping_mul(6_364_136_223_846_793_005).wrapping_add(1_442_695_040_888_963_407);
         first + ((self.0 >> 33) % (last - first + 1) as u64) as i32
     }
+}
 
-    pub fn triangle(&self, [v1, v2, v3]: Vertices) -> Triangle {
-        Triangle::new(point(v1), point(v2), point(v3))
-    }
+pub fn triangle([v1, v2, v3]: Vertices) -> Triangle {
+    Triangle::new(point(v1), point(v2), point(v3))
 }
 
 pub fn point((x, y): Place) -> Point {

@@ -13,57 +13,22 @@ pub struct Span {
     pub end: i32,
 }
 
+#[rustfmt::skip]
 extern "C" {
-    #[rustfmt::skip]
     fn beamacorn_triangle_contains(x1: i32, y1: i32, x2: i32, y2: i32, x3: i32, y3: i32, x: i32, y: i32) -> Verdict;
     fn beamacorn_triangle_row_span(x1: i32, y1: i32, x2: i32, y2: i32, x3: i32, y3: i32, y: i32) -> Span;
     fn beamacorn_circle_row_span(left: i32, top: i32, diameter: u32, y: i32) -> Span;
-    #[rustfmt::skip]
-    fn beamacorn_set_pixel(buf: *mut u8, len: usize, width: u32, height: u32, depth: u32, order: u32, x: i32, y: i32, colour: u32) -> u32;
-    fn beamacorn_fill(buf: *mut u8, len: usize, width: u32, height: u32, depth: u32, order: u32, colour: u32) -> u32;
-    #[rustfmt::skip]
-    fn beamacorn_draw_line(
-        buf: *mut u8,
-        len: usize,
-        width: u32,
-        height: u32,
-        depth: u32,
-        order: u32,
-        x1: i32,
-        y1: i32,
-        x2: i32,
-        y2: i32,
-        colour: u32,
-    ) -> u32;
-    #[rustfmt::skip]
-    fn beamacorn_draw_triangle(
-        buf: *mut u8,
-        len: usize,
-        width: u32,
-        height: u32,
-        depth: u32,
-        order: u32,
-        x1: i32,
-        y1: i32,
-        x2: i32,
-        y2: i32,
-        x3: i32,
-        y3: i32,
-        colour: u32,
-    ) -> u32;
-    #[rustfmt::skip]
-    fn beamacorn_draw_circle(
-        buf: *mut u8,
-        len: usize,
-        width: u32,
-        height: u32,
-        depth: u32,
-        order: u32,
-        left: i32,
-        top: i32,
-        diameter: u32,
-        colour: u32,
-    ) -> u32;
+
+    fn beamacorn_set_pixel(buf: *mut u8, len: usize, width: u32, height: u32, depth: u32, order: u32,
+        x: i32, y: i32, colour: u32) -> u32;
+    fn beamacorn_fill(buf: *mut u8, len: usize, width: u32, height: u32, depth: u32, order: u32,
+        colour: u32) -> u32;
+    fn beamacorn_draw_line(buf: *mut u8, len: usize, width: u32, height: u32, depth: u32, order: u32,
+        x1: i32, y1: i32, x2: i32, y2: i32, colour: u32) -> u32;
+    fn beamacorn_draw_triangle(buf: *mut u8, len: usize, width: u32, height: u32, depth: u32, order: u32,
+        x1: i32, y1: i32, x2: i32, y2: i32, x3: i32, y3: i32, colour: u32) -> u32;
+    fn beamacorn_draw_circle(buf: *mut u8, len: usize, width: u32, height: u32, depth: u32, order: u32,
+        left: i32, top: i32, diameter: u32, colour: u32) -> u32;
 }
 
 pub type Place = (i32, i32);
@@ -90,6 +55,15 @@ pub struct Frame {
     depth: u32,
 }
 
+/// Calls a function of the library on a frame; it must not refuse.
+macro_rules! call {
+    ($function:ident($frame:expr $(, $argument:expr)*)) => {{
+        let Frame { bytes, width, height, depth } = $frame;
+        let number = unsafe { $function(bytes.as_mut_ptr(), bytes.len(), *width, *height, *depth, 0 $(, $argument)*) };
+        assert_eq!(number, 0, "our library refused");
+    }};
+}
+
 impl Frame {
     pub fn new(width: u32, height: u32, depth: u32) -> Self {
         let bytes = vec![0; row_bytes(width, depth) * height as usize];
@@ -97,35 +71,26 @@ impl Frame {
     }
 
     pub fn set_pixel(&mut self, (x, y): Place, colour: u32) {
-        let (buf, len) = (self.bytes.as_mut_ptr(), self.bytes.len());
-        done(unsafe { beamacorn_set_pixel(buf, len, self.width, self.height, self.depth, 0, x, y, colour) });
+        call!(beamacorn_set_pixel(self, x, y, colour));
     }
 
     pub fn fill(&mut self, colour: u32) {
-        let (buf, len) = (self.bytes.as_mut_ptr(), self.bytes.len());
-        done(unsafe { beamacorn_fill(buf, len, self.width, self.height, self.depth, 0, colour) });
+        call!(beamacorn_fill(self, colour));
     }
 
     pub fn draw_line(&mut self, (x1, y1): Place, (x2, y2): Place, colour: u32) {
-        let (buf, len) = (self.bytes.as_mut_ptr(), self.bytes.len());
-        done(unsafe { beamacorn_draw_line(buf, len, self.width, self.height, self.depth, 0, x1, y1, x2, y2, colour) });
+        call!(beamacorn_draw_line(self, x1, y1, x2, y2, colour));
     }
 
     pub fn draw_triangle(&mut self, [(x1, y1), (x2, y2), (x3, y3)]: [Place; 3], colour: u32) {
-        let (buf, len) = (self.bytes.as_mut_ptr(), self.bytes.len());
-        done(unsafe { beamacorn_draw_triangle(buf, len, self.width, self.height, self.depth, 0, x1, y1, x2, y2, x3, y3, colour) });
+        call!(beamacorn_draw_triangle(self, x1, y1, x2, y2, x3, y3, colour));
     }
 
     pub fn draw_circle(&mut self, (left, top): Place, diameter: u32, colour: u32) {
-        let (buf, len) = (self.bytes.as_mut_ptr(), self.bytes.len());
-        done(unsafe { beamacorn_draw_circle(buf, len, self.width, self.height, self.depth, 0, left, top, diameter, colour) });
+        call!(beamacorn_draw_circle(self, left, top, diameter, colour));
     }
 }
 
 pub fn row_bytes(width: u32, depth: u32) -> usize {
     (width * depth).div_ceil(8) as usize
-}
-
-fn done(number: u32) {
-    assert_eq!(number, 0, "our library refused");
 }

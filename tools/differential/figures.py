@@ -68,8 +68,8 @@ class Figures:
 
     def pixels(self, corners, count):
         """Pixels by the corners, beside the lines between them, in and by their box, and anywhere."""
-        pick = [self.by_corner, self.beside_edge, self.beside_edge, self.by_box, self.in_box, self.anywhere]
-        return [self.asked(pick[self.random.randrange(6)](corners)) for _ in range(count)]
+        picks = [self.by_corner, self.beside_edge, self.beside_edge, self.by_box, self.in_box, self.anywhere, self.at_a_power]
+        return [self.asked(self.random.choice(picks)(corners)) for _ in range(count)]
 
     def asked(self, place):
         return tuple(max(self.pixel_low, min(self.pixel_high, coordinate)) for coordinate in place)
@@ -90,6 +90,12 @@ class Figures:
 
     def anywhere(self, corners):
         return self.random.randint(self.pixel_low, self.pixel_high), self.random.randint(self.pixel_low, self.pixel_high)
+
+    def at_a_power(self, corners):
+        """A power of two away from a corner, where products that wrap would be taken for small ones."""
+        away = self.random.choice([-1, 1]) << self.random.randint(0, 32)
+        x, y = self.random.choice(corners)
+        return self.nudged(self.random.choice([(x + away, y), (x, y + away), (x + away, y + away)]))
 
     def nudged(self, place):
         return tuple(coordinate + self.random.randint(-1, 1) for coordinate in place)

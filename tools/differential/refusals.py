@@ -17,6 +17,8 @@ QUESTIONS = ["length", "point", "online", "inside", "span", "rows", "disc", "dis
 
 
 class Limits:
+    """Lines whose numbers stand at, and one past, what an operation takes."""
+
     def __init__(self, random):
         self.random = random
 
@@ -72,19 +74,23 @@ class Limits:
     def bad_line(self):
         """A line with one thing about it that may make it bad."""
         word, count = self.random.choice(list(WORDS.items()))
-        fields = [word, *(str(self.random.randrange(9)) for _ in range(count))]
-        change = self.random.randrange(7)
-        if change == 0:
-            fields[self.random.randint(1, count)] = self.random.choice(NUMBERS_NOT_TAKEN)
-        elif change == 1:
-            fields[self.random.randint(1, count)] = self.random.choice(NUMBERS_TAKEN)
-        elif change == 2:
-            fields[0] = self.random.choice(["", "Line", "lines", "spanx", word + " ", " " + word, word.upper(), "circl\0"])
-        elif change == 3:
-            fields += self.random.choice([["1"], [""], ["", ""]])
-        elif change == 4:
-            fields = fields[:-1]
-        elif change == 5:
-            fields[-1] = self.random.choice(["65536", "65537", "4096", "4097", "255", "256", "2"])
-        line = "\t".join(fields)
-        return line if change != 6 else line + self.random.choice([" ", "\t", "\r", "0" * self.random.randint(1, 130)])
+        numbers = [str(self.random.randrange(9)) for _ in range(count)]
+        changes = [self.other_word, self.other_number, self.other_last_number, self.other_fields, self.other_ending]
+        return self.random.choice(changes)(word, numbers)
+
+    def other_word(self, word, numbers):
+        words = ["", "Line", "lines", "spanx", "circl\0", word + " ", " " + word, word.upper()]
+        return asked(self.random.choice(words), *numbers)
+
+    def other_number(self, word, numbers):
+        numbers[self.random.randrange(len(numbers))] = self.random.choice(NUMBERS_NOT_TAKEN + NUMBERS_TAKEN)
+        return asked(word, *numbers)
+
+    def other_last_number(self, word, numbers):
+        return asked(word, *numbers[:-1], self.random.choice([2, 255, 256, 4_096, 4_097, 65_536, 65_537]))
+
+    def other_fields(self, word, numbers):
+        return self.random.choice([asked(word, *numbers[:-1]), asked(word, *numbers, 1), asked(word, *numbers, ""), ""])
+
+    def other_ending(self, word, numbers):
+        return asked(word, *numbers) + self.random.choice([" ", "\t", "\r", "0" * self.random.randint(1, 130)])

@@ -8,6 +8,9 @@ from pathlib import Path
 
 TOOLS = Path(__file__).resolve().parents[1]
 
+# Seconds that a program may take for a batch.
+MOST_SECONDS = 600
+
 
 class CannotRun(Exception):
     """Something that the run needs is not at hand."""
@@ -24,7 +27,10 @@ class Side:
 
     def ask(self, batch):
         """The answers to a batch of lines, and what the program says on standard error."""
-        done = subprocess.run(self.command, input=batch.encode("latin-1"), capture_output=True)
+        try:
+            done = subprocess.run(self.command, input=batch.encode("latin-1"), capture_output=True, timeout=MOST_SECONDS)
+        except (OSError, subprocess.TimeoutExpired) as reason:
+            raise Broken(f"{self.name} did not answer: {reason}") from reason
         complaint = done.stderr.decode("latin-1")
         if done.returncode != 0:
             raise Broken(f"{self.name} ended with status {done.returncode}: {complaint}")

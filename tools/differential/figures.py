@@ -1,5 +1,7 @@
 """Random lines, triangles and circles within bounds: as many small ones as large, a third of the triangles flat or thin."""
 
+from math import gcd
+
 from .questions import box_of, on_circle, on_line, on_triangle, steps_of
 
 
@@ -47,8 +49,11 @@ class Figures:
 
     def vertices(self):
         shape, reach = self.random.randrange(6), self.reach()
-        if shape < 4:
+        if shape < 3:
             return self.scattered(3, reach)
+        if shape == 3:
+            # Many places lie exactly on the edges.
+            return [(x * (reach // 16), y * (reach // 16)) for x, y in self.scattered(3, 16)]
         times = [self.random.randrange(8) for _ in range(3)]
         across, down = (self.random.randint(-reach, reach) // 8 for _ in range(2))
         flat = [(across * n, down * n) for n in times]
@@ -68,7 +73,7 @@ class Figures:
 
     def pixels(self, corners, count):
         """Pixels by the corners, beside the lines between them, in and by their box, and anywhere."""
-        picks = [self.by_corner, self.beside_edge, self.beside_edge, self.by_box, self.in_box, self.anywhere, self.at_a_power]
+        picks = [self.by_corner, self.beside_edge, self.along_edge, self.by_box, self.in_box, self.anywhere, self.at_a_power]
         return [self.asked(self.random.choice(picks)(corners)) for _ in range(count)]
 
     def asked(self, place):
@@ -81,6 +86,13 @@ class Figures:
         (x1, y1), (x2, y2) = self.random.sample(corners, 2)
         part = self.random.random()
         return self.nudged((round(x1 + part * (x2 - x1)), round(y1 + part * (y2 - y1))))
+
+    def along_edge(self, corners):
+        """A place on the straight line through two corners, where a doubled area is exactly 0."""
+        (x1, y1), (x2, y2) = self.random.sample(corners, 2)
+        steps = gcd(x2 - x1, y2 - y1) or 1
+        times = self.random.randint(-steps, 2 * steps)
+        return x1 + (x2 - x1) // steps * times, y1 + (y2 - y1) // steps * times
 
     def by_box(self, corners):
         return self.nudged(self.random.choice(box_of(corners)))

@@ -15,6 +15,15 @@ pub enum Difference {
 }
 
 impl Difference {
+    pub const ALL: [Self; 2] = [Difference::ZeroArea, Difference::SignTest];
+
+    pub fn name(self) -> &'static str {
+        match self {
+            Difference::ZeroArea => "zero area",
+            Difference::SignTest => "sign test",
+        }
+    }
+
     /// The difference that holds for this triangle and pixel, if any.
     pub fn named(triangle: &Triangle, p: Point) -> Option<Self> {
         let [v1, v2, v3] = triangle.vertices;

@@ -15,83 +15,87 @@ const AGREED: Range<i64> = -8_192..8_192;
 
 pub struct Figures {
     amended: bool,
-    zero_area: u64,
-    sign_test: u64,
+    amendments: [u64; Difference::ALL.len()],
     rows: Option<(Circle, HashMap<i32, Range<i32>>)>,
 }
 
 impl Figures {
     pub fn new(amended: bool) -> Self {
-        Figures { amended, zero_area: 0, sign_test: 0, rows: None }
+        Figures { amended, amendments: [0; Difference::ALL.len()], rows: None }
     }
 
     /// How many answers each named difference has changed.
-    pub fn amendments(&self) -> Vec<(&'static str, u64)> {
-        if self.amended {
-            vec![("zero area", self.zero_area), ("sign test", self.sign_test)]
-        } else {
-            vec![]
-        }
+    pub fn amendments(&self) -> impl Iterator<Item = (&'static str, u64)> {
+        Difference::ALL.map(Difference::name).into_iter().zip(self.amendments)
     }
 
     pub fn answer(&mut self, question: &Question) -> Option<String> {
-        match (question.word, question.numbers.as_slice()) {
-            ("length", line) => Some(format!("0\t{}", self.line(line)?.points().count())),
-            ("point", [line @ .., k]) => {
-                let k = usize::try_from(*k).ok()?;
-                // The iterator's end stands for refusal 7.
-                Some(match self.line(line)?.points().nth(k) {
-                    Some(point) => format!("0\t{}\t{}", point.x, point.y),
-                    None => "7\t0\t0".into(),
-                })
-            }
-            // The crate has no such question: its points are looked through.
-            ("online", [line @ .., x, y]) => {
-                let Line { start, end } = self.line(line)?;
-                Some(yes_or_no(on_line(start, end, self.point(*x, *y)?)))
-            }
-            ("inside", [triangle @ .., x, y]) => {
-                let (triangle, p) = (self.triangle(triangle)?, self.point(*x, *y)?);
-                self.contains(&triangle, p)
-            }
-            ("span", [triangle @ .., y]) => {
-                let span = self.triangle(triangle)?.row_span(self.coordinate(*y)?);
-                Some(format!("0\t{}\t{}", span.start, span.end))
-            }
-            // The rows of the bounding box.
-            ("rows", triangle) => {
-                let bounding_box = self.triangle(triangle)?.bounding_box();
-                Some(format!("0\t{}\t{}", bounding_box.top_left.y, bounding_box.size.height))
-            }
-            ("disc", [circle @ .., x, y]) => Some(yes_or_no(self.circle(circle)?.contains(self.point(*x, *y)?))),
-            // A row that `Scanlines` does not give has the empty span.
-            ("discspan", [circle @ .., y]) => {
-                let (circle, y) = (self.circle(circle)?, self.coordinate(*y)?);
-                let span = self.rows_of(circle).get(&y).cloned().unwrap_or(0..0);
-                Some(format!("0\t{}\t{}", span.start, span.end))
-            }
+        let numbers = question.numbers.as_slice();
+        match question.word {
+            "length" | "point" | "online" => self.on_line(question.word, numbers),
+            "inside" | "span" | "rows" => self.on_triangle(question.word, numbers),
+            "disc" | "discspan" => self.on_circle(question.word, numbers),
             _ => None,
         }
     }
 
+    fn on_line(&self, word: &str, numbers: &[i64]) -> Option<String> {
+        Some(match (word, numbers) {
+            ("length", line) => format!("0\t{}", self.line(line)?.points().count()),
+            ("point", [line @ .., k]) => match self.line(line)?.points().nth(u32::try_from(*k).ok()? as usize) {
+                Some(point) => format!("0\t{}\t{}", point.x, point.y),
+                // The iterator's end stands for refusal 7.
+                None => "7\t0\t0".into(),
+            },
+            // The crate has no such question: its points are looked through.
+            ("online", [line @ .., x, y]) => {
+                let Line { start, end } = self.line(line)?;
+                yes_or_no(on_line(start, end, self.point(*x, *y)?))
+            }
+            _ => return None,
+        })
+    }
+
+    fn on_triangle(&mut self, word: &str, numbers: &[i64]) -> Option<String> {
+        Some(match (word, numbers) {
+            ("inside", [triangle @ .., x, y]) => {
+                let (triangle, p) = (self.triangle(triangle)?, self.point(*x, *y)?);
+                self.contains(&triangle, p)
+            }
+            ("span", [triangle @ .., y]) => from_to(self.triangle(triangle)?.row_span(self.coordinate(*y)?)),
+            // The rows of the bounding box.
+            ("rows", triangle) => {
+                let bounding_box = self.triangle(triangle)?.bounding_box();
+                format!("0\t{}\t{}", bounding_box.top_left.y, bounding_box.size.height)
+            }
+            _ => return None,
+        })
+    }
+
+    fn on_circle(&mut self, word: &str, numbers: &[i64]) -> Option<String> {
+        Some(match (word, numbers) {
+            ("disc", [circle @ .., x, y]) => yes_or_no(self.circle(circle)?.contains(self.point(*x, *y)?)),
+            // A row that `Scanlines` does not give has the empty span.
+            ("discspan", [circle @ .., y]) => {
+                let (circle, y) = (self.circle(circle)?, self.coordinate(*y)?);
+                from_to(self.rows_of(circle).get(&y).cloned().unwrap_or(0..0))
+            }
+            _ => return None,
+        })
+    }
+
     /// `contains`; amended, with what 01 says where it names a difference, provided that the Rust says there what 01 says of it.
-    fn contains(&mut self, triangle: &Triangle, p: Point) -> Option<String> {
+    fn contains(&mut self, triangle: &Triangle, p: Point) -> String {
         let by_rust = triangle.contains(p);
-        let difference = Difference::named(triangle, p).filter(|_| self.amended);
-        let Some(difference) = difference else {
-            return Some(yes_or_no(by_rust));
+        let Some(difference) = Difference::named(triangle, p).filter(|_| self.amended) else {
+            return yes_or_no(by_rust);
         };
         if by_rust != difference.by_rust() {
-            return Some("not the difference that 01 names".into());
+            return "not the difference that 01 names".into();
         }
         let by_01 = difference.by_01(triangle, p);
-        if by_01 != by_rust {
-            match difference {
-                Difference::ZeroArea => self.zero_area += 1,
-                Difference::SignTest => self.sign_test += 1,
-            }
-        }
-        Some(yes_or_no(by_01))
+        self.amendments[difference as usize] += u64::from(by_01 != by_rust);
+        yes_or_no(by_01)
     }
 
     /// The rows that `Scanlines` gives, kept for further questions on the same circle: it gives them only in order.
@@ -135,4 +139,8 @@ impl Figures {
 
 fn yes_or_no(yes: bool) -> String {
     format!("0\t{}", u8::from(yes))
+}
+
+fn from_to(span: Range<i32>) -> String {
+    format!("0\t{}\t{}", span.start, span.end)
 }

@@ -101,7 +101,7 @@ fn boxed<F: Frame + 'static>(new: fn() -> F) -> Box<dyn Frame> {
     Box::new(new())
 }
 
-/// What may change the bytes. Where the Rust can't do it, its bytes are unknown until the next frame.
+/// What may change the bytes.
 const CHANGES: [&str; 7] = ["preset", "pixel", "fill", "line", "triangle", "outline", "circle"];
 
 /// The frame described last; none if the Rust can't have it.
@@ -117,14 +117,20 @@ struct Described {
 impl Frames {
     pub fn answer(&mut self, question: &Question, figures: &Figures) -> Option<String> {
         if let ("frame", &[width, height, depth, order, length]) = (question.word, question.numbers.as_slice()) {
-            self.0 = None;
+            self.forget();
             return self.describe((width, height), depth, order, length);
         }
         let answer = self.0.as_mut()?.answer(question, figures);
         if answer.is_none() && CHANGES.contains(&question.word) {
-            self.0 = None;
+            return self.forget();
         }
         answer
+    }
+
+    /// No answer to a line that may have changed the bytes: they are unknown until the next frame.
+    pub fn forget(&mut self) -> Option<String> {
+        self.0 = None;
+        None
     }
 
     /// A buffer too short for the frame is the Rust's failed assertion at compile time.

@@ -43,16 +43,16 @@ fn answer_lines(amended: bool) -> io::Result<()> {
     let mut frames = Frames::default();
     let mut line = Vec::new();
     while input.read_until(b'\n', &mut line)? > 0 {
-        let asked = AssertUnwindSafe(|| {
-            let question = Question::parse(line.strip_suffix(b"\n").unwrap_or(&line))?;
-            figures.answer(&question).or_else(|| frames.answer(&question, &figures))
+        let asked = AssertUnwindSafe(|| match Question::parse(line.strip_suffix(b"\n").unwrap_or(&line)) {
+            Some(question) => figures.answer(&question).or_else(|| frames.answer(&question, &figures)),
+            None => frames.forget(),
         });
         let answer = panic::catch_unwind(asked).unwrap_or_else(|_| Some("panic".into()));
         writeln!(output, "{}", answer.as_deref().unwrap_or("none"))?;
         line.clear();
     }
-    for (name, count) in figures.amendments() {
-        eprintln!("{name}\t{count}");
+    if amended {
+        figures.amendments().for_each(|(name, count)| eprintln!("{name}\t{count}"));
     }
     output.flush()
 }

@@ -30,12 +30,7 @@ where
 {
     // BEHAVES
     pub const fn new(data: &'a [u8], width: u32) -> Self {
-        ImageRaw {
-            data,
-            width,
-            colour: PhantomData,
-            order: PhantomData,
-        }
+        ImageRaw { data, width, colour: PhantomData, order: PhantomData }
     }
 }
 
@@ -56,9 +51,6 @@ where
             return None;
         }
         let pixels_per_row = bytes_per_row * 8 / bits;
-        RawDataSlice::<C::Raw, BO>::new(self.data)
-            .into_iter()
-            .nth(y * pixels_per_row + x)
-            .map(C::from)
+        RawDataSlice::<C::Raw, BO>::new(self.data).into_iter().nth(y * pixels_per_row + x).map(C::from)
     }
 }

@@ -49,3 +49,15 @@ def round_by_model(random):
         "calls at their limits": lambda: limits.calls(300),
         "bad lines": lambda: limits.bad_lines(3_000),
     }
+
+
+def part(random, batch, count):
+    """About so many lines of a batch; where lines build on a frame, all from one frame up to the next."""
+    starts = [place for place, line in enumerate(batch) if line.startswith("frame\t")]
+    if not starts:
+        return random.sample(batch, min(count, len(batch)))
+    runs = [batch[start:end] for start, end in zip(starts, [*starts[1:], len(batch)])]
+    chosen = []
+    while len(chosen) < count:
+        chosen += random.choice(runs)
+    return chosen

@@ -38,7 +38,7 @@ def one_by_one(random, width, height, depth, order):
 
 
 class Drawings:
-    """Sequences of calls on frames of the given sizes: on them, near them and as far off as reach; `refused` is the share of refused calls."""
+    """Sequences of calls on frames of the given sizes: on them, near them and as far off as reach; a share of the calls is refused."""
 
     def __init__(self, random, sizes, reach, with_fill, refused):
         self.random, self.sizes, self.reach, self.refused = random, sizes, reach, refused

@@ -27,9 +27,13 @@ class WrongModel:
 
 @contextmanager
 def without_kept_figures():
-    for figures in (replay.line, replay.triangle, replay.circle):
-        figures.cache_clear()
+    """Figures that the model keeps between questions must be made anew on both sides of the change."""
+    forget_figures()
     yield
+    forget_figures()
+
+
+def forget_figures():
     for figures in (replay.line, replay.triangle, replay.circle):
         figures.cache_clear()
 
@@ -40,7 +44,7 @@ def models():
         WrongModel("a tie takes the minor step", Line, "moved", moved_on_ties),
         WrongModel("edges walked from their other end", Triangle, "__init__", with_edges_turned(Triangle.__init__)),
         WrongModel("no at zero area", Triangle, "contains", never_flat(Triangle.contains)),
-        WrongModel("inside only, without the points of edges", Triangle, "contains", lambda self, x, y: self.area != 0 and self.has_on_one_side(x, y)),
+        WrongModel("inside only, without the points of edges", Triangle, "contains", inside_only),
         WrongModel("filling clears the padding", Replay, "fill", fill_all),
         WrongModel("little end first always", Frame, "order", lambda self: "little"),
         WrongModel("first pixel in the low bits", Frame, "place", low_bits_first(Frame.place)),
@@ -75,7 +79,13 @@ def never_flat(contains):
     return lambda self, x, y: self.area != 0 and contains(self, x, y)
 
 
+def inside_only(self, x, y):
+    return self.area != 0 and self.has_on_one_side(x, y)
+
+
 def fill_all(self, colour):
+    """Leaves the padding of each row 0."""
+
     def change():
         self.now.paint(self.buffer, lambda x, y: True, colour)
         if self.now.width and self.now.depth < 8:

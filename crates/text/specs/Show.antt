@@ -1,0 +1,24 @@
+-- Numbers as decimal text.
+use mathlib.Core.Bool.{cond}
+use mathlib.Core.List.{List, [], _∷_, _++_}
+use Prim.Native.Nat.{ℕ, zero, suc, _+_, _/_, _%_}
+use lib.Dec.{ltb}
+use lib.IntN.{ℤ, pos, negsuc}
+
+-- the last digit of n
+abbrev pub lastDigit : ℕ → ℕ
+lastDigit n = 48 + n % 10
+
+-- at most turns + 1 digits of n, the last ones, without leading zeros
+abbrev pub shownBy : ℕ → ℕ → List ℕ
+shownBy zero n = lastDigit n ∷ []
+shownBy (suc turns) n = cond (ltb n 10) (lastDigit n ∷ []) (shownBy turns (n / 10) ++ (lastDigit n ∷ []))
+
+-- all of them: `0`, or digits of which the first is not `0`
+unfoldable pub shown : ℕ → List ℕ
+shown n = shownBy n n
+
+-- a minus where the number is negative
+abbrev pub shownSigned : ℤ → List ℕ
+shownSigned (pos n) = shown n
+shownSigned (negsuc n) = 45 ∷ shown (suc n)

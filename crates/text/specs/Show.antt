@@ -9,6 +9,11 @@ use lib.IntN.{ℤ, pos, negsuc}
 abbrev pub lastDigit : ℕ → ℕ
 lastDigit n = 48 + n % 10
 
+-- the last k digits of n, leading zeros among them
+abbrev pub lastDigits : ℕ → ℕ → List ℕ
+lastDigits zero n = []
+lastDigits (suc k) n = lastDigits k (n / 10) ++ (lastDigit n ∷ [])
+
 -- at most turns + 1 digits of n, the last ones, without leading zeros
 abbrev pub shownBy : ℕ → ℕ → List ℕ
 shownBy zero n = lastDigit n ∷ []
@@ -22,3 +27,11 @@ shown n = shownBy n n
 abbrev pub shownSigned : ℤ → List ℕ
 shownSigned (pos n) = shown n
 shownSigned (negsuc n) = 45 ∷ shown (suc n)
+
+-- a number and the byte behind it
+abbrev pub field : ℤ → ℕ → List ℕ
+field v stop = shownSigned v ++ (stop ∷ [])
+
+-- a line of three numbers, parted by tabs
+abbrev pub row : ℤ → ℤ → ℤ → List ℕ
+row a b c = field a 9 ++ (field b 9 ++ field c 10)

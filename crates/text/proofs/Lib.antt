@@ -1,3 +1,4 @@
 pub mod Reading
 pub mod Showing
 pub mod Writing
+pub mod Parting

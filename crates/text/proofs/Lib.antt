@@ -2,3 +2,4 @@ pub mod Reading
 pub mod Showing
 pub mod Writing
 pub mod Parting
+pub mod Numbers

@@ -8,12 +8,13 @@ use lib.Dec.{eqb}
 use lib.IntN.{ℤ, pos}
 use lib.ListN.{length, take, drop, getD, length-drop}
 use lib.Seq.{take-all}
+use borrow.Author.Tests.{eq-eqb, ne-eqb}
 use Rattle.text.specs.declared.NextI32.{NextI32}
 use Rattle.text.specs.declared.NextU32.{NextU32}
 use Rattle.text.specs.declared.Signed.{Signed}
 use Rattle.text.specs.declared.Unsigned.{Unsigned}
 use Rattle.text.specs.Read.{unsigned, plain, negated, readDigits, readU32, readI32}
-use Rattle.text.specs.Fields.{until, fields, fieldAt, fieldEnd, nextPlace, nextU32, nextI32, number, numbers, exactly}
+use Rattle.text.specs.Fields.{until, fields, fieldAt, fieldEnd, nextPlace, nextU32, nextI32, number, numbers, exactly, readPlace, readVertices}
 use Rattle.text.proofs.Parting.{Reached, Progress, no-field, same-field, progress-start, progress-step, progress-end}
 
 -- ---- parts of a line, as the code lends them
@@ -108,3 +109,48 @@ after-end line k = progress-end line k (after line k) (numbers k (fields line)) 
 pub after-value : (line : List ℕ) (k : ℕ) → numbers k (fields line) ≡ true → nextI32 line (after line k) .value ≡ number (fields line) k .value
 unfolding nextI32
 after-value line k e = ap (λ (s : List ℕ). readI32 s .value) (same-field line k (after line k) (after-progress line k .good e))
+
+-- ---- a number after the other: each is found where the one before ends
+module _ (line : List ℕ) (k at : ℕ) (r : NextI32) (p : at ≡ after line k) (e : r ≡ nextI32 line at) where
+  pub then-next : r .next ≡ after line (suc k)
+  then-next = ap (λ (u : NextI32). u .next) (e ∙ ap (nextI32 line) p)
+
+  pub then-value : numbers k (fields line) ≡ true → r .value ≡ number (fields line) k .value
+  then-value o = ap (λ (u : NextI32). u .value) (e ∙ ap (nextI32 line) p) ∙ after-value line k o
+
+-- the last place tells whether the line is k numbers
+pub ended : (line : List ℕ) (k at : ℕ) → at ≡ after line k → at ≡ length line + 1 → exactly k (fields line) ≡ true
+ended line k at p e = sym (after-end line k) ∙ eq-eqb (after line k) (length line + 1) (sym p ∙ e)
+
+pub not-ended : (line : List ℕ) (k at : ℕ) → at ≡ after line k → (at ≡ length line + 1 → ⊥) → exactly k (fields line) ≡ false
+not-ended line k at p n = sym (after-end line k) ∙ ne-eqb (after line k) (length line + 1) (λ e. n (p ∙ e))
+
+and-first : (a b : Bool) → a && b ≡ true → a ≡ true
+and-first true b e = refl
+and-first false b e = e
+
+pub exactly-numbers : (k : ℕ) (fs : List (List ℕ)) → exactly k fs ≡ true → numbers k fs ≡ true
+exactly-numbers k fs e = and-first (numbers k fs) (eqb (length fs) k) e
+
+pub numbers-less : (k : ℕ) (fs : List (List ℕ)) → numbers (suc k) fs ≡ true → numbers k fs ≡ true
+numbers-less k fs e = and-first (numbers k fs) (number fs k .ok) e
+
+-- ---- what the two lines say
+pub no-place : (fs : List (List ℕ)) → exactly 2 fs ≡ false → record { ok = false; x = pos 0; y = pos 0 } ≡ readPlace fs
+unfolding readPlace
+no-place fs e = rw e
+
+pub a-place : (fs : List (List ℕ)) (x y : ℤ) → exactly 2 fs ≡ true → x ≡ number fs 0 .value → y ≡ number fs 1 .value → record { ok = true; x = x; y = y } ≡ readPlace fs
+unfolding readPlace
+a-place fs x y e p q = rw (e, p, q)
+
+pub no-vertices : (fs : List (List ℕ)) → exactly 6 fs ≡ false
+    → record { ok = false; x1 = pos 0; y1 = pos 0; x2 = pos 0; y2 = pos 0; x3 = pos 0; y3 = pos 0 } ≡ readVertices fs
+unfolding readVertices
+no-vertices fs e = rw e
+
+pub some-vertices : (fs : List (List ℕ)) (a b c d e f : ℤ) → exactly 6 fs ≡ true
+    → a ≡ number fs 0 .value → b ≡ number fs 1 .value → c ≡ number fs 2 .value → d ≡ number fs 3 .value → e ≡ number fs 4 .value → f ≡ number fs 5 .value
+    → record { ok = true; x1 = a; y1 = b; x2 = c; y2 = d; x3 = e; y3 = f } ≡ readVertices fs
+unfolding readVertices
+some-vertices fs a b c d e f o p q r s t u = rw (o, p, q, r, s, t, u)

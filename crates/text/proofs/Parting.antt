@@ -54,7 +54,7 @@ first-field (b ∷ s) = at (eqb b 9) refl (first-field s)
     at true e h = rw e (ap (λ (fs : List (List ℕ)). [] ∷ fs) (sym (from-suc b s 0 ∙ from-start s)))
     at false e h =
         rw e (ap (onFirst b) h ∙ ap (λ (fs : List (List ℕ)). (b ∷ take (until 9 s) s) ∷ fs)
-          (sym (ap (fieldsFrom (b ∷ s)) (more (until 9 s)) ∙ from-suc b s (until 9 s + 1))))
+        (sym (ap (fieldsFrom (b ∷ s)) (more (until 9 s)) ∙ from-suc b s (until 9 s + 1))))
       where
         more : (u : ℕ) → suc u + 1 ≡ suc (u + 1)
         more u = omega arith
@@ -110,17 +110,19 @@ same-field line k at r = by (leb at (length line)) refl
 step-on : (line : List ℕ) (k at : ℕ) → at ≤ length line → Reached line k at → Reached line (suc k) (fieldEnd line at + 1)
 step-on line k at h r =
     let e : drop k (fields line) ≡ fieldAt line at ∷ fieldsFrom line (fieldEnd line at + 1) = sym (r .rest) ∙ from-field line at h in
-    record
-      { rest = ap (drop 1) (sym e) ∙ drop-drop 1 k (fields line) ∙ ap (λ (i : ℕ). drop i (fields line)) (add-one k)
-      ; some = omega (arith, ap length e, length-drop k (fields line))
-      ; within = omega (arith, field-end-within line at h) }
+    record {
+      rest = ap (drop 1) (sym e) ∙ drop-drop 1 k (fields line) ∙ ap (λ (i : ℕ). drop i (fields line)) (add-one k);
+      some = omega (arith, ap length e, length-drop k (fields line));
+      within = omega (arith, field-end-within line at h);
+    }
 
 pub progress-step : (line : List ℕ) (k at : ℕ) (b : Bool) (f : List ℕ → Bool) → f [] ≡ false
     → Progress line k at b → Progress line (suc k) (nextPlace (f (fieldAt line at)) line at) (b && f (getD (fields line) k []))
 progress-step line k at false f z p =
-    record
-      { good = λ e. absurd (false≢true e)
-      ; lost = λ e. ap (λ (t : Bool). nextPlace t line at) (ap f (no-field line at (omega (arith, p .lost refl))) ∙ z) }
+    record {
+      good = λ e. absurd (false≢true e);
+      lost = λ e. ap (λ (t : Bool). nextPlace t line at) (ap f (no-field line at (omega (arith, p .lost refl))) ∙ z);
+    }
 progress-step line k at true f z p = by (f (fieldAt line at)) refl (leb at (length line)) refl
   where
     same : f (fieldAt line at) ≡ f (getD (fields line) k [])

@@ -3,3 +3,4 @@ pub mod Showing
 pub mod Writing
 pub mod Parting
 pub mod Numbers
+pub mod Streaming

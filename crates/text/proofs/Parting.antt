@@ -71,8 +71,8 @@ from-field line at h =
     rw (le-leb at (length line) h)
     (first-field (drop at line) ∙ ap (λ (fs : List (List ℕ)). fieldAt line at ∷ fs) (from-drop line at (until 9 (drop at line) + 1) h ∙ ap (fieldsFrom line) (omega arith)))
 
-pub field-end-within : (line : List ℕ) (at : ℕ) → at ≤ length line → fieldEnd line at ≤ length line
-field-end-within line at h = omega (arith, until-within 9 (drop at line), length-drop at line)
+pub part-end-within : (stop : ℕ) (s : List ℕ) (at : ℕ) → at ≤ length s → at + until stop (drop at s) ≤ length s
+part-end-within stop s at h = omega (arith, until-within stop (drop at s), length-drop at s)
 
 -- behind the line there is no field
 pub no-field : (line : List ℕ) (at : ℕ) → length line < at → fieldAt line at ≡ []
@@ -113,7 +113,7 @@ step-on line k at h r =
     record {
       rest = ap (drop 1) (sym e) ∙ drop-drop 1 k (fields line) ∙ ap (λ (i : ℕ). drop i (fields line)) (add-one k);
       some = omega (arith, ap length e, length-drop k (fields line));
-      within = omega (arith, field-end-within line at h);
+      within = omega (arith, part-end-within 9 line at h);
     }
 
 pub progress-step : (line : List ℕ) (k at : ℕ) (b : Bool) (f : List ℕ → Bool) → f [] ≡ false

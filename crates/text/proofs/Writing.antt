@@ -1,11 +1,16 @@
 -- Laws of writing text into a buffer, part by part. Assumes nothing.
 use mathlib.Core.Path.{_≡_, refl, sym, ap, ap₂, _∙_}
+use mathlib.Core.Bool.{Bool, true, false}
 use mathlib.Core.List.{List, [], _∷_, _++_}
-use Prim.Native.Nat.{ℕ, zero, suc, _+_, _-_, _/_, _≤_, _<_}
+use Prim.Native.Nat.{ℕ, zero, suc, _+_, _-_, _/_, _≤_, _<_, min}
+use native.Mathlib.Nat.{le-of-lt, zero-sub, sub-zero, suc-sub-suc}
 use native.Mathlib.Numerals.{add-one}
 use native.Mathlib.Omega.{arith}
-use lib.ListN.{length, getD, drop, set, length-append, drop-of-length-le}
-use lib.Seq.{sets, set-comm, drop-cons}
+use lib.Dec.{leb}
+use lib.ListN.{length, getD, take, drop, set, length-append, length-take, length-drop, drop-of-length-le}
+use lib.Seq.{sets, set-comm, drop-cons, getD-set-other, getD-drop, take-suc, take-nil, take-take, take-all, length-take-le}
+use borrow.Author.Tests.{leb-true, leb-false}
+use Rattle.text.specs.Lines.{keptPart}
 use Rattle.text.specs.Show.{lastDigit, lastDigits}
 
 -- ---- one part behind another
@@ -66,3 +71,46 @@ wrote-then buf at s t {p} {r} {mid} {out} a b = (
 
 pub wrote-byte : (buf : List ℕ) (at : ℕ) (s : List ℕ) (b : ℕ) {p : ℕ} {mid : List ℕ} → Wrote buf at s p mid → Wrote buf at (s ++ (b ∷ [])) (p + 1) (set mid p b)
 wrote-byte buf at s b {p} {mid} a = wrote-then buf at s (b ∷ []) a (refl, refl)
+
+-- ---- bytes moved to the front
+sets-above : (l : List ℕ) (i : ℕ) (s : List ℕ) (j d : ℕ) → i + length s ≤ j → getD (sets l i s) j d ≡ getD l j d
+sets-above l i [] j d h = refl
+sets-above l i (b ∷ s) j d h = sets-above (set l i b) (suc i) s j d (omega arith) ∙ getD-set-other l i j b d (λ e. omega arith)
+
+-- the next byte of those to be moved is still where it was
+pub shift-turn : (l : List ℕ) (from i : ℕ) → from + i < length l
+    → set (sets l 0 (take i (drop from l))) i (getD (sets l 0 (take i (drop from l))) (from + i) 0) ≡ sets l 0 (take (i + 1) (drop from l))
+shift-turn l from i h =
+    let inside : i < length (drop from l) = omega (arith, length-drop from l) in
+    let count : length (take i (drop from l)) ≡ i = length-take-le i (drop from l) (le-of-lt inside) in
+    ap (λ (x : ℕ). set (sets l 0 (take i (drop from l))) i x) (sets-above l 0 (take i (drop from l)) (from + i) 0 (omega (arith, count)) ∙ sym (getD-drop from l i 0))
+    ∙ ap (λ (k : ℕ). set (sets l 0 (take i (drop from l))) k (getD (drop from l) i 0)) (place count)
+    ∙ sym (sets-append l 0 (take i (drop from l)) (getD (drop from l) i 0 ∷ []))
+    ∙ ap (sets l 0) (sym (take-suc (drop from l) i 0 inside) ∙ ap (λ (k : ℕ). take k (drop from l)) (sym (add-one i)))
+  where
+    place : length (take i (drop from l)) ≡ i → i ≡ 0 + length (take i (drop from l))
+    place c = omega arith
+
+-- ---- what is kept of a buffer's part
+pub kept-is : (buf : List ℕ) (from end most : ℕ) → end ≤ length buf → take (min (end - from) most) (drop from buf) ≡ keptPart buf from end most
+kept-is buf from end most h = sym (ap (take most) (drop-take from end buf) ∙ take-min most (end - from) (drop from buf))
+  where
+    drop-take : (k n : ℕ) (l : List ℕ) → drop k (take n l) ≡ take (n - k) (drop k l)
+    drop-take zero n l = ap (λ (m : ℕ). take m l) (sym (sub-zero n))
+    drop-take (suc k) zero l = ap (λ (m : ℕ). take m (drop (suc k) l)) (sym (zero-sub (suc k)))
+    drop-take (suc k) (suc n) [] = sym (take-nil (suc n - suc k))
+    drop-take (suc k) (suc n) (b ∷ l) = drop-take k n l ∙ ap (λ (m : ℕ). take m (drop k l)) (sym (suc-sub-suc n k))
+
+    take-min : (m n : ℕ) (l : List ℕ) → take m (take n l) ≡ take (min n m) l
+    take-min m n l = by (leb m n) refl
+      where
+        by : (t : Bool) → leb m n ≡ t → take m (take n l) ≡ take (min n m) l
+        by true e =
+            let k : m ≡ min n m = omega (arith, leb-true m n e) in
+            take-take m n l (leb-true m n e) ∙ ap (λ (k : ℕ). take k l) k
+        by false e =
+            let k : n ≡ min n m = omega (arith, leb-false m n e) in
+            take-all m (take n l) (omega (arith, leb-false m n e, length-take n l)) ∙ ap (λ (k : ℕ). take k l) k
+
+pub kept-count : (buf : List ℕ) (from end most : ℕ) → end ≤ length buf → min (end - from) most ≡ length (keptPart buf from end most)
+kept-count buf from end most h = rw (length-take, length-drop, length-take) (omega arith)

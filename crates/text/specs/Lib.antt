@@ -2,3 +2,4 @@ pub mod Digits
 pub mod Read
 pub mod Show
 pub mod Fields
+pub mod Lines

@@ -1,44 +1,21 @@
 // Going through a line field by field. A place in a line is that of a field's first byte; behind the last field it is the line's length and 1,
 // and once a field was not what was asked for, the length and 2. So whoever reads a line tests the last place alone.
 ghost use mathlib.Core.Path.{_≡_};
-ghost use Prim.Native.Nat.{_≤_};
-ghost use lib.ListN.{length};
-ghost use Rattle.text.specs.Fields.{until, fields, fieldEnd, nextU32, nextI32, readPlace, readVertices};
+ghost use Rattle.text.specs.Fields.{fields, nextU32, nextI32, readPlace, readVertices};
 use crate::NextI32;
 use crate::NextU32;
 use crate::Place;
 use crate::Vertices;
+use crate::parts::part_end;
 use crate::read::read_i32;
 use crate::read::read_u32;
-
-// Where the first `stop` of `s` stands; the length of `s`, where there is none.
-pub fn find(s: &[u8], stop: u8) -> usize
-    ensures { λ r. ⌜ r ≡ until stop (now (s .entry)) ⌝ }
-{
-    let mut i = 0;
-    while i < s.len() {
-        if s[i] == stop {
-            return i;
-        }
-        i += 1;
-    }
-    i
-}
-
-// Inside the library: where the field that starts at `at` ends.
-pub fn field_end(line: &[u8], at: usize) -> usize
-    requires { ⌜ at ≤ length (now line) ⌝ }
-    ensures { λ r. ⌜ r ≡ fieldEnd (now (line .entry)) at ⌝ }
-{
-    at + find(&line[at..], b'\t')
-}
 
 // The unsigned number of the field at `at`.
 pub fn next_u32(line: &[u8], at: usize) -> NextU32
     ensures { λ r. ⌜ r ≡ nextU32 (now (line .entry)) at ⌝ }
 {
     if at <= line.len() {
-        let end = field_end(line, at);
+        let end = part_end(line, at, b'\t');
         let field = read_u32(&line[at..end]);
         if field.ok {
             return NextU32 {
@@ -58,7 +35,7 @@ pub fn next_i32(line: &[u8], at: usize) -> NextI32
     ensures { λ r. ⌜ r ≡ nextI32 (now (line .entry)) at ⌝ }
 {
     if at <= line.len() {
-        let end = field_end(line, at);
+        let end = part_end(line, at, b'\t');
         let field = read_i32(&line[at..end]);
         if field.ok {
             return NextI32 {

@@ -1,14 +1,17 @@
 // Decimal numbers in byte slices: read and written.
 mod fields;
+mod parts;
 mod read;
 mod write;
 
-pub use fields::field_end;
-pub use fields::find;
 pub use fields::next_i32;
 pub use fields::next_u32;
 pub use fields::read_place;
 pub use fields::read_vertices;
+pub use parts::find;
+pub use parts::first_vertices;
+pub use parts::keep;
+pub use parts::part_end;
 pub use read::read_digits;
 pub use read::read_i32;
 pub use read::read_u32;

@@ -8,13 +8,13 @@ use lib.ListN.{length}
 use mir.Syntax.{w32}
 use borrow.Author.Needs.{needs}
 use Rattle.whole.proofs.Machine.{field-back}
-use Rattle.text.proofs.Parting.{field-end-within}
+use Rattle.text.proofs.Parting.{part-end-within}
 use Rattle.text.proofs.Numbers.{i32-found, i32-other, i32-past}
 use Rattle.text.proofs.fields.next_i32.Statement.{statement}
 use Rattle.text.proofs.fields.next_i32.Tie as tie
 
-field-end-requires : tie.Need-field-end-requires
-field-end-requires c κs = search needs
+part-end-requires : tie.Need-part-end-requires
+part-end-requires c κs = search needs
 
 sub-read-i32 : tie.Need-sub-read-i32
 sub-read-i32 c = search needs
@@ -25,7 +25,7 @@ part-read-i32-start c = search needs
 part-read-i32-end : tie.Need-part-read-i32-end
 part-read-i32-end c =
     let a = c .before .before .before .args in
-    omega (arith, c .field-end .ensures, field-end-within (a .line .now) (a .at) (c .before .if1 .taken))
+    omega (arith, c .part-end .ensures, part-end-within 9 (a .line .now) (a .at) (c .before .if1 .taken))
 
 read-i32-requires : tie.Need-read-i32-requires
 read-i32-requires c κs = search needs
@@ -33,12 +33,12 @@ read-i32-requires c κs = search needs
 add-t12 : tie.Need-add-t12
 add-t12 c =
     let a = c .before .before .before .before .before .before .args in
-    omega (arith, c .before .before .before .field-end .ensures, field-end-within (a .line .now) (a .at) (c .before .before .before .before .if1 .taken))
+    omega (arith, c .before .before .before .part-end .ensures, part-end-within 9 (a .line .now) (a .at) (c .before .before .before .before .if1 .taken))
 
 returns : tie.Need-returns
 returns c =
     let a = c .before .before .before .before .before .before .before .args in
-    let f = c .before .before .before .before .field-end in
+    let f = c .before .before .before .before .part-end in
     let r = c .before .before .read-i32 in
     ap (λ (z : ℤ). record { value = z; next = f .result + 1 }) (field-back w32 (r .result .value) (c .struct-told .given .1 .0 .1))
     ∙ i32-found (a .line .now) (a .at) (f .result) (f .ensures) (r .result) (r .ensures) (c .before .if2 .taken)
@@ -56,7 +56,7 @@ pub next-i32-spec : {M : Type 1} → statement M
 next-i32-spec =
     tie.close
     (tie.spec
-    field-end-requires
+    part-end-requires
     sub-read-i32
     part-read-i32-start
     part-read-i32-end

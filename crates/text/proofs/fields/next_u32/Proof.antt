@@ -4,13 +4,13 @@ use mathlib.Core.Logic.{⊎-elim}
 use native.Mathlib.Omega.{arith}
 use lib.ListN.{length}
 use borrow.Author.Needs.{needs}
-use Rattle.text.proofs.Parting.{field-end-within}
+use Rattle.text.proofs.Parting.{part-end-within}
 use Rattle.text.proofs.Numbers.{u32-found, u32-other, u32-past}
 use Rattle.text.proofs.fields.next_u32.Statement.{statement}
 use Rattle.text.proofs.fields.next_u32.Tie as tie
 
-field-end-requires : tie.Need-field-end-requires
-field-end-requires c κs = search needs
+part-end-requires : tie.Need-part-end-requires
+part-end-requires c κs = search needs
 
 sub-read-u32 : tie.Need-sub-read-u32
 sub-read-u32 c = search needs
@@ -21,7 +21,7 @@ part-read-u32-start c = search needs
 part-read-u32-end : tie.Need-part-read-u32-end
 part-read-u32-end c =
     let a = c .before .before .before .args in
-    omega (arith, c .field-end .ensures, field-end-within (a .line .now) (a .at) (c .before .if1 .taken))
+    omega (arith, c .part-end .ensures, part-end-within 9 (a .line .now) (a .at) (c .before .if1 .taken))
 
 read-u32-requires : tie.Need-read-u32-requires
 read-u32-requires c κs = search needs
@@ -29,12 +29,12 @@ read-u32-requires c κs = search needs
 add-t12 : tie.Need-add-t12
 add-t12 c =
     let a = c .before .before .before .before .before .before .args in
-    omega (arith, c .before .before .before .field-end .ensures, field-end-within (a .line .now) (a .at) (c .before .before .before .before .if1 .taken))
+    omega (arith, c .before .before .before .part-end .ensures, part-end-within 9 (a .line .now) (a .at) (c .before .before .before .before .if1 .taken))
 
 returns : tie.Need-returns
 returns c =
     let a = c .before .before .before .before .before .before .args in
-    let f = c .before .before .before .field-end in
+    let f = c .before .before .before .part-end in
     let r = c .before .read-u32 in
     u32-found (a .line .now) (a .at) (f .result) (f .ensures) (r .result) (r .ensures) (c .if2 .taken)
 
@@ -51,7 +51,7 @@ pub next-u32-spec : {M : Type 1} → statement M
 next-u32-spec =
     tie.close
     (tie.spec
-    field-end-requires
+    part-end-requires
     sub-read-u32
     part-read-u32-start
     part-read-u32-end

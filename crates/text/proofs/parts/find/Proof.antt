@@ -1,4 +1,4 @@
--- `text::fields::find` goes past every other byte; how far it has come and what it still has to pass make up the answer. Assumes nothing.
+-- `text::parts::find` goes past every other byte; how far it has come and what it still has to pass make up the answer. Assumes nothing.
 use mathlib.Core.Path.{_≡_, sym, _∙_}
 use Prim.Native.Nat.{_+_, _-_, _≤_}
 use native.Mathlib.Omega.{arith}
@@ -6,8 +6,8 @@ use lib.ListN.{length, drop}
 use borrow.Author.Needs.{needs}
 use Rattle.text.specs.Fields.{until}
 use Rattle.text.proofs.Parting.{until-here, until-on, until-end}
-use Rattle.text.proofs.fields.find.Statement.{statement}
-use Rattle.text.proofs.fields.find.Tie as tie
+use Rattle.text.proofs.parts.find.Statement.{statement}
+use Rattle.text.proofs.parts.find.Tie as tie
 
 abbrev Inv-loop : tie.InvT-loop
 Inv-loop s stop i₀ i = (i ≤ length s) × (i + until stop (drop i s) ≡ until stop s)

@@ -6,21 +6,21 @@ use Prim.Native.Nat.{ℕ, zero, suc, _+_, _*_, _-_, _≤_, _<_}
 use native.Mathlib.Nat.{le-trans}
 use native.Mathlib.Numerals.{add-one}
 use native.Mathlib.Omega.{arith}
-use lib.Dec.{leb, lit<}
+use lib.Dec.{leb, eqb, lit<}
 use lib.IntN.{ℤ, pos, negℤ, _-ℤ_}
 use lib.ListN.{length, take, drop, getD, drop-of-length-le}
 use lib.Seq.{drop-cons, take-all}
 use borrow.Author.Tests.{leb-true, leb-false, le-leb, lt-leb, eq-eqb, ne-eqb}
 use mir.Syntax.{w32, w64}
-use mir.Val.{SFits, toZ, ofZ}
+use mir.Val.{Fits, SFits, toZ, ofZ}
 use mir.Facts.{toZ-ofZ, toZ-pos}
 use Rattle.whole.proofs.Machine.{Has, fits, back, at-most, wide-nat, minus-of}
 use Rattle.text.specs.declared.Unsigned.{Unsigned}
 use Rattle.text.specs.Digits.{isDigit, allDigits, withDigit, valueFrom, digitsValue}
-use Rattle.text.specs.Read.{unsigned, readDigits, plain, negated, readI32}
+use Rattle.text.specs.Read.{unsigned, readDigits, plain, negated, readU32, readI32}
 
 -- ---- a test that fails
-and-false : (a : Bool) → a && false ≡ false
+pub and-false : (a : Bool) → a && false ≡ false
 and-false true = refl
 and-false false = refl
 
@@ -161,3 +161,16 @@ module _ (n : ℕ) (h : n ≤ 2147483648) where
 
 pub plain-is : (limit : ℕ) (s : List ℕ) (r : Unsigned) → r ≡ readDigits limit 2147483647 s → record { ok = r .ok; value = toZ w32 (r .value) } ≡ plain r
 plain-is limit s r e = ap (λ (z : ℤ). record { ok = r .ok; value = z }) (toZ-pos w32 (omega (arith, read-most limit 2147483647 s r e)))
+
+-- ---- what is read is held by 32 bits
+pub i32-fits : (s : List ℕ) → SFits w32 (readI32 s .value)
+unfolding readI32
+i32-fits [] = record { sfits = lit< tt }
+i32-fits (b ∷ s) = by (eqb b 45)
+  where
+    by : (t : Bool) → SFits w32 (cond t (negated (readDigits 10 2147483648 s)) (plain (readDigits 10 2147483647 (b ∷ s))) .value)
+    by true = neg-fits _ (read-most 10 2147483648 s _ refl)
+    by false = record { sfits = omega (arith, read-most 10 2147483647 (b ∷ s) (readDigits 10 2147483647 (b ∷ s)) refl) }
+
+pub u32-fits : (s : List ℕ) → Fits w32 (readU32 s .value)
+u32-fits s = record { fits = omega (arith, read-most 10 4294967295 s (readU32 s) refl) }

@@ -9,9 +9,10 @@ use native.Mathlib.Omega.{arith}
 use lib.Dec.{ltb, eqb}
 use lib.ListN.{length, take, drop, length-drop, drop-of-length-le}
 use lib.Seq.{drop-drop, drop-append-le, take-append-le, take-append-add, drop-append-add}
-use borrow.Author.Tests.{ltb-true, ltb-false}
+use borrow.Author.Tests.{ltb-true, ltb-false, lt-ltb, le-ltb}
 use Rattle.text.specs.Fields.{until, onFirst, lines}
 use Rattle.text.specs.Lines.{lineEnd, lineAt, firstLine, each, over, handled, taken, whole, streamed}
+use Rattle.text.proofs.Reading.{and-false}
 use Rattle.text.proofs.Parting.{until-within}
 
 -- ---- the first line and those behind it
@@ -119,6 +120,35 @@ module _ {S : Type 0} (f : S → List ℕ → S) where
           → until 10 (drop (cond (x && true) n (at, st) .0) s) ≡ length (drop (cond (x && true) n (at, st) .0) s)
       by true n e r = r (omega (arith, ltb-true (lineEnd s at) (length s) e)) (omega arith)
       by false n e r = omega (arith, ltb-false (lineEnd s at) (length s) e, until-within 10 (drop at s), length-drop at s)
+
+  -- ---- turn by turn, as many turns as there are bytes: more change nothing
+  handled-stop : (room : S → Bool) (s : List ℕ) (turns at : ℕ) (st : S) → ltb (lineEnd s at) (length s) && room st ≡ false → handled room f s turns at st ≡ (at, st)
+  unfolding handled
+  handled-stop room s zero at st e = refl
+  handled-stop room s (suc turns) at st e = rw e
+
+  enough : (room : S → Bool) (s : List ℕ) (m n at : ℕ) (st : S) → length s ≤ at + m → length s ≤ at + n → handled room f s m at st ≡ handled room f s n at st
+  unfolding handled
+  enough room s zero n at st h k = sym (handled-stop room s n at st (ap (λ (b : Bool). b && room st) (le-ltb (lineEnd s at) (length s) (omega arith))))
+  enough room s (suc m) zero at st h k = handled-stop room s (suc m) at st (ap (λ (b : Bool). b && room st) (le-ltb (lineEnd s at) (length s) (omega arith)))
+  enough room s (suc m) (suc n) at st h k =
+      ap (λ (x : ℕ × S). cond (ltb (lineEnd s at) (length s) && room st) x (at, st))
+      (enough room s m n (lineEnd s at + 1) (f st (lineAt s at)) (omega arith) (omega arith))
+
+  pub handled-turn : (room : S → Bool) (s : List ℕ) (at : ℕ) (st : S) → lineEnd s at < length s → room st ≡ true
+      → handled room f s (length s) at st ≡ handled room f s (length s) (lineEnd s at + 1) (f st (lineAt s at))
+  unfolding handled
+  handled-turn room s at st h r = enough room s (length s) (suc (length s)) at st (omega arith) (omega arith) ∙ one
+    where
+      one : handled room f s (suc (length s)) at st ≡ handled room f s (length s) (lineEnd s at + 1) (f st (lineAt s at))
+      one = rw (lt-ltb (lineEnd s at) (length s) h, r)
+
+  -- no line that LF ends, or no room
+  pub handled-none : (room : S → Bool) (s : List ℕ) (turns at : ℕ) (st : S) → length s ≤ lineEnd s at → handled room f s turns at st ≡ (at, st)
+  handled-none room s turns at st h = handled-stop room s turns at st (ap (λ (b : Bool). b && room st) (le-ltb (lineEnd s at) (length s) h))
+
+  pub handled-full : (room : S → Bool) (s : List ℕ) (turns at : ℕ) (st : S) → room st ≡ false → handled room f s turns at st ≡ (at, st)
+  handled-full room s turns at st e = handled-stop room s turns at st (ap (λ (b : Bool). ltb (lineEnd s at) (length s) && b) e ∙ and-false (ltb (lineEnd s at) (length s)))
 
   -- ---- a line whose LF is still to come
   over-open : (st : S) (b : ℕ) (s t : List ℕ) → until 10 (b ∷ s) ≡ length (b ∷ s)

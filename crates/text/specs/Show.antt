@@ -32,6 +32,6 @@ shownSigned (negsuc n) = 45 ∷ shown (suc n)
 abbrev pub field : ℤ → ℕ → List ℕ
 field v stop = shownSigned v ++ (stop ∷ [])
 
--- a line of three numbers, parted by tabs
-abbrev pub row : ℤ → ℤ → ℤ → List ℕ
-row a b c = field a 9 ++ (field b 9 ++ field c 10)
+-- three numbers, parted by tabs, and the byte behind them
+abbrev pub triple : ℤ → ℤ → ℤ → ℕ → List ℕ
+triple a b c stop = field a 9 ++ (field b 9 ++ field c stop)

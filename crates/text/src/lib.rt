@@ -18,7 +18,7 @@ pub use read::read_u32;
 pub use write::write_bytes;
 pub use write::write_field;
 pub use write::write_i32;
-pub use write::write_row;
+pub use write::write_triple;
 pub use write::write_u32;
 
 // What reading an unsigned number finds: the number, or 0 where there is none.

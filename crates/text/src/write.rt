@@ -4,7 +4,7 @@ ghost use Prim.Native.Nat.{_+_, _≤_};
 ghost use lib.IntN.{natAbs};
 ghost use lib.ListN.{length};
 ghost use lib.Seq.{sets};
-ghost use Rattle.text.specs.Show.{shown, lastDigits, shownSigned, field, row};
+ghost use Rattle.text.specs.Show.{shown, lastDigits, shownSigned, field, triple};
 
 // How many digits the text of `v` has.
 fn digit_count(v: u32) -> usize
@@ -89,12 +89,12 @@ pub fn write_field(buf: &mut [u8], at: usize, v: i32, stop: u8) -> usize
     end + 1
 }
 
-// Inside the library: the line of `a`, `b` and `c`, parted by tabs.
-pub fn write_row(buf: &mut [u8], at: usize, a: i32, b: i32, c: i32) -> usize
-    requires { ⌜ at + length (row a b c) ≤ length (now buf) ⌝ }
-    ensures { λ r. ⌜ (r ≡ at + length (row a b c)) × (now (buf .exit) ≡ sets (now (buf .entry)) at (row a b c)) ⌝ }
+// Inside the library: `a`, `b` and `c`, parted by tabs, and the byte `stop` behind them. With LF it is a row of a list.
+pub fn write_triple(buf: &mut [u8], at: usize, a: i32, b: i32, c: i32, stop: u8) -> usize
+    requires { ⌜ at + length (triple a b c stop) ≤ length (now buf) ⌝ }
+    ensures { λ r. ⌜ (r ≡ at + length (triple a b c stop)) × (now (buf .exit) ≡ sets (now (buf .entry)) at (triple a b c stop)) ⌝ }
 {
     let second = write_field(buf, at, a, b'\t');
     let third = write_field(buf, second, b, b'\t');
-    write_field(buf, third, c, b'\n')
+    write_field(buf, third, c, stop)
 }

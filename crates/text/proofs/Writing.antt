@@ -1,5 +1,5 @@
 -- Laws of writing text into a buffer, part by part. Assumes nothing.
-use mathlib.Core.Path.{_≡_, refl, sym, ap, ap₂, _∙_}
+use mathlib.Core.Path.{_≡_, refl, sym, ap, ap₂, subst, _∙_}
 use mathlib.Core.Bool.{Bool, true, false}
 use mathlib.Core.List.{List, [], _∷_, _++_}
 use Prim.Native.Nat.{ℕ, zero, suc, _+_, _-_, _/_, _≤_, _<_, min}
@@ -7,11 +7,14 @@ use native.Mathlib.Nat.{le-of-lt, zero-sub, sub-zero, suc-sub-suc}
 use native.Mathlib.Numerals.{add-one}
 use native.Mathlib.Omega.{arith}
 use lib.Dec.{leb}
+use lib.IntN.{ℤ}
 use lib.ListN.{length, getD, take, drop, set, length-append, length-take, length-drop, drop-of-length-le}
 use lib.Seq.{sets, set-comm, drop-cons, getD-set-other, getD-drop, take-suc, take-nil, take-take, take-all, length-take-le}
 use borrow.Author.Tests.{leb-true, leb-false}
+use mir.Syntax.{w32}
+use mir.Val.{toZ, ofZ}
 use Rattle.text.specs.Lines.{keptPart}
-use Rattle.text.specs.Show.{lastDigit, lastDigits}
+use Rattle.text.specs.Show.{lastDigit, lastDigits, field, triple}
 
 -- ---- one part behind another
 pub sets-append : (l : List ℕ) (i : ℕ) (s t : List ℕ) → sets l i (s ++ t) ≡ sets (sets l i s) (i + length s) t
@@ -68,6 +71,22 @@ wrote-then buf at s t {p} {r} {mid} {out} a b = (
   omega (arith, a .0, b .0, length-append s t),
   b .1 ∙ ap₂ (λ (l : List ℕ) (k : ℕ). sets l k t) (a .1) (a .0) ∙ sym (sets-append buf at s t),
 )
+
+-- the same of a number that the code reads back, at the number itself
+pub at-field : (buf : List ℕ) (at : ℕ) (v : ℤ) (stop : ℕ) {r : ℕ} {out : List ℕ} → toZ w32 (ofZ w32 v) ≡ v
+    → Wrote buf at (field (toZ w32 (ofZ w32 v)) stop) r out → Wrote buf at (field v stop) r out
+at-field buf at v stop {r} {out} e w = subst (λ (z : ℤ). Wrote buf at (field z stop) r out) e w
+
+pub at-triple : (buf : List ℕ) (at : ℕ) (a b c : ℤ) (stop : ℕ) {r : ℕ} {out : List ℕ} → toZ w32 (ofZ w32 a) ≡ a → toZ w32 (ofZ w32 b) ≡ b → toZ w32 (ofZ w32 c) ≡ c
+    → Wrote buf at (triple (toZ w32 (ofZ w32 a)) (toZ w32 (ofZ w32 b)) (toZ w32 (ofZ w32 c)) stop) r out → Wrote buf at (triple a b c stop) r out
+at-triple buf at a b c stop {r} {out} p q s w =
+    subst (λ (z : ℤ). Wrote buf at (triple a b z stop) r out) s
+    (subst (λ (y : ℤ). Wrote buf at (triple a y (toZ w32 (ofZ w32 c)) stop) r out) q
+    (subst (λ (x : ℤ). Wrote buf at (triple x (toZ w32 (ofZ w32 b)) (toZ w32 (ofZ w32 c)) stop) r out) p w))
+
+-- how long three numbers are
+pub triple-parts : (a b c : ℤ) (stop : ℕ) → length (triple a b c stop) ≡ length (field a 9) + (length (field b 9) + length (field c stop))
+triple-parts a b c stop = length-append (field a 9) (field b 9 ++ field c stop) ∙ ap (λ (n : ℕ). length (field a 9) + n) (length-append (field b 9) (field c stop))
 
 pub wrote-byte : (buf : List ℕ) (at : ℕ) (s : List ℕ) (b : ℕ) {p : ℕ} {mid : List ℕ} → Wrote buf at s p mid → Wrote buf at (s ++ (b ∷ [])) (p + 1) (set mid p b)
 wrote-byte buf at s b {p} {mid} a = wrote-then buf at s (b ∷ []) a (refl, refl)

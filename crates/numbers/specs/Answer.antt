@@ -5,7 +5,6 @@ use Prim.Native.Nat.{ℕ, _+_}
 use lib.Dec.{leb, eqb}
 use lib.ListN.{length}
 use lib.Seq.{sets}
-use Rattle.text.specs.declared.NextU32.{NextU32}
 use Rattle.text.specs.declared.Place.{Place}
 use Rattle.text.specs.declared.Vertices.{Vertices}
 use Rattle.text.specs.Fields.{fields, nextU32, readPlace, readVertices}
@@ -22,15 +21,15 @@ verticesLine v = triple (v .x1) (v .y1) (v .x2) 9 ++ triple (v .y2) (v .x3) (v .
 abbrev pub placeLine : Place → List ℕ
 placeLine p = field (p .x) 9 ++ field (p .y) 10
 
-abbrev pub countLine : NextU32 → List ℕ
-countLine n = shown (n .value) ++ (10 ∷ [])
+abbrev pub countLine : ℕ → List ℕ
+countLine n = shown n ++ (10 ∷ [])
 
 -- six coordinates, or two, or one unsigned number, each in its shortest text; a longer line than 128 bytes is none of these
 abbrev pub understood : List ℕ → List ℕ
 understood line =
     cond (readVertices (fields line) .ok) (verticesLine (readVertices (fields line)))
     (cond (readPlace (fields line) .ok) (placeLine (readPlace (fields line)))
-    (cond (eqb (nextU32 line 0 .next) (length line + 1)) (countLine (nextU32 line 0)) badLine))
+    (cond (eqb (nextU32 line 0 .next) (length line + 1)) (countLine (nextU32 line 0 .value)) badLine))
 
 unfoldable pub answer : List ℕ → List ℕ
 answer line = cond (leb (length line) 128) (understood line) badLine

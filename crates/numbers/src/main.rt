@@ -2,5 +2,4 @@
 // text; `bad line` for any other.
 mod answer;
 
-fn main() {
-}
+fn main() {}

@@ -72,6 +72,10 @@ wrote-then buf at s t {p} {r} {mid} {out} a b = (
   b .1 ∙ ap₂ (λ (l : List ℕ) (k : ℕ). sets l k t) (a .1) (a .0) ∙ sym (sets-append buf at s t),
 )
 
+-- one text for another that is the same
+pub wrote-as : (buf : List ℕ) (at : ℕ) {s t : List ℕ} {r : ℕ} {out : List ℕ} → s ≡ t → Wrote buf at s r out → Wrote buf at t r out
+wrote-as buf at {s} {t} {r} {out} e w = subst (λ (x : List ℕ). Wrote buf at x r out) e w
+
 -- the same of a number that the code reads back, at the number itself
 pub at-field : (buf : List ℕ) (at : ℕ) (v : ℤ) (stop : ℕ) {r : ℕ} {out : List ℕ} → toZ w32 (ofZ w32 v) ≡ v
     → Wrote buf at (field (toZ w32 (ofZ w32 v)) stop) r out → Wrote buf at (field v stop) r out

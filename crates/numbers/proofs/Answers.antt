@@ -2,17 +2,18 @@
 use mathlib.Core.Path.{_≡_, refl, sym, ap, _∙_}
 use mathlib.Core.Bool.{Bool, true, false, cond}
 use mathlib.Core.List.{List, [], _∷_, _++_}
-use Prim.Native.Nat.{ℕ, _+_, _≤_, _<_}
+use Prim.Native.Nat.{ℕ, _+_, _-_, _≤_, _<_}
 use native.Mathlib.Omega.{arith}
 use lib.Dec.{leb, eqb, lit<}
 use lib.IntN.{ℤ, pos}
-use lib.ListN.{length, getD, length-append}
+use lib.ListN.{length, take, drop, length-append}
 use borrow.Author.Tests.{le-leb, lt-leb, eq-eqb, ne-eqb}
 use mir.Syntax.{w32}
 use mir.Val.{Fits, SFits}
 use Rattle.text.specs.declared.Place.{Place}
 use Rattle.text.specs.declared.Vertices.{Vertices}
-use Rattle.text.specs.Fields.{fields, fieldAt, nextU32, number, exactly, readPlace, readVertices}
+use Rattle.text.specs.Fields.{until, fields, fieldAt, nextU32, number, exactly, readPlace, readVertices}
+use Rattle.text.specs.Lines.{lineEnd, lineAt}
 use Rattle.text.specs.Show.{shown, shownSigned, field, triple}
 use Rattle.text.proofs.Reading.{i32-fits, u32-fits}
 use Rattle.text.proofs.Showing.{shown-ten, shown-eleven}
@@ -82,3 +83,10 @@ count-short n f = omega (arith, length-append (shown n) (10 ∷ []), shown-ten n
 pub next-fits : (line : List ℕ) (at : ℕ) → Fits w32 (nextU32 line at .value)
 unfolding nextU32
 next-fits line at = u32-fits (fieldAt line at)
+
+-- ---- a line, as the code lends it
+pub line-is : (s : List ℕ) (at end : ℕ) → end ≡ lineEnd s at → take (end - at) (drop at s) ≡ lineAt s at
+line-is s at end e = ap (λ (k : ℕ). take k (drop at s)) count
+  where
+    count : end - at ≡ until 10 (drop at s)
+    count = omega arith

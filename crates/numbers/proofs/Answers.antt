@@ -7,18 +7,20 @@ use native.Mathlib.Omega.{arith}
 use lib.Dec.{leb, eqb, lit<}
 use lib.IntN.{ℤ, pos}
 use lib.ListN.{length, take, drop, length-append}
-use borrow.Author.Tests.{le-leb, lt-leb, eq-eqb, ne-eqb}
+use lib.Seq.{length-sets}
+use borrow.Author.Tests.{le-leb, lt-leb, eq-eqb, ne-eqb, leb-true}
 use mir.Syntax.{w32}
 use mir.Val.{Fits, SFits}
 use Rattle.text.specs.declared.Place.{Place}
 use Rattle.text.specs.declared.Vertices.{Vertices}
 use Rattle.text.specs.Fields.{until, fields, fieldAt, nextU32, number, exactly, readPlace, readVertices}
-use Rattle.text.specs.Lines.{lineEnd, lineAt}
+use Rattle.text.specs.Lines.{lineEnd, lineAt, handled}
 use Rattle.text.specs.Show.{shown, shownSigned, field, triple}
 use Rattle.text.proofs.Reading.{i32-fits, u32-fits}
 use Rattle.text.proofs.Showing.{shown-ten, shown-eleven}
+use Rattle.text.proofs.Streaming.{handled-keeps}
 use Rattle.text.proofs.Writing.{triple-parts}
-use Rattle.numbers.specs.Answer.{badLine, verticesLine, placeLine, countLine, answer}
+use Rattle.numbers.specs.Answer.{badLine, verticesLine, placeLine, countLine, answer, answered, room}
 
 -- ---- which answer a line gets
 pub answer-long : (line : List ℕ) → 128 < length line → badLine ≡ answer line
@@ -83,6 +85,25 @@ count-short n f = omega (arith, length-append (shown n) (10 ∷ []), shown-ten n
 pub next-fits : (line : List ℕ) (at : ℕ) → Fits w32 (nextU32 line at .value)
 unfolding nextU32
 next-fits line at = u32-fits (fieldAt line at)
+
+pub answer-short : (line : List ℕ) → length (answer line) ≤ 72
+unfolding answer
+answer-short line = by (leb (length line) 128) (readVertices (fields line) .ok) (readPlace (fields line) .ok) (eqb (nextU32 line 0 .next) (length line + 1))
+  where
+    by : (a b c d : Bool)
+        → length (cond a (cond b (verticesLine (readVertices (fields line))) (cond c (placeLine (readPlace (fields line))) (cond d (countLine (nextU32 line 0 .value)) badLine))) badLine) ≤ 72
+    by false b c d = omega arith
+    by true true c d = vertices-short (fields line)
+    by true false true d = omega (arith, place-short (fields line))
+    by true false false true = omega (arith, count-short (nextU32 line 0 .value) (next-fits line 0))
+    by true false false false = omega arith
+
+-- ---- so answers stay within their buffer
+pub answered-within : (o : ℕ × List ℕ) (line : List ℕ) → room o ≡ true → answered o line .0 ≤ length (answered o line .1)
+answered-within o line r = rw (length-sets (o .1) (o .0) (answer line)) (omega (arith, leb-true (o .0 + 72) (length (o .1)) r, answer-short line))
+
+pub lines-within : (s : List ℕ) (turns at : ℕ) (o : ℕ × List ℕ) → o .0 ≤ length (o .1) → handled room answered s turns at o .1 .0 ≤ length (handled room answered s turns at o .1 .1)
+lines-within s turns at o h = handled-keeps answered room (λ (p : ℕ × List ℕ). p .0 ≤ length (p .1)) (λ p l r q. answered-within p l r) s turns at o h
 
 -- ---- a line, as the code lends it
 pub line-is : (s : List ℕ) (at end : ℕ) → end ≡ lineEnd s at → take (end - at) (drop at s) ≡ lineAt s at

@@ -1,6 +1,120 @@
 // Reads lines of tab-parted numbers and writes back what it understood: six coordinates, two, or one unsigned number, each in its shortest
-// text; `bad line` for any other.
+// text; `bad line` for any other. A line ends at LF or at the end of the input, of whatever length that is and in whatever parts it comes.
 mod answer;
 mod lines;
 
-fn main() {}
+ghost use mathlib.Core.Path.{_≡_};
+ghost use Prim.Native.Nat.{_+_, _≤_, _<_};
+ghost use lib.ListN.{length};
+ghost use Rattle.numbers.specs.Standing.{Standing};
+use answer::answer_line;
+use libc::STDIN_FILENO;
+use libc::STDOUT_FILENO;
+use lines::answer_lines;
+
+// The bytes of the input from `next` up to `end` are still to be looked at, the output is filled up to `at`, and whether there may be more input.
+pub struct State {
+    pub next: usize,
+    pub end: usize,
+    pub at: usize,
+    pub more: bool,
+}
+
+// Writes the output once it is half full, and answers how far it is filled then.
+fn flush(out: &[u8], at: usize) -> usize
+    requires { ⌜ at ≤ length (now out) ⌝ }
+    ensures { λ r. ⌜ r < 32768 ⌝ }
+{
+    if at < 32768 {
+        return at;
+    }
+    io::write_all(STDOUT_FILENO, &out[..at]);
+    0
+}
+
+// Reads once behind the bytes that are kept, and answers how many came: none at the end of the input.
+fn read_more(input: &mut [u8], kept: usize) -> usize
+    requires { ⌜ kept ≤ length (now input) ⌝ }
+    ensures { λ r. ⌜ kept + r ≤ length (now (input .entry)) ⌝ }
+{
+    let space = &mut input[kept..];
+    let got = libc::read(STDIN_FILENO, space);
+    io::count(got, space)
+}
+
+// Answers the lines that are there and that LF ends, as far as the output has room.
+fn answer_some(input: &[u8], out: &mut [u8], st: State) -> State
+    requires { ⌜ Standing st × (length (now input) ≡ 65536) × (length (now out) ≡ 65536) ⌝ }
+    ensures { λ r. ⌜ Standing r ⌝ }
+{
+    let end = st.end;
+    let done = answer_lines(&input[..end], st.next, out, st.at);
+    let at = flush(out, done.at);
+    State {
+        next: done.next,
+        end,
+        at,
+        more: st.more,
+    }
+}
+
+// Once no line is left that LF ends: keeps what is behind the last of them, of which 129 bytes are enough, and reads on.
+fn refill(input: &mut [u8], st: State) -> State
+    requires { ⌜ Standing st × (length (now input) ≡ 65536) ⌝ }
+    ensures { λ r. ⌜ Standing r ⌝ }
+{
+    let end = st.end;
+    let next = st.next;
+    if text::part_end(&input[..end], next, b'\n') < end {
+        return st;
+    }
+    let kept = text::keep(input, next, end, 129);
+    let got = read_more(input, kept);
+    State {
+        next: 0,
+        end: kept + got,
+        at: st.at,
+        more: got > 0,
+    }
+}
+
+// Answers a last line that lacks its LF, and answers how far the output is filled then.
+fn last_line(input: &[u8], out: &mut [u8], st: State) -> usize
+    requires { ⌜ Standing st × (length (now input) ≡ 65536) × (length (now out) ≡ 65536) ⌝ }
+    ensures { λ r. ⌜ r ≤ 65536 ⌝ }
+{
+    let next = st.next;
+    let end = st.end;
+    let at = st.at;
+    if next == end {
+        return at;
+    }
+    answer_line(&input[next..end], out, at)
+}
+
+// Turn after turn, until the input ends. A proved loop has to end, and nothing says that an input does: so the turns are counted down, from a number
+// that no run uses up.
+fn run(input: &mut [u8], out: &mut [u8])
+    requires { ⌜ (length (now input) ≡ 65536) × (length (now out) ≡ 65536) ⌝ }
+{
+    let mut st = State {
+        next: 0,
+        end: 0,
+        at: 0,
+        more: true,
+    };
+    let mut turns = u64::MAX;
+    while turns > 0 && st.more {
+        turns -= 1;
+        st = answer_some(input, out, st);
+        st = refill(input, st);
+    }
+    let at = last_line(input, out, st);
+    io::write_all(STDOUT_FILENO, &out[..at]);
+}
+
+fn main() {
+    let mut input = io::large_buffer();
+    let mut out = io::large_buffer();
+    run(&mut input, &mut out);
+}

@@ -89,6 +89,20 @@ module _ {S : Type 0} (f : S → List ℕ → S) where
       by true false n e r = h
       by false y n e r = h
 
+  -- and keeps what each line keeps
+  pub handled-keeps : (room : S → Bool) (P : S → Type 0) → ((st : S) (l : List ℕ) → room st ≡ true → P st → P (f st l))
+      → (s : List ℕ) (turns at : ℕ) (st : S) → P st → P (handled room f s turns at st .1)
+  unfolding handled
+  handled-keeps room P keep s zero at st h = h
+  handled-keeps room P keep s (suc turns) at st h =
+      by (ltb (lineEnd s at) (length s)) (room st) refl (λ r. handled-keeps room P keep s turns (lineEnd s at + 1) (f st (lineAt s at)) (keep st (lineAt s at) r h))
+    where
+      by : (x y : Bool) → room st ≡ y → (room st ≡ true → P (handled room f s turns (lineEnd s at + 1) (f st (lineAt s at)) .1))
+          → P (cond (x && y) (handled room f s turns (lineEnd s at + 1) (f st (lineAt s at))) (at, st) .1)
+      by true true e r = r e
+      by true false e r = h
+      by false y e r = h
+
   pub handled-over : (room : S → Bool) (s t : List ℕ) (turns at : ℕ) (st : S)
       → over f st (drop at s ++ t) ≡ over f (handled room f s turns at st .1) (drop (handled room f s turns at st .0) s ++ t)
   unfolding handled

@@ -15,6 +15,7 @@ use Rattle.text.specs.declared.Signed.{Signed}
 use Rattle.text.specs.declared.Unsigned.{Unsigned}
 use Rattle.text.specs.Read.{unsigned, plain, negated, readDigits, readU32, readI32}
 use Rattle.text.specs.Fields.{until, fields, fieldAt, fieldEnd, nextPlace, nextU32, nextI32, number, numbers, exactly, readPlace, readVertices}
+use Rattle.text.proofs.And.{and-first}
 use Rattle.text.proofs.Parting.{Reached, Progress, no-field, same-field, progress-start, progress-step, progress-end}
 
 -- ---- parts of a line, as the code lends them
@@ -124,10 +125,6 @@ ended line k at p e = sym (after-end line k) ∙ eq-eqb (after line k) (length l
 
 pub not-ended : (line : List ℕ) (k at : ℕ) → at ≡ after line k → (at ≡ length line + 1 → ⊥) → exactly k (fields line) ≡ false
 not-ended line k at p n = sym (after-end line k) ∙ ne-eqb (after line k) (length line + 1) (λ e. n (p ∙ e))
-
-and-first : (a b : Bool) → a && b ≡ true → a ≡ true
-and-first true b e = refl
-and-first false b e = e
 
 pub exactly-numbers : (k : ℕ) (fs : List (List ℕ)) → exactly k fs ≡ true → numbers k fs ≡ true
 exactly-numbers k fs e = and-first (numbers k fs) (eqb (length fs) k) e

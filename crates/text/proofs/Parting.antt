@@ -45,7 +45,7 @@ from-suc : (b : ℕ) (s : List ℕ) (k : ℕ) → fieldsFrom (b ∷ s) (suc k) �
 from-suc b s k = ap (λ (t : Bool). cond t (fields (drop k s)) []) (leb·suc-suc k (length s))
 
 -- the first field, and those behind its tab
-first-field : (s : List ℕ) → fields s ≡ take (until 9 s) s ∷ fieldsFrom s (until 9 s + 1)
+pub first-field : (s : List ℕ) → fields s ≡ take (until 9 s) s ∷ fieldsFrom s (until 9 s + 1)
 first-field [] = refl
 first-field (b ∷ s) = at (eqb b 9) refl (first-field s)
   where

@@ -1,6 +1,6 @@
 -- Laws of reading a number digit by digit. Assumes nothing.
 use mathlib.Core.Path.{_≡_, refl, sym, ap, ap₂, _∙_, subst}
-use mathlib.Core.Bool.{Bool, true, false, cond, _&&_, false≢true}
+use mathlib.Core.Bool.{Bool, true, false, cond, _&&_}
 use mathlib.Core.List.{List, [], _∷_}
 use Prim.Native.Nat.{ℕ, zero, suc, _+_, _*_, _-_, _≤_, _<_}
 use native.Mathlib.Nat.{le-trans}
@@ -15,15 +15,12 @@ use mir.Syntax.{w32, w64}
 use mir.Val.{Fits, SFits, toZ, ofZ}
 use mir.Facts.{toZ-ofZ, toZ-pos}
 use Rattle.whole.proofs.Machine.{Has, fits, back, at-most, wide-nat, minus-of}
+use Rattle.text.proofs.And.{and-false, and-second}
 use Rattle.text.specs.declared.Unsigned.{Unsigned}
 use Rattle.text.specs.Digits.{isDigit, allDigits, withDigit, valueFrom, digitsValue}
 use Rattle.text.specs.Read.{unsigned, readDigits, plain, negated, readU32, readI32}
 
--- ---- a test that fails
-pub and-false : (a : Bool) → a && false ≡ false
-and-false true = refl
-and-false false = refl
-
+-- ---- nothing was read
 none-left : (a : Bool) (v : ℕ) → unsigned false 0 ≡ unsigned (a && false) v
 none-left a v = rw (and-false a)
 
@@ -51,11 +48,7 @@ fitting most v b = isDigit b && leb (withDigit v b) most
 
 pub fitting-most : (most v b : ℕ) → fitting most v b ≡ true → withDigit v b ≤ most
 unfolding fitting
-fitting-most most v b e = leb-true (withDigit v b) most (second (isDigit b) (leb (withDigit v b) most) e)
-  where
-    second : (a b : Bool) → a && b ≡ true → b ≡ true
-    second true b e = e
-    second false b e = absurd (false≢true e)
+fitting-most most v b e = leb-true (withDigit v b) most (and-second (isDigit b) (leb (withDigit v b) most) e)
 
 abbrev pub scanned : ℕ → ℕ → List ℕ → Unsigned
 scanned most v [] = unsigned true v

@@ -12,7 +12,7 @@ use lib.Seq.{drop-drop, drop-append-le, take-append-le, take-append-add, drop-ap
 use borrow.Author.Tests.{ltb-true, ltb-false, lt-ltb, le-ltb}
 use Rattle.text.specs.Fields.{until, onFirst, lines}
 use Rattle.text.specs.Lines.{lineEnd, lineAt, firstLine, each, over, handled, taken, whole, streamed}
-use Rattle.text.proofs.Reading.{and-false}
+use Rattle.text.proofs.And.{and-false}
 use Rattle.text.proofs.Parting.{until-within}
 
 -- ---- the first line and those behind it

@@ -73,3 +73,12 @@ readVertices fs =
     cond (exactly 6 fs)
     (record { ok = true; x1 = number fs 0 .value; y1 = number fs 1 .value; x2 = number fs 2 .value; y2 = number fs 3 .value; x3 = number fs 4 .value; y3 = number fs 5 .value })
     (record { ok = false; x1 = pos 0; y1 = pos 0; x2 = pos 0; y2 = pos 0; x3 = pos 0; y3 = pos 0 })
+
+-- ---- the way back: fields, put together with tabs
+abbrev pub joinedBehind : List ℕ → List (List ℕ) → List ℕ
+joinedBehind f [] = f
+joinedBehind f (g ∷ fs) = f ++ (9 ∷ joinedBehind g fs)
+
+abbrev pub joined : List (List ℕ) → List ℕ
+joined [] = []
+joined (f ∷ fs) = joinedBehind f fs

@@ -4,12 +4,10 @@ mod answer;
 mod lines;
 
 ghost use mathlib.Core.Path.{_≡_};
-ghost use Prim.Native.Nat.{_+_, _≤_, _<_};
+ghost use Prim.Native.Nat.{_≤_};
 ghost use lib.ListN.{length};
 ghost use Rattle.numbers.specs.Standing.{Standing};
 use answer::answer_line;
-use libc::STDIN_FILENO;
-use libc::STDOUT_FILENO;
 use lines::answer_lines;
 
 // The bytes of the input from `next` up to `end` are still to be looked at, the output is filled up to `at`, and whether there may be more input.
@@ -20,28 +18,6 @@ pub struct State {
     pub more: bool,
 }
 
-// Writes the output once it is half full, and answers how far it is filled then.
-fn flush(out: &[u8], at: usize) -> usize
-    requires { ⌜ at ≤ length (now out) ⌝ }
-    ensures { λ r. ⌜ r < 32768 ⌝ }
-{
-    if at < 32768 {
-        return at;
-    }
-    io::write_all(STDOUT_FILENO, &out[..at]);
-    0
-}
-
-// Reads once behind the bytes that are kept, and answers how many came: none at the end of the input.
-fn read_more(input: &mut [u8], kept: usize) -> usize
-    requires { ⌜ kept ≤ length (now input) ⌝ }
-    ensures { λ r. ⌜ kept + r ≤ length (now (input .entry)) ⌝ }
-{
-    let space = &mut input[kept..];
-    let got = libc::read(STDIN_FILENO, space);
-    io::count(got, space)
-}
-
 // Answers the lines that are there and that LF ends, as far as the output has room.
 fn answer_some(input: &[u8], out: &mut [u8], st: State) -> State
     requires { ⌜ Standing st × (length (now input) ≡ 65536) × (length (now out) ≡ 65536) ⌝ }
@@ -49,7 +25,7 @@ fn answer_some(input: &[u8], out: &mut [u8], st: State) -> State
 {
     let end = st.end;
     let done = answer_lines(&input[..end], st.next, out, st.at);
-    let at = flush(out, done.at);
+    let at = console::flush(out, done.at);
     State {
         next: done.next,
         end,
@@ -69,7 +45,7 @@ fn refill(input: &mut [u8], st: State) -> State
         return st;
     }
     let kept = text::keep(input, next, end, 129);
-    let got = read_more(input, kept);
+    let got = console::read_more(input, kept);
     State {
         next: 0,
         end: kept + got,
@@ -110,11 +86,11 @@ fn run(input: &mut [u8], out: &mut [u8])
         st = refill(input, st);
     }
     let at = last_line(input, out, st);
-    io::write_all(STDOUT_FILENO, &out[..at]);
+    console::write(out, at);
 }
 
 fn main() {
-    let mut input = io::large_buffer();
-    let mut out = io::large_buffer();
+    let mut input = [0u8; 65536];
+    let mut out = [0u8; 65536];
     run(&mut input, &mut out);
 }

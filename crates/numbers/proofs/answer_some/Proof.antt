@@ -6,6 +6,7 @@ use native.Mathlib.Omega.{arith}
 use lib.ListN.{length, take}
 use lib.Seq.{length-take-le}
 use borrow.Author.Needs.{needs}
+use Rattle.console.proofs.Gathered.{flushed-half}
 use Rattle.text.proofs.Streaming.{handled-within}
 use Rattle.numbers.specs.Answer.{answered, room}
 use Rattle.numbers.proofs.Answers.{lines-within}
@@ -40,7 +41,7 @@ returns c =
     let in-part : c .before .before .before .before .answer-lines .result .next ≤ length part =
     subst (λ (p : ℕ × (ℕ × List ℕ)). p .0 ≤ length part) (sym (c .before .before .before .before .answer-lines .ensures))
     (handled-within answered room part (length part) (s .args .st .next) (s .args .st .at, s .args .out .now) (omega (arith, s .pre .0 .ahead))) in
-    record { ahead = omega arith; within = s .pre .0 .within; filled = c .flush .ensures }
+    record { ahead = omega arith; within = s .pre .0 .within; filled = omega (arith, c .flush .ensures, flushed-half (c .before .before .before .before .answer-lines .result .at)) }
 
 pub answer-some-spec : {M : Type 1} → statement M
 answer-some-spec =

@@ -1,8 +1,7 @@
 -- `numbers::run` keeps both buffers and where it stands in them from turn to turn; the turns that are left get fewer. Assumes nothing.
-use mathlib.Core.Path.{_≡_, sym, _∙_}
+use mathlib.Core.Path.{_≡_, _∙_}
 use native.Mathlib.Omega.{arith}
 use lib.ListN.{length}
-use lib.Seq.{length-take-le}
 use borrow.Author.Needs.{needs}
 use Rattle.numbers.specs.Standing.{Standing}
 use Rattle.numbers.proofs.run.Statement.{statement}
@@ -35,16 +34,10 @@ loop-again c = (c .before .before .refill .ensures, c .before .before .refill .k
 last-line-requires : tie.Need-last-line-requires Inv-loop μ-loop
 last-line-requires c κs = c .before .before .before .loop .inv
 
-slice-reshare-prefix-write-all : tie.Need-slice-reshare-prefix-write-all Inv-loop μ-loop
-slice-reshare-prefix-write-all c = search needs
-
-slice-aggregate-write-all : tie.Need-slice-aggregate-write-all Inv-loop μ-loop
-slice-aggregate-write-all c =
+write-requires : tie.Need-write-requires Inv-loop μ-loop
+write-requires c κs =
     let w = c .before .before .before .last-line in
-    sym (length-take-le (w .result) (w .last .1 .0) (omega (arith, w .ensures, w .kept .1 .0, c .before .before .before .before .before .before .before .loop .inv .2)))
-
-write-all-requires : tie.Need-write-all-requires Inv-loop μ-loop
-write-all-requires c κs = search needs
+    omega (arith, w .ensures, w .kept .1 .0, c .before .before .before .before .before .before .before .loop .inv .2)
 
 same-length : tie.Need-same-length Inv-loop μ-loop
 same-length c = search needs
@@ -68,9 +61,7 @@ run-spec =
     loop-less
     loop-again
     last-line-requires
-    slice-reshare-prefix-write-all
-    slice-aggregate-write-all
-    write-all-requires
+    write-requires
     same-length
     same-length-2
     returns)

@@ -8,7 +8,7 @@ use lib.Seq.{sets}
 use Rattle.text.specs.declared.Place.{Place}
 use Rattle.text.specs.declared.Vertices.{Vertices}
 use Rattle.text.specs.Fields.{fields, nextU32, readPlace, readVertices}
-use Rattle.text.specs.Lines.{handled}
+use Rattle.text.specs.Lines.{over}
 use Rattle.text.specs.Show.{shown, field, triple}
 
 -- `bad line`, LF
@@ -41,3 +41,10 @@ answered o line = (o .0 + length (answer line), sets (o .1) (o .0) (answer line)
 -- the longest answer has six numbers of eleven bytes, and a byte behind each
 abbrev pub room : ℕ × List ℕ → Bool
 room o = leb (o .0 + 72) (length (o .1))
+
+-- ---- what the program writes for an input: the answers to its lines
+abbrev pub said : List ℕ → List ℕ → List ℕ
+said out line = out ++ answer line
+
+abbrev pub output : List ℕ → List ℕ
+output input = over said [] input

@@ -76,7 +76,26 @@ module _ {S : Type 0} (f : S → List ℕ → S) where
       more : at + (until 10 (drop at s) + 1) ≡ at + until 10 (drop at s) + 1
       more = omega arith
 
-  -- ---- handling lines from a place on leaves those behind it to be handled
+  -- ---- handling lines from a place on leaves those behind it to be handled. The handler may be another, g, if what it does is, seen through a view,
+  -- what f does, as long as there is room
+  pub handled-seen : {X : Type 0} (room : X → Bool) (g : X → List ℕ → X) (view : X → S) → ((x : X) (l : List ℕ) → room x ≡ true → view (g x l) ≡ f (view x) l)
+      → (s t : List ℕ) (turns at : ℕ) (x : X)
+      → over f (view x) (drop at s ++ t) ≡ over f (view (handled room g s turns at x .1)) (drop (handled room g s turns at x .0) s ++ t)
+  unfolding handled
+  handled-seen room g view same s t zero at x = refl
+  handled-seen {X} room g view same s t (suc turns) at x =
+      by (ltb (lineEnd s at) (length s)) (room x) (handled room g s turns (lineEnd s at + 1) (g x (lineAt s at))) refl refl
+      (handled-seen room g view same s t turns (lineEnd s at + 1) (g x (lineAt s at)))
+    where
+      by : (a b : Bool) (n : ℕ × X) → ltb (lineEnd s at) (length s) ≡ a → room x ≡ b
+          → over f (view (g x (lineAt s at))) (drop (lineEnd s at + 1) s ++ t) ≡ over f (view (n .1)) (drop (n .0) s ++ t)
+          → over f (view x) (drop at s ++ t) ≡ over f (view (cond (a && b) n (at, x) .1)) (drop (cond (a && b) n (at, x) .0) s ++ t)
+      by true true n e q r =
+          over-at (view x) s t at (ltb-true (lineEnd s at) (length s) e)
+          ∙ ap (λ (y : S). over f y (drop (lineEnd s at + 1) s ++ t)) (sym (same x (lineAt s at) q)) ∙ r
+      by true false n e q r = refl
+      by false b n e q r = refl
+
   pub handled-within : (room : S → Bool) (s : List ℕ) (turns at : ℕ) (st : S) → at ≤ length s → handled room f s turns at st .0 ≤ length s
   unfolding handled
   handled-within room s zero at st h = h
@@ -105,17 +124,7 @@ module _ {S : Type 0} (f : S → List ℕ → S) where
 
   pub handled-over : (room : S → Bool) (s t : List ℕ) (turns at : ℕ) (st : S)
       → over f st (drop at s ++ t) ≡ over f (handled room f s turns at st .1) (drop (handled room f s turns at st .0) s ++ t)
-  unfolding handled
-  handled-over room s t zero at st = refl
-  handled-over room s t (suc turns) at st =
-      by (ltb (lineEnd s at) (length s)) (room st) (handled room f s turns (lineEnd s at + 1) (f st (lineAt s at))) refl
-      (handled-over room s t turns (lineEnd s at + 1) (f st (lineAt s at)))
-    where
-      by : (x y : Bool) (n : ℕ × S) → ltb (lineEnd s at) (length s) ≡ x → over f (f st (lineAt s at)) (drop (lineEnd s at + 1) s ++ t) ≡ over f (n .1) (drop (n .0) s ++ t)
-          → over f st (drop at s ++ t) ≡ over f (cond (x && y) n (at, st) .1) (drop (cond (x && y) n (at, st) .0) s ++ t)
-      by true true n e r = over-at st s t at (ltb-true (lineEnd s at) (length s) e) ∙ r
-      by true false n e r = refl
-      by false y n e r = refl
+  handled-over room s t turns at st = handled-seen room f (λ (x : S). x) (λ x l r. refl) s t turns at st
 
   -- with turns enough and room for all, no LF is left
   handled-all : (s : List ℕ) (turns at : ℕ) (st : S) → at ≤ length s → length s ≤ at + turns

@@ -35,7 +35,7 @@ one-line : (before : List ℕ) (o : ℕ × List ℕ) (line : List ℕ) → room 
 one-line before o line r =
     let fits : o .0 + length (answer line) ≤ length (o .1) = omega (arith, leb-true (o .0 + 72) (length (o .1)) r, answer-short line) in
     let filled : length (take (o .0) (o .1) ++ answer line) ≡ o .0 + length (answer line) =
-        omega (arith, length-append (take (o .0) (o .1)) (answer line), length-take-le (o .0) (o .1) (omega arith)) in
+    omega (arith, length-append (take (o .0) (o .1)) (answer line), length-take-le (o .0) (o .1) (omega arith)) in
     ap (λ (l : List ℕ). before ++ take (o .0 + length (answer line)) l) (sets-eq (answer line) (o .1) (o .0) fits)
     ∙ ap (λ (l : List ℕ). before ++ l) (take-at (take (o .0) (o .1) ++ answer line) (drop (o .0 + length (answer line)) (o .1)) (o .0 + length (answer line)) filled)
     ∙ sym (append-assoc before (take (o .0) (o .1)) (answer line))
@@ -43,5 +43,5 @@ one-line before o line r =
 -- what `answer_lines` leaves to be answered, with what it answered, is what it had to answer
 pub lines-said : (before s more : List ℕ) (turns at : ℕ) (o : ℕ × List ℕ)
     → over said (seen before o) (drop at s ++ more)
-      ≡ over said (seen before (handled room answered s turns at o .1)) (drop (handled room answered s turns at o .0) s ++ more)
+    ≡ over said (seen before (handled room answered s turns at o .1)) (drop (handled room answered s turns at o .0) s ++ more)
 lines-said before s more turns at o = handled-seen said room answered (seen before) (one-line before) s more turns at o

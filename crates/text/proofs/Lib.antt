@@ -6,3 +6,5 @@ pub mod Parting
 pub mod Numbers
 pub mod Streaming
 pub mod Joining
+pub mod Determined
+pub mod Examples

@@ -17,7 +17,7 @@ lastDigits (suc k) n = lastDigits k (n / 10) ++ (lastDigit n ∷ [])
 -- at most turns + 1 digits of n, the last ones, without leading zeros
 abbrev pub shownBy : ℕ → ℕ → List ℕ
 shownBy zero n = lastDigit n ∷ []
-shownBy (suc turns) n = cond (ltb n 10) (lastDigit n ∷ []) (shownBy turns (n / 10) ++ (lastDigit n ∷ []))
+shownBy (suc turns) n = let before : List ℕ = shownBy turns (n / 10) in cond (ltb n 10) (lastDigit n ∷ []) (before ++ (lastDigit n ∷ []))
 
 -- all of them: `0`, or digits of which the first is not `0`
 unfoldable pub shown : ℕ → List ℕ

@@ -23,7 +23,7 @@ returns : tie.Need-returns Inv-loop μ-loop
 returns c =
     let s = c .before .before .args .s .now in
     let limit = c .before .before .args .limit in
-    ⊎-elim (λ w. read-empty limit _ s (w .taken)) (λ w. read-long limit _ s (ltb-true limit (length s) (w .1 .taken))) (c .if1 .came)
+    ⊎-elim (λ w. read-empty limit _ s (omega arith)) (λ w. read-long limit _ s (ltb-true limit (length s) (w .1 .taken))) (c .if1 .came)
 
 loop-holds : tie.Need-loop-holds Inv-loop μ-loop
 loop-holds c = search needs

@@ -45,7 +45,7 @@ read-digits-requires-2 : tie.Need-read-digits-requires-2
 read-digits-requires-2 c κs = search needs
 
 cast-t15 : tie.Need-cast-t15
-cast-t15 c = record { sfits = omega (arith, read-most 10 2147483647 _ (c .before .read-digits2 .result) (c .before .read-digits2 .ensures)) }
+cast-t15 c = record { sfits = omega (arith, read-most _ _ _ (c .before .read-digits2 .result) (c .before .read-digits2 .ensures)) }
 
 returns-3 : tie.Need-returns-3
 returns-3 c =

@@ -1,5 +1,5 @@
 -- Laws of the program's answers: which one a line gets, and that each is at most 72 bytes long. Assumes nothing.
-use mathlib.Core.Path.{_≡_, refl, sym, ap, _∙_}
+use mathlib.Core.Path.{_≡_, ap}
 use mathlib.Core.Bool.{Bool, true, false, cond}
 use mathlib.Core.List.{List, [], _∷_, _++_}
 use Prim.Native.Nat.{ℕ, _+_, _-_, _≤_, _<_}
@@ -11,8 +11,6 @@ use lib.Seq.{length-sets}
 use borrow.Author.Tests.{le-leb, lt-leb, eq-eqb, ne-eqb, leb-true}
 use mir.Syntax.{w32}
 use mir.Val.{Fits, SFits}
-use Rattle.text.specs.declared.Place.{Place}
-use Rattle.text.specs.declared.Vertices.{Vertices}
 use Rattle.text.specs.Fields.{until, fields, fieldAt, nextU32, number, exactly, readPlace, readVertices}
 use Rattle.text.specs.Lines.{lineEnd, lineAt, handled}
 use Rattle.text.specs.Show.{shown, shownSigned, field, triple}

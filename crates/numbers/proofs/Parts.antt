@@ -1,12 +1,12 @@
 -- What is written does not depend on the parts in which the input comes, nor on when the output's buffer is written. Assumes nothing.
 use mathlib.Core.Path.{_≡_, refl, sym, ap, _∙_}
 use mathlib.Core.Bool.{Bool, true, false}
-use mathlib.Core.List.{List, [], _∷_, _++_, append-assoc}
-use Prim.Native.Nat.{ℕ, _+_, _≤_, _<_}
+use mathlib.Core.List.{List, [], _++_, append-assoc}
+use Prim.Native.Nat.{ℕ, _+_, _≤_}
 use native.Mathlib.Omega.{arith}
 use lib.Dec.{leb}
 use lib.ListN.{length, take, drop, length-append, length-take}
-use lib.Seq.{sets, sets-eq, take-all, take-at, length-take-le}
+use lib.Seq.{sets-eq, take-all, take-at, length-take-le}
 use borrow.Author.Tests.{leb-true, leb-false}
 use Rattle.text.specs.Lines.{over, handled, whole, streamed}
 use Rattle.text.proofs.Streaming.{handled-seen, streamed-is}

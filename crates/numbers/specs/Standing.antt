@@ -1,5 +1,4 @@
 -- Where the program stands between two reads.
-use mathlib.Core.Path.{_≡_}
 use Prim.Native.Nat.{_≤_, _<_}
 use Rattle.numbers.specs.declared.State.{State}
 

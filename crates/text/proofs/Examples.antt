@@ -1,11 +1,9 @@
 -- Worked examples: what is a number and what is none, how numbers are written, and how a line is parted. Each is computed. Assumes nothing.
 use mathlib.Core.Path.{_≡_, refl}
 use mathlib.Core.Bool.{true, false}
-use mathlib.Core.List.{List, [], _∷_}
-use Prim.Native.Nat.{ℕ}
+use mathlib.Core.List.{[], _∷_}
 use lib.IntN.{pos, negsuc}
 use Rattle.text.specs.declared.Signed.{Signed}
-use Rattle.text.specs.declared.Unsigned.{Unsigned}
 use Rattle.text.specs.Read.{unsigned, readDigits, readU32, readI32}
 use Rattle.text.specs.Fields.{fields, lines}
 use Rattle.text.specs.Show.{shown, shownSigned, triple}

@@ -6,13 +6,11 @@ use Prim.Native.Nat.{ℕ, zero, suc, _+_, _*_, _≤_, _<_, min}
 use native.Mathlib.Omega.{arith}
 use lib.Dec.{leb, eqb}
 use lib.IntN.{pos}
-use lib.ListN.{length, take, drop, getD, length-take}
+use lib.ListN.{length, take, getD, length-take}
 use lib.Seq.{take-take}
 use borrow.Author.Tests.{leb-true, leb-false, eqb-true, eqb-false}
-use Rattle.text.specs.declared.Signed.{Signed}
-use Rattle.text.specs.declared.Vertices.{Vertices}
 use Rattle.text.specs.Digits.{allDigits, digitsValue}
-use Rattle.text.specs.Read.{unsigned, plain, negated, readDigits, readI32}
+use Rattle.text.specs.Read.{plain, negated, readDigits, readI32}
 use Rattle.text.specs.Fields.{until, onFirst, fields, joinedBehind, joined, number, numbers, exactly, readVertices}
 use Rattle.text.specs.Lines.{firstLine}
 use Rattle.text.proofs.And.{and-second}

@@ -1,22 +1,21 @@
 -- Laws of reading numbers field by field: what is found at a place, and lines of signed numbers. Assumes nothing.
-use mathlib.Core.Path.{_≡_, refl, sym, ap, ap₂, subst, _∙_}
-use mathlib.Core.Bool.{Bool, true, false, cond, _&&_, true≢false, false≢true}
+use mathlib.Core.Path.{_≡_, refl, sym, ap, ap₂, _∙_}
+use mathlib.Core.Bool.{Bool, true, false, cond}
 use mathlib.Core.List.{List, [], _∷_}
-use Prim.Native.Nat.{ℕ, zero, suc, _+_, _-_, _≤_, _<_}
+use Prim.Native.Nat.{ℕ, zero, suc, _+_, _-_, _<_}
 use native.Mathlib.Omega.{arith}
 use lib.Dec.{eqb}
 use lib.IntN.{ℤ, pos}
-use lib.ListN.{length, take, drop, getD, length-drop}
+use lib.ListN.{length, take, drop, length-drop}
 use lib.Seq.{take-all}
 use borrow.Author.Tests.{eq-eqb, ne-eqb}
 use Rattle.text.specs.declared.NextI32.{NextI32}
-use Rattle.text.specs.declared.NextU32.{NextU32}
 use Rattle.text.specs.declared.Signed.{Signed}
 use Rattle.text.specs.declared.Unsigned.{Unsigned}
 use Rattle.text.specs.Read.{unsigned, plain, negated, readDigits, readU32, readI32}
-use Rattle.text.specs.Fields.{until, fields, fieldAt, fieldEnd, nextPlace, nextU32, nextI32, number, numbers, exactly, readPlace, readVertices}
+use Rattle.text.specs.Fields.{until, fields, fieldAt, fieldEnd, nextU32, nextI32, number, numbers, exactly, readPlace, readVertices}
 use Rattle.text.proofs.And.{and-first}
-use Rattle.text.proofs.Parting.{Reached, Progress, no-field, same-field, progress-start, progress-step, progress-end}
+use Rattle.text.proofs.Parting.{Progress, no-field, same-field, progress-start, progress-step, progress-end}
 
 -- ---- parts of a line, as the code lends them
 pub rest-is : (line : List ℕ) (at : ℕ) → take (length line - at) (drop at line) ≡ drop at line

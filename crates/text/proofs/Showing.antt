@@ -1,8 +1,8 @@
 -- Laws of a number's decimal text: it is the digits from the last on, it has at most ten of them for a 32-bit number, and it reads back. Assumes nothing.
-use mathlib.Core.Path.{_≡_, refl, sym, ap, ap₂, _∙_, subst}
-use mathlib.Core.Bool.{Bool, true, false, cond, _&&_, false≢true, true≢false}
-use mathlib.Core.List.{List, [], _∷_, _++_, append-assoc}
-use Prim.Native.Nat.{ℕ, zero, suc, _+_, _*_, _-_, _/_, _%_, _≤_, _<_, _^_}
+use mathlib.Core.Path.{_≡_, refl, sym, ap, _∙_}
+use mathlib.Core.Bool.{Bool, true, false, _&&_, false≢true, true≢false}
+use mathlib.Core.List.{List, [], _∷_, _++_}
+use Prim.Native.Nat.{ℕ, zero, suc, _+_, _-_, _/_, _≤_, _<_, _^_}
 use native.Mathlib.Nat.{le-trans, pow-suc}
 use native.Mathlib.Numerals.{add-one}
 use native.Mathlib.Omega.{arith}
@@ -18,7 +18,6 @@ use Rattle.text.specs.Digits.{isDigit, allDigits, withDigit, valueFrom, 
 use Rattle.text.proofs.Reading.{digit-yes, signed-plain}
 use Rattle.text.specs.Show.{lastDigit, shownBy, shown, lastDigits, shownSigned}
 use Rattle.text.specs.Read.{unsigned, readDigits, readU32, readI32, negated}
-use Rattle.text.specs.declared.Signed.{Signed}
 
 -- ---- turns to spare change nothing
 enough : (f g n : ℕ) → n ≤ f → n ≤ g → shownBy f n ≡ shownBy g n

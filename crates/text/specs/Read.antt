@@ -1,9 +1,9 @@
 -- Which bytes are a number, and which number they are: 01, the last part of "Known small answers", on the coordinates that `spans` reads.
-use mathlib.Core.Bool.{Bool, true, false, cond, _&&_}
+use mathlib.Core.Bool.{Bool, false, cond, _&&_}
 use mathlib.Core.List.{List, [], _∷_}
 use Prim.Native.Nat.{ℕ}
 use lib.Dec.{leb, eqb}
-use lib.IntN.{ℤ, pos, negℤ}
+use lib.IntN.{pos, negℤ}
 use lib.ListN.{length}
 use Rattle.text.specs.Digits.{allDigits, digitsValue}
 use Rattle.text.specs.declared.Unsigned.{Unsigned}

@@ -1,5 +1,4 @@
 -- `console::flush` makes the test of `flushed`. Assumes nothing.
-use mathlib.Core.Path.{_≡_}
 use borrow.Author.Needs.{needs}
 use borrow.Author.Tests.{lt-ltb, le-ltb}
 use Rattle.console.proofs.flush.Statement.{statement}

@@ -1,5 +1,5 @@
 -- `numbers::refill` keeps no more bytes than there are, and reads no more than fit behind them. Assumes nothing.
-use mathlib.Core.Path.{_≡_, sym}
+use mathlib.Core.Path.{sym}
 use native.Mathlib.Omega.{arith}
 use lib.Seq.{length-take-le}
 use borrow.Author.Needs.{needs}

@@ -1,5 +1,4 @@
 -- `numbers::answer::write_count` writes the number and an LF. Assumes nothing.
-use mathlib.Core.Path.{_≡_}
 use mathlib.Core.List.{[], _∷_}
 use native.Mathlib.Omega.{arith}
 use lib.ListN.{length-append, length-set}

@@ -1,5 +1,5 @@
 -- `numbers::answer::write_place` writes the two numbers one behind the other. Assumes nothing.
-use mathlib.Core.Path.{_≡_, _∙_}
+use mathlib.Core.Path.{_∙_}
 use native.Mathlib.Omega.{arith}
 use lib.ListN.{length-append}
 use mir.Syntax.{w32}

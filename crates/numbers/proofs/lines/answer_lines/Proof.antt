@@ -1,13 +1,13 @@
 -- `numbers::lines::answer_lines` answers a line a turn; what is still to be handled is at each turn what was at the start. Assumes nothing.
-use mathlib.Core.Path.{_≡_, refl, sym, ap, ap₂, _∙_}
-use mathlib.Core.Bool.{true, false}
+use mathlib.Core.Path.{_≡_, sym, ap, ap₂, _∙_}
+use mathlib.Core.Bool.{true}
 use mathlib.Core.List.{List}
 use Prim.Native.Nat.{ℕ, _+_, _-_, _≤_, _<_}
 use native.Mathlib.Omega.{arith}
-use lib.ListN.{length, take, drop}
+use lib.ListN.{length}
 use borrow.Author.Needs.{needs}
 use borrow.Author.Tests.{leb-true, not-true, not-false}
-use Rattle.text.specs.Lines.{lineEnd, lineAt, handled}
+use Rattle.text.specs.Lines.{lineEnd, handled}
 use Rattle.text.proofs.Parting.{part-end-within}
 use Rattle.text.proofs.Streaming.{handled-turn, handled-none, handled-full}
 use Rattle.text.proofs.Writing.{wrote-as}

@@ -1,9 +1,8 @@
 -- `numbers::lines::has_room` compares without a sum that could wrap. Assumes nothing.
-use mathlib.Core.Path.{_≡_, sym}
+use mathlib.Core.Path.{sym}
 use Prim.Native.Nat.{_+_, _-_}
 use native.Mathlib.Omega.{arith}
 use lib.Dec.{leb}
-use borrow.Author.Needs.{needs}
 use borrow.Author.Tests.{lt-leb}
 use Rattle.whole.proofs.Decides.{decides-leb, decides-map, decides-one}
 use Rattle.numbers.proofs.lines.has_room.Statement.{statement}

@@ -1,10 +1,9 @@
 -- `text::fields::next_i32` reads the field where there is one. Assumes nothing.
-use mathlib.Core.Path.{_≡_, ap, _∙_}
+use mathlib.Core.Path.{ap, _∙_}
 use mathlib.Core.Logic.{⊎-elim}
 use Prim.Native.Nat.{_+_}
 use native.Mathlib.Omega.{arith}
 use lib.IntN.{ℤ}
-use lib.ListN.{length}
 use mir.Syntax.{w32}
 use borrow.Author.Needs.{needs}
 use Rattle.whole.proofs.Machine.{field-back}

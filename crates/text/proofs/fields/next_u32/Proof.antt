@@ -1,8 +1,6 @@
 -- `text::fields::next_u32` reads the field where there is one. Assumes nothing.
-use mathlib.Core.Path.{_≡_}
 use mathlib.Core.Logic.{⊎-elim}
 use native.Mathlib.Omega.{arith}
-use lib.ListN.{length}
 use borrow.Author.Needs.{needs}
 use Rattle.text.proofs.Parting.{part-end-within}
 use Rattle.text.proofs.Numbers.{u32-found, u32-other, u32-past}

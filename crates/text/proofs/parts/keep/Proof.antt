@@ -1,8 +1,6 @@
 -- `text::parts::keep` moves as many bytes as there are, or as may be kept. Assumes nothing.
-use mathlib.Core.Path.{_≡_, ap, _∙_}
-use mathlib.Core.List.{List}
-use Prim.Native.Nat.{ℕ, _-_, min}
-use native.Mathlib.Omega.{arith}
+use mathlib.Core.Path.{ap, _∙_}
+use Prim.Native.Nat.{ℕ, _-_}
 use lib.ListN.{take, drop}
 use lib.Seq.{sets}
 use borrow.Author.Needs.{needs}

@@ -1,6 +1,6 @@
 -- `text::read::read_digits` goes digit by digit; what it has still to find is at each turn what it had to find at the start. Assumes nothing.
-use mathlib.Core.Path.{_≡_, refl, sym, ap, _∙_}
-use mathlib.Core.Bool.{true, false, cond}
+use mathlib.Core.Path.{_≡_, sym, _∙_}
+use mathlib.Core.Bool.{true, false}
 use mathlib.Core.Logic.{⊎-elim}
 use Prim.Native.Nat.{_-_, _≤_}
 use native.Mathlib.Omega.{arith}
@@ -8,7 +8,6 @@ use lib.ListN.{length, drop, getD}
 use borrow.Author.Needs.{needs}
 use borrow.Author.Tests.{ltb-true, ltb-false, not-true, not-false}
 use Rattle.text.specs.Digits.{withDigit}
-use Rattle.text.specs.Read.{unsigned}
 use Rattle.text.proofs.Reading.{fitting, scanned, read-is, read-empty, read-long, scan-goes, scan-stops, scan-ends, fitting-most, ok-is, value-is, none-is}
 use Rattle.text.proofs.read.read_digits.Statement.{statement}
 use Rattle.text.proofs.read.read_digits.Tie as tie

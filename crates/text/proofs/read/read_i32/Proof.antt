@@ -1,5 +1,5 @@
 -- `text::read::read_i32` reads the digits behind a minus up to 2^31 and negates them, and others up to 2^31 - 1. Assumes nothing.
-use mathlib.Core.Path.{_≡_, ap, _∙_}
+use mathlib.Core.Path.{ap, _∙_}
 use native.Mathlib.Omega.{arith}
 use lib.IntN.{ℤ}
 use borrow.Author.Needs.{needs}

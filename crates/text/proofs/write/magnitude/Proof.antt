@@ -1,6 +1,6 @@
 -- `text::write::magnitude` negates a negative number in 64 bits, where the least `i32` has its negative too. Assumes nothing.
-use mathlib.Core.Path.{_≡_, ap, subst}
-use lib.IntN.{ℤ, pos, negℤ, natAbs, _-ℤ_}
+use mathlib.Core.Path.{ap, subst}
+use lib.IntN.{ℤ, pos, natAbs, _-ℤ_}
 use lib.Signed.{_<ℤ_}
 use mir.Syntax.{w32, w64}
 use mir.Val.{SFits, toZ, ofZ}

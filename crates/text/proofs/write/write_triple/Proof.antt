@@ -1,5 +1,5 @@
 -- `text::write::write_triple` writes three numbers, each with the byte behind it. Assumes nothing.
-use mathlib.Core.Path.{_≡_, _∙_}
+use mathlib.Core.Path.{_∙_}
 use mathlib.Core.List.{_++_}
 use native.Mathlib.Omega.{arith}
 use mir.Facts.{toZ-ofZ}

@@ -43,7 +43,7 @@ fn write_bad(out: &mut [u8], at: usize) -> usize
     text::write_bytes(out, at, b"bad line\n")
 }
 
-// The answer to a line, of at most 72 bytes.
+// Inside the library: the answer to a line, of at most 72 bytes.
 pub fn answer_line(line: &[u8], out: &mut [u8], at: usize) -> usize
     requires { ⌜ at + 72 ≤ length (now out) ⌝ }
     ensures { λ r. ⌜ (r ≡ at + length (answer (now (line .entry)))) × (now (out .exit) ≡ sets (now (out .entry)) at (answer (now (line .entry)))) ⌝ }

@@ -23,7 +23,7 @@ fn has_room(length: usize, at: usize) -> bool
     at <= length - 72
 }
 
-// Answers the lines of `input` that an LF ends, from `from` on, as long as there is room for the longest answer; `out` is filled up to `at`.
+// Inside the library: answers the lines of `input` that an LF ends, from `from` on, as long as there is room for the longest answer; `out` is filled up to `at`.
 pub fn answer_lines(input: &[u8], from: usize, out: &mut [u8], at: usize) -> Progress
     requires { ⌜ from ≤ length (now input) ⌝ }
     ensures { λ r. ⌜ (r .next, (r .at, now (out .exit))) ≡ handled room answered (now (input .entry)) (length (now (input .entry))) from (at, now (out .entry)) ⌝ }

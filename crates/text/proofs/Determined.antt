@@ -12,7 +12,7 @@ use Rattle.text.specs.declared.Place.{Place}
 use Rattle.text.specs.declared.Signed.{Signed}
 use Rattle.text.specs.declared.Unsigned.{Unsigned}
 use Rattle.text.specs.declared.Vertices.{Vertices}
-use Rattle.text.specs.Read.{readDigits, readU32, readI32}
+use Rattle.text.specs.Read.{readDigits, readU32, readSigned, readI32}
 use Rattle.text.specs.Fields.{until, fields, nextU32, nextI32, readPlace, readVertices}
 use Rattle.text.specs.Lines.{firstLine, keptPart}
 use Rattle.text.specs.Show.{shown, shownSigned, field, triple}
@@ -26,6 +26,9 @@ read-digits s limit most = one
 
 pub read-u32 : (s : List ℕ) (r q : Unsigned) → r ≡ readU32 s → q ≡ readU32 s → r ≡ q
 read-u32 s = one
+
+pub read-signed : (s : List ℕ) (limit : ℕ) (r q : Signed) → r ≡ readSigned limit s → q ≡ readSigned limit s → r ≡ q
+read-signed s limit = one
 
 pub read-i32 : (s : List ℕ) (r q : Signed) → r ≡ readI32 s → q ≡ readI32 s → r ≡ q
 read-i32 s = one

@@ -4,7 +4,7 @@ use mathlib.Core.Bool.{true, false}
 use mathlib.Core.List.{[], _∷_}
 use lib.IntN.{pos, negsuc}
 use Rattle.text.specs.declared.Signed.{Signed}
-use Rattle.text.specs.Read.{unsigned, readDigits, readU32, readI32}
+use Rattle.text.specs.Read.{unsigned, readDigits, readU32, readSigned, readI32}
 use Rattle.text.specs.Fields.{fields, lines}
 use Rattle.text.specs.Show.{shown, shownSigned, triple}
 
@@ -13,56 +13,56 @@ no = record { ok = false; value = pos 0 }
 
 -- ---- numbers: -0, 0000000007, 2147483647, -2147483648
 minus-zero : readI32 (45 ∷ 48 ∷ []) ≡ record { ok = true; value = pos 0 }
-unfolding readI32 readDigits
+unfolding readSigned readDigits
 minus-zero = refl
 
 zeros-seven : readI32 (48 ∷ 48 ∷ 48 ∷ 48 ∷ 48 ∷ 48 ∷ 48 ∷ 48 ∷ 48 ∷ 55 ∷ []) ≡ record { ok = true; value = pos 7 }
-unfolding readI32 readDigits
+unfolding readSigned readDigits
 zeros-seven = refl
 
 largest : readI32 (50 ∷ 49 ∷ 52 ∷ 55 ∷ 52 ∷ 56 ∷ 51 ∷ 54 ∷ 52 ∷ 55 ∷ []) ≡ record { ok = true; value = pos 2147483647 }
-unfolding readI32 readDigits
+unfolding readSigned readDigits
 largest = refl
 
 least : readI32 (45 ∷ 50 ∷ 49 ∷ 52 ∷ 55 ∷ 52 ∷ 56 ∷ 51 ∷ 54 ∷ 52 ∷ 56 ∷ []) ≡ record { ok = true; value = negsuc 2147483647 }
-unfolding readI32 readDigits
+unfolding readSigned readDigits
 least = refl
 
 -- ---- none: nothing, -, --1, +1, 2147483648, eleven digits, a space, CR or NUL behind a digit
 nothing : readI32 [] ≡ no
-unfolding readI32
+unfolding readSigned
 nothing = refl
 
 minus-alone : readI32 (45 ∷ []) ≡ no
-unfolding readI32 readDigits
+unfolding readSigned readDigits
 minus-alone = refl
 
 minus-twice : readI32 (45 ∷ 45 ∷ 49 ∷ []) ≡ no
-unfolding readI32 readDigits
+unfolding readSigned readDigits
 minus-twice = refl
 
 plus : readI32 (43 ∷ 49 ∷ []) ≡ no
-unfolding readI32 readDigits
+unfolding readSigned readDigits
 plus = refl
 
 too-large : readI32 (50 ∷ 49 ∷ 52 ∷ 55 ∷ 52 ∷ 56 ∷ 51 ∷ 54 ∷ 52 ∷ 56 ∷ []) ≡ no
-unfolding readI32 readDigits
+unfolding readSigned readDigits
 too-large = refl
 
 eleven : readI32 (48 ∷ 48 ∷ 48 ∷ 48 ∷ 48 ∷ 48 ∷ 48 ∷ 48 ∷ 48 ∷ 48 ∷ 49 ∷ []) ≡ no
-unfolding readI32 readDigits
+unfolding readSigned readDigits
 eleven = refl
 
 space : readI32 (49 ∷ 32 ∷ []) ≡ no
-unfolding readI32 readDigits
+unfolding readSigned readDigits
 space = refl
 
 carriage-return : readI32 (49 ∷ 13 ∷ []) ≡ no
-unfolding readI32 readDigits
+unfolding readSigned readDigits
 carriage-return = refl
 
 nul : readI32 (49 ∷ 0 ∷ []) ≡ no
-unfolding readI32 readDigits
+unfolding readSigned readDigits
 nul = refl
 
 -- ---- unsigned: 4294967295 is the last, and a minus is none; four digits where four are the limit

@@ -10,7 +10,7 @@ use lib.ListN.{length, take, getD, length-take}
 use lib.Seq.{take-take}
 use borrow.Author.Tests.{leb-true, leb-false, eqb-true, eqb-false}
 use Rattle.text.specs.Digits.{allDigits, digitsValue}
-use Rattle.text.specs.Read.{plain, negated, readDigits, readI32}
+use Rattle.text.specs.Read.{plain, negated, readDigits, readSigned, readI32}
 use Rattle.text.specs.Fields.{until, onFirst, fields, joinedBehind, joined, number, numbers, exactly, readVertices}
 use Rattle.text.specs.Lines.{firstLine}
 use Rattle.text.proofs.And.{and-second}
@@ -89,7 +89,7 @@ digits-short most s e = by (leb 1 (length s)) (leb (length s) 10) refl e
     by false b q e = absurd (false≢true e)
 
 number-short : (s : List ℕ) → readI32 s .ok ≡ true → length s ≤ 11
-unfolding readI32
+unfolding readSigned
 number-short [] e = omega arith
 number-short (b ∷ s) e = by (eqb b 45) e
   where

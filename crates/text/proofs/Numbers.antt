@@ -12,7 +12,7 @@ use borrow.Author.Tests.{eq-eqb, ne-eqb}
 use Rattle.text.specs.declared.NextI32.{NextI32}
 use Rattle.text.specs.declared.Signed.{Signed}
 use Rattle.text.specs.declared.Unsigned.{Unsigned}
-use Rattle.text.specs.Read.{unsigned, plain, negated, readDigits, readU32, readI32}
+use Rattle.text.specs.Read.{unsigned, plain, negated, readDigits, readU32, readSigned, readI32}
 use Rattle.text.specs.Fields.{until, fields, fieldAt, fieldEnd, nextU32, nextI32, number, numbers, exactly, readPlace, readVertices}
 use Rattle.text.proofs.And.{and-first}
 use Rattle.text.proofs.Parting.{Progress, no-field, same-field, progress-start, progress-step, progress-end}
@@ -39,7 +39,7 @@ plain-none : (f : Bool) (v : ℕ) → plain (unsigned f v) .ok ≡ false → pla
 plain-none f v e = rw e
 
 i32-none : (s : List ℕ) → readI32 s .ok ≡ false → readI32 s .value ≡ pos 0
-unfolding readI32 readDigits
+unfolding readSigned readDigits
 i32-none [] e = refl
 i32-none (b ∷ s) e = by (eqb b 45) e
   where
@@ -53,7 +53,7 @@ unfolding readDigits
 u32-empty = refl
 
 pub i32-empty : readI32 [] .ok ≡ false
-unfolding readI32
+unfolding readSigned
 i32-empty = refl
 
 -- ---- at a place

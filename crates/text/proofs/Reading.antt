@@ -18,7 +18,7 @@ use Rattle.whole.proofs.Machine.{Has, fits, back, at-most, wide-nat, minus-of}
 use Rattle.text.proofs.And.{and-false, and-second}
 use Rattle.text.specs.declared.Unsigned.{Unsigned}
 use Rattle.text.specs.Digits.{isDigit, allDigits, withDigit, valueFrom, digitsValue}
-use Rattle.text.specs.Read.{unsigned, readDigits, plain, negated, readU32, readI32}
+use Rattle.text.specs.Read.{unsigned, readDigits, plain, negated, readU32, readSigned, readI32}
 
 -- ---- nothing was read
 none-left : (a : Bool) (v : ℕ) → unsigned false 0 ≡ unsigned (a && false) v
@@ -117,22 +117,22 @@ read-most limit most s r e =
     by false b c d q = omega arith
 
 -- ---- with a sign
-pub signed-empty : (s : List ℕ) → length s ≡ 0 → plain (unsigned false 0) ≡ readI32 s
-unfolding readI32
-signed-empty [] h = refl
-signed-empty (b ∷ s) h = absurd (omega arith)
+pub signed-empty : (limit : ℕ) (s : List ℕ) → length s ≡ 0 → plain (unsigned false 0) ≡ readSigned limit s
+unfolding readSigned
+signed-empty limit [] h = refl
+signed-empty limit (b ∷ s) h = absurd (omega arith)
 
-pub signed-minus : (s : List ℕ) (r : Unsigned) → 0 < length s → getD s 0 0 ≡ 45
-    → r ≡ readDigits 10 2147483648 (take (length s - 1) (drop 1 s)) → negated r ≡ readI32 s
-unfolding readI32
-signed-minus [] r h e q = absurd (omega arith)
-signed-minus (b ∷ s) r h e q =
-    rw (eq-eqb b 45 e) (ap negated (q ∙ ap (readDigits 10 2147483648) (take-all (suc (length s) - 1) s (omega arith))))
+pub signed-minus : (limit : ℕ) (s : List ℕ) (r : Unsigned) → 0 < length s → getD s 0 0 ≡ 45
+    → r ≡ readDigits limit 2147483648 (take (length s - 1) (drop 1 s)) → negated r ≡ readSigned limit s
+unfolding readSigned
+signed-minus limit [] r h e q = absurd (omega arith)
+signed-minus limit (b ∷ s) r h e q =
+    rw (eq-eqb b 45 e) (ap negated (q ∙ ap (readDigits limit 2147483648) (take-all (suc (length s) - 1) s (omega arith))))
 
-pub signed-plain : (s : List ℕ) (r : Unsigned) → (getD s 0 0 ≡ 45 → ⊥) → r ≡ readDigits 10 2147483647 s → plain r ≡ readI32 s
-unfolding readI32
-signed-plain [] r n q = ap plain (q ∙ sym (read-empty 10 2147483647 [] refl))
-signed-plain (b ∷ s) r n q = rw (ne-eqb b 45 n) (ap plain q)
+pub signed-plain : (limit : ℕ) (s : List ℕ) (r : Unsigned) → (getD s 0 0 ≡ 45 → ⊥) → r ≡ readDigits limit 2147483647 s → plain r ≡ readSigned limit s
+unfolding readSigned
+signed-plain limit [] r n q = ap plain (q ∙ sym (read-empty limit 2147483647 [] refl))
+signed-plain limit (b ∷ s) r n q = rw (ne-eqb b 45 n) (ap plain q)
 
 -- ---- the machine's negation of a number that was read, down to the least `i32`
 neg-fits : (n : ℕ) → n ≤ 2147483648 → SFits w32 (negℤ (pos n))
@@ -157,7 +157,7 @@ plain-is limit s r e = ap (λ (z : ℤ). record { ok = r .ok; value = z }) (toZ-
 
 -- ---- what is read is held by 32 bits
 pub i32-fits : (s : List ℕ) → SFits w32 (readI32 s .value)
-unfolding readI32
+unfolding readSigned
 i32-fits [] = record { sfits = lit< tt }
 i32-fits (b ∷ s) = by (eqb b 45)
   where

@@ -17,7 +17,7 @@ use Rattle.whole.proofs.Difference.{lt-nat}
 use Rattle.text.specs.Digits.{isDigit, allDigits, withDigit, valueFrom, digitsValue}
 use Rattle.text.proofs.Reading.{digit-yes, signed-plain}
 use Rattle.text.specs.Show.{lastDigit, shownBy, shown, lastDigits, shownSigned}
-use Rattle.text.specs.Read.{unsigned, readDigits, readU32, readI32, negated}
+use Rattle.text.specs.Read.{unsigned, readDigits, readU32, readSigned, readI32, negated}
 
 -- ---- turns to spare change nothing
 enough : (f g n : ℕ) → n ≤ f → n ≤ g → shownBy f n ≡ shownBy g n
@@ -138,9 +138,9 @@ no-minus [] h e q = omega arith
 no-minus (b ∷ s) h e q = true≢false (sym e ∙ rw q)
 
 pub reads-back-i32 : (z : ℤ) → SFits w32 z → readI32 (shownSigned z) ≡ record { ok = true; value = z }
-unfolding readI32
+unfolding readSigned
 reads-back-i32 (pos n) f =
-    sym (signed-plain (shown n) (unsigned true n) (no-minus (shown n) (shown-some n) (shown-digits n)) (sym (reads-back 2147483647 n (omega (arith, f .sfits)) (omega (arith, f .sfits)))))
+    sym (signed-plain 10 (shown n) (unsigned true n) (no-minus (shown n) (shown-some n) (shown-digits n)) (sym (reads-back 2147483647 n (omega (arith, f .sfits)) (omega (arith, f .sfits)))))
 reads-back-i32 (negsuc n) f = ap negated (reads-back 2147483648 (suc n) (f .sfits) (omega (arith, f .sfits)))
 
 -- ---- by the sign

@@ -30,7 +30,11 @@ plain u = record { ok = u .ok; value = pos (u .value) }
 abbrev pub negated : Unsigned → Signed
 negated u = record { ok = u .ok; value = negℤ (pos (u .value)) }
 
+-- an optional minus and one to `limit` digits that a 32-bit signed number holds
+unfoldable pub readSigned : ℕ → List ℕ → Signed
+readSigned limit [] = plain (unsigned false 0)
+readSigned limit (b ∷ s) = cond (eqb b 45) (negated (readDigits limit 2147483648 s)) (plain (readDigits limit 2147483647 (b ∷ s)))
+
 -- "an optional minus and one to ten digits that a 32-bit signed number holds"
-unfoldable pub readI32 : List ℕ → Signed
-readI32 [] = plain (unsigned false 0)
-readI32 (b ∷ s) = cond (eqb b 45) (negated (readDigits 10 2147483648 s)) (plain (readDigits 10 2147483647 (b ∷ s)))
+abbrev pub readI32 : List ℕ → Signed
+readI32 s = readSigned 10 s

@@ -14,6 +14,7 @@ pub use parts::keep;
 pub use parts::part_end;
 pub use read::read_digits;
 pub use read::read_i32;
+pub use read::read_signed;
 pub use read::read_u32;
 pub use write::write_bytes;
 pub use write::write_field;

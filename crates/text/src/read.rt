@@ -3,7 +3,7 @@ ghost use mathlib.Core.Path.{_≡_};
 ghost use mathlib.Core.Bool.{_&&_};
 ghost use lib.Dec.{leb};
 ghost use Rattle.text.specs.Digits.{isDigit, withDigit};
-ghost use Rattle.text.specs.Read.{unsigned, readDigits, readU32, readI32};
+ghost use Rattle.text.specs.Read.{unsigned, readDigits, readU32, readSigned, readI32};
 use crate::Signed;
 use crate::Unsigned;
 
@@ -11,13 +11,13 @@ use crate::Unsigned;
 fn lengthen(v: u32, b: u8, most: u32) -> Unsigned
     ensures { λ r. ⌜ r ≡ unsigned (isDigit b && leb (withDigit v b) most) (withDigit v b) ⌝ }
 {
-    if b < 48 || b > 57 {
+    if b < b'0' || b > b'9' {
         return Unsigned {
             ok: false,
             value: 0,
         };
     }
-    let longer = v as u64 * 10 + (b - 48) as u64;
+    let longer = v as u64 * 10 + (b - b'0') as u64;
     if longer > most as u64 {
         return Unsigned {
             ok: false,
@@ -57,12 +57,12 @@ pub fn read_digits(s: &[u8], limit: usize, most: u32) -> Unsigned
 pub fn read_u32(s: &[u8]) -> Unsigned
     ensures { λ r. ⌜ r ≡ readU32 (now (s .entry)) ⌝ }
 {
-    read_digits(s, 10, 4294967295)
+    read_digits(s, 10, u32::MAX)
 }
 
-// The `i32` that `s` is: one to ten digits after an optional minus.
-pub fn read_i32(s: &[u8]) -> Signed
-    ensures { λ r. ⌜ r ≡ readI32 (now (s .entry)) ⌝ }
+// The `i32` that `s` is: one to `limit` digits after an optional minus. The least one is its own digits' negative only in 64 bits.
+pub fn read_signed(s: &[u8], limit: usize) -> Signed
+    ensures { λ r. ⌜ r ≡ readSigned limit (now (s .entry)) ⌝ }
 {
     if s.len() == 0 {
         return Signed {
@@ -71,15 +71,22 @@ pub fn read_i32(s: &[u8]) -> Signed
         };
     }
     if s[0] == b'-' {
-        let n = read_digits(&s[1..], 10, 2147483648);
+        let n = read_digits(&s[1..], limit, 2147483648);
         return Signed {
             ok: n.ok,
             value: -(n.value as i64) as i32,
         };
     }
-    let n = read_digits(s, 10, 2147483647);
+    let n = read_digits(s, limit, 2147483647);
     Signed {
         ok: n.ok,
         value: n.value as i32,
     }
+}
+
+// The `i32` that `s` is: one to ten digits after an optional minus.
+pub fn read_i32(s: &[u8]) -> Signed
+    ensures { λ r. ⌜ r ≡ readI32 (now (s .entry)) ⌝ }
+{
+    read_signed(s, 10)
 }

@@ -28,7 +28,7 @@ fn put_digits(buf: &mut [u8], at: usize, count: usize, v: u32)
     let mut i = count;
     while i > 0 {
         i -= 1;
-        buf[at + i] = 48 + (rest % 10) as u8;
+        buf[at + i] = b'0' + (rest % 10) as u8;
         rest /= 10;
     }
 }

@@ -15,6 +15,7 @@ use Rattle.text.specs.declared.Vertices.{Vertices}
 use Rattle.text.specs.Read.{readDigits, readU32, readSigned, readI32}
 use Rattle.text.specs.Fields.{until, fields, nextU32, nextI32, readPlace, readVertices}
 use Rattle.text.specs.Lines.{firstLine, keptPart}
+use Rattle.text.proofs.Writing.{Wrote}
 use Rattle.text.specs.Show.{shown, shownSigned, field, triple}
 
 one : {A : Type 0} {d : A} (r q : A) → r ≡ d → q ≡ d → r ≡ q
@@ -55,26 +56,23 @@ pub first-vertices : (input : List ℕ) (r q : Vertices) → r ≡ readVertices 
 first-vertices input = one
 
 -- ---- writing: the next place and the buffer, for a text s
-abbrev Written : List ℕ → ℕ → List ℕ → ℕ → List ℕ → Type 0
-Written buf at s r out = (r ≡ at + length s) × (out ≡ sets buf at s)
-
-written : (buf : List ℕ) (at : ℕ) (s : List ℕ) (r q : ℕ) (out end : List ℕ) → Written buf at s r out → Written buf at s q end → (r ≡ q) × (out ≡ end)
+written : (buf : List ℕ) (at : ℕ) (s : List ℕ) (r q : ℕ) (out end : List ℕ) → Wrote buf at s r out → Wrote buf at s q end → (r ≡ q) × (out ≡ end)
 written buf at s r q out end a b = (one r q (a .0) (b .0), one out end (a .1) (b .1))
 
 module _ (buf : List ℕ) (at : ℕ) (r q : ℕ) (out end : List ℕ) where
-  pub write-u32 : (v : ℕ) → Written buf at (shown v) r out → Written buf at (shown v) q end → (r ≡ q) × (out ≡ end)
+  pub write-u32 : (v : ℕ) → Wrote buf at (shown v) r out → Wrote buf at (shown v) q end → (r ≡ q) × (out ≡ end)
   write-u32 v = written buf at (shown v) r q out end
 
-  pub write-i32 : (v : ℤ) → Written buf at (shownSigned v) r out → Written buf at (shownSigned v) q end → (r ≡ q) × (out ≡ end)
+  pub write-i32 : (v : ℤ) → Wrote buf at (shownSigned v) r out → Wrote buf at (shownSigned v) q end → (r ≡ q) × (out ≡ end)
   write-i32 v = written buf at (shownSigned v) r q out end
 
-  pub write-bytes : (s : List ℕ) → Written buf at s r out → Written buf at s q end → (r ≡ q) × (out ≡ end)
+  pub write-bytes : (s : List ℕ) → Wrote buf at s r out → Wrote buf at s q end → (r ≡ q) × (out ≡ end)
   write-bytes s = written buf at s r q out end
 
-  pub write-field : (v : ℤ) (stop : ℕ) → Written buf at (field v stop) r out → Written buf at (field v stop) q end → (r ≡ q) × (out ≡ end)
+  pub write-field : (v : ℤ) (stop : ℕ) → Wrote buf at (field v stop) r out → Wrote buf at (field v stop) q end → (r ≡ q) × (out ≡ end)
   write-field v stop = written buf at (field v stop) r q out end
 
-  pub write-triple : (a b c : ℤ) (stop : ℕ) → Written buf at (triple a b c stop) r out → Written buf at (triple a b c stop) q end → (r ≡ q) × (out ≡ end)
+  pub write-triple : (a b c : ℤ) (stop : ℕ) → Wrote buf at (triple a b c stop) r out → Wrote buf at (triple a b c stop) q end → (r ≡ q) × (out ≡ end)
   write-triple a b c stop = written buf at (triple a b c stop) r q out end
 
 pub keep : (buf : List ℕ) (from to most r q : ℕ) (out end : List ℕ)

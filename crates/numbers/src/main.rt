@@ -4,9 +4,8 @@ mod answer;
 mod lines;
 
 ghost use mathlib.Core.Path.{_≡_};
-ghost use Prim.Native.Nat.{_≤_};
 ghost use lib.ListN.{length};
-ghost use Rattle.numbers.specs.Standing.{Standing};
+ghost use Rattle.numbers.specs.Standing.{Standing, afterLines, afterLast};
 use answer::answer_line;
 use lines::answer_lines;
 
@@ -21,7 +20,7 @@ pub struct State {
 // Answers the lines that are there and that LF ends, as far as the output has room.
 fn answer_some(input: &[u8], out: &mut [u8], st: State) -> State
     requires { ⌜ Standing st × (length (now input) ≡ 65536) × (length (now out) ≡ 65536) ⌝ }
-    ensures { λ r. ⌜ Standing r ⌝ }
+    ensures { λ r. ⌜ (r, now (out .exit)) ≡ afterLines (now (input .entry)) st (now (out .entry)) ⌝ }
 {
     let end = st.end;
     let done = answer_lines(&input[..end], st.next, out, st.at);
@@ -34,7 +33,7 @@ fn answer_some(input: &[u8], out: &mut [u8], st: State) -> State
     }
 }
 
-// Once no line is left that LF ends: keeps what is behind the last of them, of which 129 bytes are enough, and reads on.
+// Once no line is left that LF ends: keeps what is behind the last of them, of which 129 bytes are enough, and reads on. What comes, no contract can say.
 fn refill(input: &mut [u8], st: State) -> State
     requires { ⌜ Standing st × (length (now input) ≡ 65536) ⌝ }
     ensures { λ r. ⌜ Standing r ⌝ }
@@ -57,7 +56,7 @@ fn refill(input: &mut [u8], st: State) -> State
 // Answers a last line that lacks its LF, and answers how far the output is filled then.
 fn last_line(input: &[u8], out: &mut [u8], st: State) -> usize
     requires { ⌜ Standing st × (length (now input) ≡ 65536) × (length (now out) ≡ 65536) ⌝ }
-    ensures { λ r. ⌜ r ≤ 65536 ⌝ }
+    ensures { λ r. ⌜ (r, now (out .exit)) ≡ afterLast (now (input .entry)) st (now (out .entry)) ⌝ }
 {
     let next = st.next;
     let end = st.end;

@@ -1,14 +1,16 @@
--- `numbers::last_line` adds one answer at most to an output that is less than half full. Assumes nothing.
-use native.Mathlib.Omega.{arith}
-use lib.ListN.{take, drop}
-use Prim.Native.Nat.{_-_}
+-- `numbers::last_line` makes the test of `afterLast`. Assumes nothing.
+use mathlib.Core.Path.{ap₂}
+use mathlib.Core.List.{List}
+use Prim.Native.Nat.{ℕ}
 use borrow.Author.Needs.{needs}
-use Rattle.numbers.proofs.Answers.{answer-short}
+use borrow.Author.Tests.{eq-eqb, ne-eqb}
 use Rattle.numbers.proofs.last_line.Statement.{statement}
 use Rattle.numbers.proofs.last_line.Tie as tie
 
 returns : tie.Need-returns
-returns c = search needs
+returns c =
+    let st = c .before .before .before .args .st in
+    rw (eq-eqb (st .next) (st .end) (c .if1 .taken))
 
 sub-answer-line : tie.Need-sub-answer-line
 sub-answer-line c = search needs
@@ -27,9 +29,9 @@ same-length c = search needs
 
 returns-2 : tie.Need-returns-2
 returns-2 c =
-    let s = c .before .before .before .before .before .before .before .before in
-    let st = s .args .st in
-    omega (arith, s .pre .0 .filled, c .before .before .answer-line .ensures .0, answer-short (take (st .end - st .next) (drop (st .next) (s .args .input .now))))
+    let st = c .before .before .before .before .before .before .before .before .args .st in
+    let w = c .before .before .answer-line .ensures in
+    rw (ne-eqb (st .next) (st .end) (c .before .before .before .before .before .if1 .left)) (ap₂ (λ (k : ℕ) (l : List ℕ). (k, l)) (w .0) (w .1))
 
 pub last-line-spec : {M : Type 1} → statement M
 last-line-spec =

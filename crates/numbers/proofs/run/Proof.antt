@@ -1,9 +1,13 @@
 -- `numbers::run` keeps both buffers and where it stands in them from turn to turn; the turns that are left get fewer. Assumes nothing.
-use mathlib.Core.Path.{_≡_, _∙_}
+use mathlib.Core.Path.{_≡_, sym, subst, _∙_}
+use mathlib.Core.List.{List}
+use Prim.Native.Nat.{ℕ, _≤_}
 use native.Mathlib.Omega.{arith}
 use lib.ListN.{length}
 use borrow.Author.Needs.{needs}
+use Rattle.numbers.specs.declared.State.{State}
 use Rattle.numbers.specs.Standing.{Standing}
+use Rattle.numbers.proofs.Standing.{after-standing, last-within}
 use Rattle.numbers.proofs.run.Statement.{statement}
 use Rattle.numbers.proofs.run.Tie as tie
 
@@ -23,7 +27,11 @@ answer-some-requires : tie.Need-answer-some-requires Inv-loop μ-loop
 answer-some-requires c κs = c .before .before .before .before .loop .inv
 
 refill-requires : tie.Need-refill-requires Inv-loop μ-loop
-refill-requires c κs = (c .before .before .before .answer-some .ensures, c .before .before .before .before .before .before .before .before .loop .inv .1)
+refill-requires c κs =
+    let l = c .before .before .before .before .before .before .before .before .loop in (
+      subst (λ (p : State × List ℕ). Standing (p .0)) (sym (c .before .before .before .answer-some .ensures)) (after-standing (l .input) (l .st) (l .out) (l .inv .0) (l .inv .1) (l .inv .2)),
+      l .inv .1,
+    )
 
 loop-less : tie.Need-loop-less Inv-loop μ-loop
 loop-less c = omega arith
@@ -37,7 +45,9 @@ last-line-requires c κs = c .before .before .before .loop .inv
 write-requires : tie.Need-write-requires Inv-loop μ-loop
 write-requires c κs =
     let w = c .before .before .before .last-line in
-    omega (arith, w .ensures, w .kept .1 .0, c .before .before .before .before .before .before .before .loop .inv .2)
+    let l = c .before .before .before .before .before .before .before .loop in
+    let most : w .result ≤ 65536 = subst (λ (p : ℕ × List ℕ). p .0 ≤ 65536) (sym (w .ensures)) (last-within (l .input) (l .st) (l .out) (l .inv .0) (l .inv .1) (l .inv .2)) in
+    omega (arith, w .kept .1 .0, l .inv .2)
 
 same-length : tie.Need-same-length Inv-loop μ-loop
 same-length c = search needs

@@ -5,3 +5,4 @@ pub mod Cells
 pub mod Places
 pub mod Painted
 pub mod Spans
+pub mod Runs

@@ -6,3 +6,4 @@ pub mod Places
 pub mod Painted
 pub mod Spans
 pub mod Runs
+pub mod Fields

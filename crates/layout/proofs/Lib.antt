@@ -7,3 +7,4 @@ pub mod Painted
 pub mod Spans
 pub mod Runs
 pub mod Fields
+pub mod Bytes

@@ -54,6 +54,10 @@ depth-le = depth-cases (λ d. d ≤ 32) (lit≤ tt) (lit≤ tt) (lit≤ tt) (lit
 pub depth-pos : (d : ℕ) → goodDepth d ≡ true → 0 < d
 depth-pos = depth-cases (λ d. 0 < d) (lit< tt) (lit< tt) (lit< tt) (lit< tt) (lit< tt) (lit< tt) (lit< tt)
 
+pub parts-pos : (d : ℕ) → goodDepth d ≡ true → 0 < parts d
+unfolding parts
+parts-pos = depth-cases (λ d. 0 < parts d) (lit< tt) (lit< tt) (lit< tt) (lit< tt) (lit< tt) (lit< tt) (lit< tt)
+
 -- below a byte, and from a byte on
 pub small : (d : ℕ) → d < 8 → 0 < d → (field d ≡ d) × (parts d ≡ 1)
 unfolding field parts

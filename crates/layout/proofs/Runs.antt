@@ -6,7 +6,7 @@ use Prim.Native.Nat.{ℕ, zero, suc, _+_, _-_, _≤_, _<_}
 use native.Mathlib.Nat.{add-zero, le-refl}
 use native.Mathlib.Omega.{arith}
 use lib.ListN.{length, getD, set, take, drop, length-set, take-append-drop}
-use lib.Seq.{getD-set-same, getD-set-other, ext-getD, set-append-left, length-take-le}
+use lib.Seq.{getD-set-same, getD-set-other, ext-getD, set-out, set-append-left, length-take-le}
 use Rattle.layout.specs.Digits.{setRun}
 use Rattle.layout.proofs.Tests.{eq-or-not, lt-or-ge}
 
@@ -43,6 +43,19 @@ run-cong start zero g h b e = refl
 run-cong start (suc n) g h b e =
     ap₂ (λ (l : List ℕ) (v : ℕ). set l (start + n) v) (run-cong start n g h b (λ j k. e j (omega arith))) (e n (le-refl (suc n)))
 
+-- bytes stay bytes
+pub set-bytes : (b : List ℕ) (i v : ℕ) → ((k : ℕ) → getD b k 0 < 256) → v < 256 → (k : ℕ) → getD (set b i v) k 0 < 256
+set-bytes b i v h l k = go (eq-or-not k i) (lt-or-ge i (length b))
+  where
+    go : (k ≡ i) ⊎ (k ≡ i → ⊥) → (i < length b) ⊎ (length b ≤ i) → getD (set b i v) k 0 < 256
+    go (inr f) q = subst (λ (x : ℕ). x < 256) (sym (getD-set-other b i k v 0 f)) (h k)
+    go (inl e) (inl q) = subst (λ (x : ℕ). x < 256) (sym (ap (λ (j : ℕ). getD (set b i v) j 0) e ∙ getD-set-same b i v 0 q)) l
+    go (inl e) (inr q) = subst (λ (x : List ℕ). getD x k 0 < 256) (sym (set-out b i v q)) (h k)
+
+pub run-bytes : (start n : ℕ) (g : ℕ → ℕ) (b : List ℕ) → ((k : ℕ) → getD b k 0 < 256) → ((j : ℕ) → g j < 256) → (k : ℕ) → getD (setRun start n g b) k 0 < 256
+run-bytes start zero g b h l = h
+run-bytes start (suc n) g b h l = set-bytes (setRun start n g b) (start + n) (g n) (run-bytes start n g b h l) (l n)
+
 -- a run, and then what joins it
 pub run-then : (start n m : ℕ) (g : ℕ → ℕ) (b : List ℕ) → setRun (start + n) m (λ j. g (n + j)) (setRun start n g b) ≡ setRun start (n + m) g b
 run-then start n zero g b = ap (λ (k : ℕ). setRun start k g b) (sym (add-zero n))
@@ -76,9 +89,9 @@ run-middle : (p s q : List ℕ) (n : ℕ) (g : ℕ → ℕ) → n ≤ length s �
 run-middle p s q zero g h = refl
 run-middle p s q (suc n) g h =
     sym (ap (λ (l : List ℕ). set l (length p + n) (g n)) (sym (run-middle p s q n g (omega arith)))
-        ∙ set-append-right p (setRun 0 n g s ++ q) n (g n)
-        ∙ ap (λ (l : List ℕ). p ++ l) (set-append-left (setRun 0 n g s) q n (g n) (subst (λ (m : ℕ). n < m) (sym (run-length 0 n g s)) h)
-        ∙ ap (λ (k : ℕ). set (setRun 0 n g s) k (g n) ++ q) zero-left))
+    ∙ set-append-right p (setRun 0 n g s ++ q) n (g n)
+    ∙ ap (λ (l : List ℕ). p ++ l) (set-append-left (setRun 0 n g s) q n (g n) (subst (λ (m : ℕ). n < m) (sym (run-length 0 n g s)) h)
+    ∙ ap (λ (k : ℕ). set (setRun 0 n g s) k (g n) ++ q) zero-left))
   where
     zero-left : n ≡ 0 + n
     zero-left = omega arith

@@ -75,3 +75,195 @@ impl Frame {
         }
     }
 }
+
+// ---- the description and its refusals
+
+fn depth_ok(depth: u32) -> bool
+    ensures { λ r. ⌜ r ≡ goodDepth depth ⌝ }
+{
+    (depth == 1)
+        | (depth == 2)
+        | (depth == 4)
+        | (depth == 8)
+        | (depth == 16)
+        | (depth == 24)
+        | (depth == 32)
+}
+
+fn description_refusal(frame: Frame) -> u32
+    ensures { λ r. ⌜ r ≡ descriptionRefusal frame 0 ⌝ }
+{
+    if !depth_ok(frame.depth) {
+        return 1;
+    }
+    if 2048 < frame.width {
+        return 2;
+    }
+    if 2048 < frame.height {
+        return 2;
+    }
+    0
+}
+
+// The bytes from a row to the next.
+fn row_distance(frame: Frame) -> u32
+    requires { ⌜ descriptionRefusal frame 0 ≡ 0 ⌝ }
+    ensures { λ r. ⌜ (r ≡ rowBytes (frame .width) (frame .depth)) × (r ≤ 8192) ⌝ }
+{
+    (frame.width * frame.depth + 7) / 8
+}
+
+fn frame_bytes(frame: Frame) -> u32
+    requires { ⌜ descriptionRefusal frame 0 ≡ 0 ⌝ }
+    ensures { λ r. ⌜ r ≡ size frame ⌝ }
+{
+    row_distance(frame) * frame.height
+}
+
+// The bytes that a buffer for the frame must have.
+pub fn buffer_size_bpp(frame: Frame) -> Size
+    ensures { λ r. ⌜ r ≡ sized (sizeNumber frame) (size frame) ⌝ }
+{
+    let number = description_refusal(frame);
+    if number != 0 {
+        return Size { number, bytes: 0 };
+    }
+    Size {
+        number: 0,
+        bytes: frame_bytes(frame),
+    }
+}
+
+// The lowest refusal of a frame over a buffer of `len` bytes, 1 to 3, or 0.
+fn frame_refusal(frame: Frame, len: usize) -> u32
+    ensures { λ r. ⌜ r ≡ descriptionRefusal frame (bufferRefusal frame len 0) ⌝ }
+{
+    let number = description_refusal(frame);
+    if number != 0 {
+        return number;
+    }
+    if len < frame_bytes(frame) as usize {
+        return 3;
+    }
+    0
+}
+
+// Inside the library: the lowest refusal, 1 to 4, of a call that draws in a colour on a frame over a buffer of `len` bytes, or 0. A drawing call
+// asks it once; its own refusals come after.
+pub fn draw_refusal(frame: Frame, len: usize, colour: u32) -> u32
+    ensures { λ r. ⌜ r ≡ drawNumber frame len colour 0 ⌝ }
+{
+    let number = frame_refusal(frame, len);
+    if number != 0 {
+        return number;
+    }
+    if 1u64 << frame.depth <= colour as u64 {
+        return 4;
+    }
+    0
+}
+
+// ---- a pixel's field of its byte, at depths 1, 2 and 4
+
+// The bits below pixel x's field. The first pixel is in the high bits.
+fn shift(depth: u32, x: u32) -> u32
+    requires { ⌜ (goodDepth depth ≡ true) × (depth < 8) × (x ≤ 2048) ⌝ }
+    ensures { λ r. ⌜ r ≡ field depth * slotOf depth x ⌝ }
+{
+    8 - depth - x * depth % 8
+}
+
+// Pixel x's bits.
+fn mask(depth: u32, x: u32) -> u8
+    requires { ⌜ (goodDepth depth ≡ true) × (depth < 8) × (x ≤ 2048) ⌝ }
+    ensures { λ r. ⌜ r ≡ pixelMask depth x ⌝ }
+{
+    (((1u32 << depth) - 1) << shift(depth, x)) as u8
+}
+
+// The bits of pixel x and of those after it in its byte.
+fn onward(depth: u32, x: u32) -> u8
+    requires { ⌜ (goodDepth depth ≡ true) × (depth < 8) × (x ≤ 2048) ⌝ }
+    ensures { λ r. ⌜ r ≡ onwardMask depth x ⌝ }
+{
+    255u8 >> (x * depth % 8)
+}
+
+// The byte p where m has ones, and else v.
+fn merge(v: u8, p: u8, m: u8) -> u8
+    ensures { λ r. ⌜ r ≡ merged v p m ⌝ }
+{
+    (v & !m) | (p & m)
+}
+
+fn with_field(v: u8, depth: u32, x: u32, colour: u32) -> u8
+    requires { ⌜ (goodDepth depth ≡ true) × (depth < 8) × (x ≤ 2048) × (colour < 2 ^ depth) ⌝ }
+    ensures { λ r. ⌜ r ≡ replaced (2 ^ field depth) (slotOf depth x) colour v ⌝ }
+{
+    merge(v, (colour << shift(depth, x)) as u8, mask(depth, x))
+}
+
+fn field_of(v: u8, depth: u32, x: u32) -> u32
+    requires { ⌜ (goodDepth depth ≡ true) × (depth < 8) × (x ≤ 2048) ⌝ }
+    ensures { λ r. ⌜ r ≡ digit (2 ^ field depth) (slotOf depth x) v ⌝ }
+{
+    ((v & mask(depth, x)) as u32) >> shift(depth, x)
+}
+
+// A byte all of whose pixels have the colour, at depths up to 8.
+fn pattern(depth: u32, colour: u32) -> u8
+    requires { ⌜ (goodDepth depth ≡ true) × (depth ≤ 8) × (colour < 2 ^ depth) ⌝ }
+    ensures { λ r. ⌜ r ≡ value (2 ^ field depth) (per depth) (λ k. colour) ⌝ }
+{
+    if depth == 1 {
+        return (colour * 255) as u8;
+    }
+    if depth == 2 {
+        return (colour * 85) as u8;
+    }
+    if depth == 4 {
+        return (colour * 17) as u8;
+    }
+    colour as u8
+}
+
+// ---- a pixel's bytes, at depths 8 to 32
+
+// Digit k of a colour is in byte k of its pixel, or with the big end first in the one that is k from the last.
+fn turn(big: bool, parts: usize, k: usize) -> usize
+    requires { ⌜ k < parts ⌝ }
+    ensures { λ r. ⌜ r ≡ turned big parts k ⌝ }
+{
+    if big {
+        return parts - 1 - k;
+    }
+    k
+}
+
+// The colour, written over all of a part of the buffer, a digit a byte.
+fn store(part: &mut [u8], big: bool, colour: u32)
+    requires { ⌜ length (now part) ≤ 4 ⌝ }
+    ensures { λ r. ⌜ now (part .exit) ≡ setRun 0 (length (now (part .entry))) (λ j. digit 256 (turned big (length (now (part .entry))) j) colour) (now (part .entry)) ⌝ }
+{
+    let n = part.len();
+    let mut k = 0usize;
+    while k < n {
+        part[k] = (colour >> (8 * turn(big, n, k) as u32) & 255) as u8;
+        k += 1;
+    }
+}
+
+fn load(part: &[u8], big: bool) -> u32
+    requires { ⌜ length (now part) ≤ 4 ⌝ }
+    ensures { λ r. ⌜ r ≡ value 256 (length (now (part .entry))) (λ k. getD (now (part .entry)) (turned big (length (now (part .entry))) k) 0) ⌝ }
+{
+    let n = part.len();
+    let mut sum = 0u32;
+    let mut k = n;
+    while 0 < k {
+        k -= 1;
+        let i = turn(big, n, k);
+        sum = (sum << 8) | part[i] as u32;
+    }
+    sum
+}

@@ -157,6 +157,14 @@ module _ (n : ℕ) where
           less p l = let q = pow-pos n in mul-pred l q
 
   -- ---- one field
+  pub shifted-lt : (m j u : ℕ) → j < m → u < B → u * 2 ^ (n * j) < B ^ m
+  shifted-lt m j u h l =
+      subst (λ (x : ℕ). x < B ^ m) (value-one B m j u h ∙ ap (λ (x : ℕ). u * x) (pow-mul n j)) (value-lt B m _ (λ k. low (eqb k j)))
+    where
+      low : (t : Bool) → cond t u 0 < B
+      low true = l
+      low false = pow-pos n
+
   -- a number by its digits, with one of them changed
   pub replaced-value : (m j u : ℕ) (d : ℕ → ℕ) → ((k : ℕ) → d k < B) → u < B → j < m → replaced B j u (value B m d) ≡ value B m (λ k. cond (eqb k j) u (d k))
   replaced-value zero j u d h l q = absurd (not-suc-le-zero q)

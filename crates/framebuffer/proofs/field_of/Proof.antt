@@ -1,35 +1,29 @@
-use borrow.Author.Needs.{needs}
+-- `framebuffer::field_of` keeps the pixel's bits and shifts them down. Assumes nothing.
+use mathlib.Core.Path.{ap₂, _∙_}
+use Prim.Native.Nat.{ℕ, _/_, _^_}
 use native.Mathlib.Omega.{arith}
-use Prim.Native.Nat.{ℕ, _+_, _*_, _-_, _≤_, _<_}
-use mathlib.Core.Path.{_≡_}
-use lib.ListN.{length, length-set}
+use lib.Bits.{bitAnd, and-le-l}
 use borrow.Author.Needs.{needs}
+use Rattle.framebuffer.proofs.Masks.{shift-small, seen}
 use Rattle.framebuffer.proofs.field_of.Statement.{statement}
 use Rattle.framebuffer.proofs.field_of.Tie as tie
-use Rattle.framebuffer.proofs.field_of.Reads as reads
-use Rattle.framebuffer.proofs.field_of.Lts as lts
-use Rattle.framebuffer.proofs.mask.Reads as mask-reads
-use Rattle.framebuffer.proofs.shift.Reads as shift-reads
 
--- src/lib.rt:210:11
 mask-requires : tie.Need-mask-requires
 mask-requires c κs = search needs
 
--- src/lib.rt:210:6
 cast-result : tie.Need-cast-result
-cast-result c = search needs
+cast-result c = record { fits = omega (arith, and-le-l (c .before .args .v) (c .mask .result), c .before .fits .v .fits) }
 
--- src/lib.rt:210:38
 shift-requires : tie.Need-shift-requires
 shift-requires c κs = search needs
 
--- src/lib.rt:210:5
 shr-result : tie.Need-shr-result
-shr-result c = search needs
+shr-result c = omega (arith, shift-small (c .before .before .args .depth) (c .before .before .args .x) (c .before .before .pre .0) (c .before .before .pre .1) (c .shift .ensures))
 
--- src/lib.rt:206:1
 returns : tie.Need-returns
-returns c = search needs
+returns c =
+    ap₂ (λ (m s : ℕ). bitAnd (c .before .before .args .v) m / 2 ^ s) (c .before .mask .ensures) (c .shift .ensures)
+    ∙ seen (c .before .before .args .depth) (c .before .before .args .x) (c .before .before .pre .0) (c .before .before .pre .1) (c .before .before .args .v) (c .before .before .fits .v .fits)
 
 pub field-of-spec : {M : Type 1} → statement M
 field-of-spec = tie.close (tie.spec mask-requires cast-result shift-requires shr-result returns)

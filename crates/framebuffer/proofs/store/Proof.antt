@@ -1,67 +1,81 @@
-use borrow.Author.Needs.{needs}
+-- `framebuffer::store` has written the first k bytes of the pixel after k turns. Assumes nothing.
+use mathlib.Core.Path.{_≡_, refl, sym, ap, ap₂, _∙_}
+use mathlib.Core.List.{List}
+use Prim.Native.Nat.{ℕ, _+_, _-_, _*_, _/_, _^_, _≤_, _<_}
+use native.Mathlib.Numerals.{add-one}
 use native.Mathlib.Omega.{arith}
-use Prim.Native.Nat.{ℕ, _+_, _*_, _-_, _≤_, _<_}
-use mathlib.Core.Path.{_≡_}
-use lib.ListN.{length, length-set}
+use lib.Bits.{mask-lt}
+use lib.ListN.{length, set, length-set}
+use borrow.Author.Needs.{needs}
+use Rattle.layout.specs.Digits.{digit, setRun}
+use Rattle.layout.specs.Raster.{turned}
+use Rattle.layout.proofs.Places.{turned-below}
+use Rattle.framebuffer.proofs.Parts.{digit-is}
 use Rattle.framebuffer.proofs.store.Statement.{statement}
 use Rattle.framebuffer.proofs.store.Tie as tie
-use Rattle.framebuffer.proofs.store.Reads as reads
-use Rattle.framebuffer.proofs.store.Lts as lts
-use Rattle.framebuffer.proofs.turn.Reads as turn-reads
 
 abbrev Inv-loop : tie.InvT-loop
-Inv-loop part₀ big colour n k₀ part k = ?
+Inv-loop part₀ big colour n k₀ part k =
+    (k ≤ length part₀) × (length part ≡ length part₀) × (part ≡ setRun 0 k (λ j. digit 256 (turned big (length part₀) j) colour) part₀)
 
 abbrev μ-loop : tie.MeasureT-loop
-μ-loop part₀ big colour n k₀ part k = ?
+μ-loop part₀ big colour n k₀ part k = length part₀ - k
 
--- src/lib.rt:250:5
 loop-holds : tie.Need-loop-holds Inv-loop μ-loop
-loop-holds c = search needs
+loop-holds c = (omega arith, refl, refl)
 
--- src/lib.rt:251:35
 turn-requires : tie.Need-turn-requires Inv-loop μ-loop
 turn-requires c κs = search needs
 
--- src/lib.rt:251:35
+-- the digit's place is below 4
+low : (c : tie.After-turn Inv-loop μ-loop) → c .turn .result < 4
+low c =
+    let t = turned-below (c .before .before .before .before .args .big) (length (c .before .before .before .before .args .part .now)) (c .before .before .loop .k) (c .before .loop-test .taken) in
+    let e = c .turn .ensures in
+    let p = c .before .before .before .before .pre in
+    omega arith
+
 cast-part : tie.Need-cast-part Inv-loop μ-loop
-cast-part c = search needs
+cast-part c = record { fits = omega (arith, low c) }
 
--- src/lib.rt:251:31
 mul-part : tie.Need-mul-part Inv-loop μ-loop
-mul-part c = search needs
+mul-part c = record { fits = omega (arith, low c) }
 
--- src/lib.rt:251:20
 shr-part : tie.Need-shr-part Inv-loop μ-loop
-shr-part c = search needs
+shr-part c = omega (arith, low c)
 
--- src/lib.rt:251:19
 cast-part-2 : tie.Need-cast-part-2 Inv-loop μ-loop
-cast-part-2 c = search needs
+cast-part-2 c = record { fits = omega (arith, mask-lt (c .before .before .before .before .args .colour / 2 ^ (8 * c .turn .result)) 8) }
 
--- src/lib.rt:251:9
 slice-write-part : tie.Need-slice-write-part Inv-loop μ-loop
 slice-write-part c = search needs
 
--- src/lib.rt:252:9
 add-k : tie.Need-add-k Inv-loop μ-loop
 add-k c = search needs
 
--- src/lib.rt:250:5
 loop-less : tie.Need-loop-less Inv-loop μ-loop
 loop-less c = search needs
 
--- src/lib.rt:250:5
 loop-again : tie.Need-loop-again Inv-loop μ-loop
-loop-again c = search needs
+loop-again c =
+    let a = c .before .before .before .before .args in
+    let l = c .before .before .loop in
+    let z : l .k ≡ 0 + l .k = omega arith in (
+      omega arith,
+      simp length-set (l .inv .1),
+      ap₂ (λ (i v : ℕ). set (l .part) i v) z (digit-is (c .turn .result) (a .colour) ∙ ap (λ (j : ℕ). digit 256 j (a .colour)) (c .turn .ensures))
+          ∙ ap (λ (b : List ℕ). set b (0 + l .k) (digit 256 (turned (a .big) (length (a .part .now)) (l .k)) (a .colour))) (l .inv .2)
+          ∙ ap (λ (k : ℕ). setRun 0 k (λ j. digit 256 (turned (a .big) (length (a .part .now)) j) (a .colour)) (a .part .now)) (sym (add-one (l .k))),
+    )
 
--- src/lib.rt:244:1
 same-length : tie.Need-same-length Inv-loop μ-loop
-same-length c = search needs
+same-length c = c .before .loop .inv .1
 
--- src/lib.rt:244:1
 returns : tie.Need-returns Inv-loop μ-loop
-returns c = search needs
+returns c =
+    let a = c .before .before .before .args in
+    let e : c .before .loop .k ≡ length (a .part .now) = omega arith in
+    c .before .loop .inv .2 ∙ ap (λ (k : ℕ). setRun 0 k (λ j. digit 256 (turned (a .big) (length (a .part .now)) j) (a .colour)) (a .part .now)) e
 
 pub store-spec : {M : Type 1} → statement M
 store-spec =

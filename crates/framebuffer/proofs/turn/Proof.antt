@@ -1,27 +1,20 @@
+-- `framebuffer::turn` counts from the first byte, or from the last. Assumes nothing.
+use mathlib.Core.Path.{sym, ap}
+use mathlib.Core.Bool.{Bool}
 use borrow.Author.Needs.{needs}
-use native.Mathlib.Omega.{arith}
-use Prim.Native.Nat.{ℕ, _+_, _*_, _-_, _≤_, _<_}
-use mathlib.Core.Path.{_≡_}
-use lib.ListN.{length, length-set}
-use borrow.Author.Needs.{needs}
+use Rattle.layout.specs.Raster.{turned}
 use Rattle.framebuffer.proofs.turn.Statement.{statement}
 use Rattle.framebuffer.proofs.turn.Tie as tie
-use Rattle.framebuffer.proofs.turn.Reads as reads
-use Rattle.framebuffer.proofs.turn.Lts as lts
 
--- src/lib.rt:238:16
 sub-result : tie.Need-sub-result
 sub-result c = search needs
 
--- src/lib.rt:238:16
 sub-result-2 : tie.Need-sub-result-2
 sub-result-2 c = search needs
 
--- src/lib.rt:238:9
 returns : tie.Need-returns
-returns c = search needs
+returns c = sym (ap (λ (t : Bool). turned t (c .before .args .parts) (c .before .args .k)) (c .if1 .taken))
 
--- src/lib.rt:233:1
 returns-2 : tie.Need-returns-2
 returns-2 c = search needs
 

@@ -2,7 +2,7 @@
 -- Assumes nothing.
 use mathlib.Core.Path.{_≡_, refl, sym, ap, _∙_}
 use mathlib.Core.Bool.{Bool, true, false, cond, not, _||_, true≢false}
-use Prim.Native.Nat.{ℕ, zero, suc, _*_, _%_, _^_, _≤_, _<_}
+use Prim.Native.Nat.{ℕ, zero, suc, _+_, _*_, _/_, _%_, _^_, _≤_, _<_}
 use native.Mathlib.Nat.{mul-le-mul, le-refl, mod-eq-of-lt}
 use native.Mathlib.Omega.{arith}
 use lib.Dec.{ltb, leb, eqb}
@@ -10,8 +10,8 @@ use lib.IntN.{ℤ}
 use lib.Pow.{pow-mono}
 use mathlib.Core.List.{List}
 use borrow.Author.Tests.{ltb-false, leb-false, eq-eqb, ne-eqb, eqb-true, eqb-false, not-false}
-use Rattle.layout.specs.Raster.{Sound, goodDepth, rowBytes, painted}
-use Rattle.layout.proofs.Places.{depth-le}
+use Rattle.layout.specs.Raster.{Sound, goodDepth, rowBytes, parts, painted}
+use Rattle.layout.proofs.Places.{depth-le, pixel-in}
 use Rattle.framebuffer.specs.declared.Frame.{Frame}
 use Rattle.framebuffer.specs.Answer.{sized, read}
 use Rattle.framebuffer.specs.Description.{raster, size, descriptionRefusal, bufferRefusal, colourRefusal, drawNumber, afterDraw}
@@ -114,6 +114,13 @@ is-drawable f len colour z =
     let p = both-pass (frame-nest f len) (colour-nest f colour) z in
     record { accepted = is-accepted f len (p .0); below = leb-false _ _ (test-passed _ 3 (p .1)) }
 
+-- the parts of a nest that passes
+pub frame-passed : (f : Frame) (len colour : ℕ) → drawNumber f len colour 0 ≡ 0 → descriptionRefusal f (bufferRefusal f len 0) ≡ 0
+frame-passed f len colour z = both-pass (frame-nest f len) (colour-nest f colour) z .0
+
+pub description-passed : (f : Frame) (len : ℕ) → descriptionRefusal f (bufferRefusal f len 0) ≡ 0 → descriptionRefusal f 0 ≡ 0
+description-passed f len z = both-pass (description-nest f) (buffer-nest f len) z .0
+
 -- ---- what comes with it
 pub sound : (f : Frame) → Described f → Sound (raster f)
 sound f D = record { depth = D .depth; apart = le-refl (rowBytes (f .width) (f .depth)) }
@@ -130,6 +137,18 @@ unfolding size
 size-fits f D =
     let p : rowBytes (f .width) (f .depth) * f .height ≤ 8192 * 2048 = mul-le-mul (row-fits f D) (D .height) in
     omega arith
+
+-- a pixel's bytes are in the buffer, and the numbers of its place are small
+module _ (f : Frame) (len x y : ℕ) (A : Accepted f len) (hx : x < f .width) (hy : y < f .height) where
+  pub pixel-room : {at : ℕ} → at ≡ y * rowBytes (f .width) (f .depth) + x * f .depth / 8 → at + parts (f .depth) ≤ len
+  unfolding size
+  pixel-room e =
+      let r = A .room in
+      let p = pixel-in (raster f) (sound f (A .described)) x y hx hy in
+      omega arith
+
+  pub pixel-small : (x ≤ 2048) × (y ≤ 2048)
+  pixel-small = let w = A .described .width in let h = A .described .height in (omega arith, omega arith)
 
 -- a power of two, as the machine makes it
 pub one-shifted : (d : ℕ) → d ≤ 32 → (1 * 2 ^ d) % 18446744073709551616 ≡ 2 ^ d

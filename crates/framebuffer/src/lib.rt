@@ -4,7 +4,7 @@ ghost use mathlib.Core.Path.{_≡_};
 ghost use mathlib.Core.Bool.{true, _&&_};
 ghost use Prim.Native.Nat.{ℕ, _+_, _*_, _-_, _/_, _%_, _^_, _≤_, _<_};
 ghost use lib.Bits.{bitAnd, bitOr};
-ghost use lib.Dec.{leb, ltb};
+ghost use lib.IntN.{pos};
 ghost use lib.ListN.{length, getD};
 ghost use Rattle.layout.specs.Digits.{digit, value, replaced, setRun};
 ghost use Rattle.layout.specs.Figure.{single, rowSpan, everywhere};
@@ -266,4 +266,111 @@ fn load(part: &[u8], big: bool) -> u32
         sum = (sum << 8) | part[i] as u32;
     }
     sum
+}
+
+// ---- one pixel
+
+// The byte of pixel (x, y) at which its bits start.
+fn byte_of(frame: Frame, x: u32, y: u32) -> usize
+    requires { ⌜ (descriptionRefusal frame 0 ≡ 0) × (x ≤ 2048) × (y ≤ 2048) ⌝ }
+    ensures { λ r. ⌜ r ≡ y * rowBytes (frame .width) (frame .depth) + x * frame .depth / 8 ⌝ }
+{
+    (y * row_distance(frame) + x * frame.depth / 8) as usize
+}
+
+fn put_at(buf: &mut [u8], frame: Frame, x: u32, y: u32, colour: u32)
+    requires { ⌜ (drawNumber frame (length (now buf)) colour 0 ≡ 0) × (x < frame .width) × (y < frame .height) ⌝ }
+    ensures { λ r. ⌜ now (buf .exit) ≡ putPixel (raster frame) x y colour (now (buf .entry)) ⌝ }
+{
+    let depth = frame.depth;
+    let at = byte_of(frame, x, y);
+    if depth < 8 {
+        buf[at] = with_field(buf[at], depth, x, colour);
+        return;
+    }
+    let end = at + (depth / 8) as usize;
+    store(&mut buf[at..end], frame.big, colour);
+}
+
+// Inside the library: the colour of a pixel of the frame.
+pub fn read_point(buf: &[u8], frame: Frame, x: u32, y: u32) -> u32
+    requires { ⌜ (descriptionRefusal frame (bufferRefusal frame (length (now buf)) 0) ≡ 0) × (x < frame .width) × (y < frame .height) ⌝ }
+    ensures { λ r. ⌜ r ≡ getPixel (raster frame) x y (now (buf .entry)) ⌝ }
+{
+    let depth = frame.depth;
+    let at = byte_of(frame, x, y);
+    if depth < 8 {
+        return field_of(buf[at], depth, x);
+    }
+    let end = at + (depth / 8) as usize;
+    load(&buf[at..end], frame.big)
+}
+
+// A coordinate's number, or one past every frame where it is negative.
+fn column(x: i32) -> u32
+    ensures { λ r. ⌜ r ≡ columnOf x ⌝ }
+{
+    if x < 0 {
+        return 2048;
+    }
+    x as u32
+}
+
+impl Pane {
+    // Inside the library: whether the rectangle holds a place.
+    pub fn holds(self, x: u32, y: u32) -> bool
+        ensures { λ r. ⌜ r ≡ inPane self (pos x) (pos y) ⌝ }
+    {
+        ((self.left <= x) & (x < self.right)) & ((self.top <= y) & (y < self.bottom))
+    }
+}
+
+// Inside the library: the pixel at a place gets the colour, if the rectangle holds it.
+pub fn put_point(buf: &mut [u8], frame: Frame, pane: Pane, p: geometry::Point, colour: u32)
+    requires { ⌜ (drawNumber frame (length (now buf)) colour 0 ≡ 0) × Within pane frame ⌝ }
+    ensures { λ r. ⌜ now (buf .exit) ≡ painted (raster frame) (inside pane (single (p .0) (p .1))) colour (now (buf .entry)) ⌝ }
+{
+    let px = p.0;
+    let py = p.1;
+    let x = column(px);
+    let y = column(py);
+    if pane.holds(x, y) {
+        put_at(buf, frame, x, y, colour);
+    }
+}
+
+// The pixel at a place gets the colour; outside the frame nothing changes.
+pub fn set_pixel(buf: &mut [u8], frame: Frame, p: geometry::Point, colour: u32) -> Drawn
+    ensures { λ r. ⌜ (r ≡ drawn (drawNumber frame (length (now (buf .entry))) colour 0)) × (now (buf .exit) ≡ afterDraw frame (r .number) (single (p .0) (p .1)) colour (now (buf .entry))) ⌝ }
+{
+    let number = draw_refusal(frame, buf.len(), colour);
+    if number != 0 {
+        return Drawn { number };
+    }
+    put_point(buf, frame, frame.pane(), p, colour);
+    Drawn { number: 0 }
+}
+
+// The colour of the pixel at a place.
+pub fn pixel(buf: &[u8], frame: Frame, p: geometry::Point) -> Read
+    ensures { λ r. ⌜ r ≡ read (readNumber frame (length (now (buf .entry))) p) (colourAt frame p (now (buf .entry))) ⌝ }
+{
+    let number = frame_refusal(frame, buf.len());
+    if number != 0 {
+        return Read { number, colour: 0 };
+    }
+    let px = p.0;
+    let py = p.1;
+    let x = column(px);
+    let y = column(py);
+    if !frame.pane().holds(x, y) {
+        return Read {
+            number: 8,
+            colour: 0,
+        };
+    }
+    Read {
+        number: 0,
+        colour: read_point(buf, frame, x, y),
+    }
 }

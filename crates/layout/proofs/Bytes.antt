@@ -3,7 +3,7 @@
 use mathlib.Core.Path.{_≡_, refl, sym, ap, ap₂, _∙_, subst}
 use mathlib.Core.Logic.{⊎-elim, _⊎_, inl, inr}
 use mathlib.Core.Bool.{Bool, true, false, cond, not, _&&_, true≢false}
-use mathlib.Core.List.{List}
+use mathlib.Core.List.{List, _++_}
 use Prim.Native.Nat.{ℕ, zero, suc, _+_, _-_, _*_, _/_, _%_, _^_, _≤_, _<_}
 use native.Mathlib.Nat.{mod-lt, mod-eq-of-lt, div-add-mod', div-one, mul-one, mul-comm, add-zero, mul-le-mul-right, le-refl, not-suc-le-zero}
 use native.Mathlib.Omega.{arith}
@@ -13,17 +13,17 @@ use lib.Dec.{eqb, leb, ltb}
 use lib.IntN.{pos}
 use lib.Signed.{ltZ}
 use lib.Pow.{pow-pos}
-use lib.ListN.{length, getD, set, length-set}
-use lib.Seq.{set-set, getD-set-same, getD-set-other, set-getD, ext-getD}
+use lib.ListN.{length, getD, set, take, drop, length-drop}
+use lib.Seq.{set-set, getD-set-same, getD-set-other, set-getD, ext-getD, getD-take, getD-drop, length-take-le}
 use borrow.Author.Tests.{eq-eqb, ne-eqb, leb-true, ltb-true, le-leb, lt-ltb, le-ltb, ltb-false, lt-leb}
 use Rattle.layout.specs.Digits.{digit, replaced, value, setCell, putDigits, setRun}
 use Rattle.layout.specs.Figure.{everywhere}
-use Rattle.layout.specs.Raster.{Raster, Sound, goodDepth, rowBytes, field, parts, per, turned, byteOf, slotOf, putPixel, painted, fullByte}
+use Rattle.layout.specs.Raster.{Raster, Sound, goodDepth, rowBytes, field, parts, per, turned, byteOf, slotOf, putPixel, getPixel, painted, fullByte}
 use Rattle.layout.proofs.Tests.{eq-or-not, lt-or-ge, same-test, and-true, true-and}
 use Rattle.layout.proofs.Cells.{digit-lt, value-cong, value-digits, puts-len}
 use Rattle.layout.proofs.Places.{Depth, depth-of, column, per-pos, parts-pos, turned-below, turned-twice}
 use Rattle.layout.proofs.Fields.{replaced-mod, replaced-value, pow-mul, value-lt, mask, mask-not, mask-and, low-fields, merge}
-use Rattle.layout.proofs.Runs.{run-length, run-out, run-in, run-cong, run-bytes, run-then}
+use Rattle.layout.proofs.Runs.{run-length, run-out, run-in, run-cong, run-bytes, run-then, run-part}
 use Rattle.layout.proofs.Spans.{columns, span-one}
 use Rattle.layout.proofs.Painted.{painted-cong, put-single, span-start, span-put, span-then, rows-start, rows-then, rows-end}
 
@@ -89,20 +89,34 @@ module _ (r : Raster) (S : Sound r) (c : ℕ) where
     turn0 false = refl
 
     -- one pixel, in its byte
-    pub pixel-byte : (y q a : ℕ) (b : List ℕ) → a < n
+    pub pixel-set : (x y : ℕ) (b : List ℕ)
+        → putPixel r x y c b ≡ set b (y * row + x * d / 8) (replaced B (slotOf d x) c (getD b (y * row + x * d / 8) 0))
+    unfolding byteOf
+    pixel-set x y b =
+        let at = y * row + x * d / 8 in
+        let e : at + turned (r .big) m 0 ≡ at = ap (λ (j : ℕ). at + j) (ap (λ (k : ℕ). turned (r .big) k 0) small ∙ turn0 (r .big)) ∙ add-zero at in
+        ap (λ (k : ℕ). putDigits B (λ j. at + turned (r .big) m j) (λ j. slotOf d x) k c b) small
+        ∙ ap (λ (i : ℕ). setCell B i (slotOf d x) (c % B) b) e
+        ∙ ap (set b at) (replaced-mod B (slotOf d x) c (getD b at 0))
+
+    -- the same, by the byte's number in its row and the pixel's in its byte
+    byte-at : (x : ℕ) → x * d / 8 ≡ x / n
+    byte-at x = column d D x ∙ ap (λ (k : ℕ). x / n * k) small ∙ mul-one (x / n)
+
+    pixel-byte : (y q a : ℕ) (b : List ℕ) → a < n
         → putPixel r (q * n + a) y c b ≡ set b (y * row + q) (replaced B (n - 1 - a) c (getD b (y * row + q) 0))
-    unfolding byteOf slotOf
+    unfolding slotOf
     pixel-byte y q a b h =
-        let x = q * n + a in
-        let e : y * row + x * d / 8 + turned (r .big) m 0 ≡ y * row + q =
-        ap₂ (λ (i j : ℕ). y * row + i + j)
-        (column d D x ∙ ap₂ (λ (i j : ℕ). i * j) (digits-div q h) small ∙ mul-one q)
-        (ap (λ (k : ℕ). turned (r .big) k 0) small ∙ turn0 (r .big))
-        ∙ add-zero (y * row + q) in
-        let s : n - 1 - x % n ≡ n - 1 - a = ap (λ (i : ℕ). n - 1 - i) (digits-mod q h) in
-        ap (λ (k : ℕ). putDigits B (λ j. y * row + x * d / 8 + turned (r .big) m j) (λ j. n - 1 - x % n) k c b) small
-        ∙ ap₂ (λ (i j : ℕ). setCell B i j (c % B) b) e s
-        ∙ ap (set b (y * row + q)) (replaced-mod B (n - 1 - a) c (getD b (y * row + q) 0))
+        pixel-set (q * n + a) y b
+        ∙ ap₂ (λ (i j : ℕ). set b (y * row + i) (replaced B (n - 1 - j) c (getD b (y * row + i) 0))) (byte-at (q * n + a) ∙ digits-div q h) (digits-mod q h)
+
+    pub pixel-get : (x y : ℕ) (b : List ℕ) → getPixel r x y b ≡ digit B (slotOf d x) (getD b (y * row + x * d / 8) 0)
+    unfolding byteOf
+    pixel-get x y b =
+        let at = y * row + x * d / 8 in
+        let e : at + turned (r .big) m 0 ≡ at = ap (λ (j : ℕ). at + j) (ap (λ (k : ℕ). turned (r .big) k 0) small ∙ turn0 (r .big)) ∙ add-zero at in
+        ap (λ (k : ℕ). value B k (λ j. digit B (slotOf d x) (getD b (at + turned (r .big) m j) 0))) small
+        ∙ ap (λ (i : ℕ). 0 * B + digit B (slotOf d x) (getD b i 0)) e ∙ omega arith
 
     -- a byte v whose pixels from a to one before e have the colour
     abbrev pub partly : ℕ → ℕ → ℕ → ℕ
@@ -362,6 +376,31 @@ module _ (r : Raster) (S : Sound r) (c : ℕ) where
     unfolding byteOf
     pixel-run x y b l v =
         (λ i. putDigits B (λ k. y * row + start x i + turned (r .big) m k) (λ k. slot0 x i) m c b) ∙ puts-run (y * row + x * m) b l v
+
+    -- the same, through a part of the buffer
+    module _ (x y : ℕ) (b s : List ℕ) (a k : ℕ) (ea : a ≡ y * row + x * d / 8) (ek : k ≡ m) (l : a + k ≤ length b) (v : Bytes b) (e : s ≡ take k (drop a b)) where
+      part-length : length s ≡ m
+      part-length = ap length e ∙ length-take-le k (drop a b) (subst (λ (i : ℕ). k ≤ i) (sym (length-drop a b)) (omega arith)) ∙ ek
+
+      pub pixel-stored : (s′ : List ℕ) → s′ ≡ setRun 0 (length s) (λ j. digit 256 (turned (r .big) (length s) j) c) s
+          → take a b ++ (s′ ++ drop k (drop a b)) ≡ putPixel r x y c b
+      pixel-stored s′ e′ =
+          run-part a k (length s) b s s′ _ l e (le-refl (length s)) e′
+          ∙ ap₂ (λ (i j : ℕ). setRun i j (λ t. digit 256 (turned (r .big) j t) c) b) (ea ∙ ap (λ (i : ℕ). y * row + i) (start x)) part-length
+          ∙ run-cong (y * row + x * m) m _ _ b (λ j h. ap (λ (i : ℕ). digit i (turned (r .big) m j) c) (sym base) ∙ sym (full-large j ∙ ap (λ (i : ℕ). digit B (turned (r .big) m i) c) (mod-eq-of-lt h)))
+          ∙ sym (pixel-run x y b (subst (λ (i : ℕ). y * row + i + m ≤ length b) (start x) (omega arith)) v)
+
+      pub pixel-loaded : value 256 (length s) (λ i. getD s (turned (r .big) (length s) i) 0) ≡ getPixel r x y b
+      unfolding byteOf
+      pixel-loaded =
+          ap (λ (i : ℕ). value 256 i (λ j. getD s (turned (r .big) i j) 0)) part-length
+          ∙ value-cong 256 (pow-pos 8) m _ _ (λ i h.
+          ap (λ (t : List ℕ). getD t (turned (r .big) m i) 0) e
+          ∙ getD-take k (drop a b) (turned (r .big) m i) 0 (let t = turned-below (r .big) m i h in omega arith)
+          ∙ getD-drop a b (turned (r .big) m i) 0
+          ∙ ap (λ (j : ℕ). getD b (j + turned (r .big) m i) 0) ea
+          ∙ sym (mod-eq-of-lt (v (y * row + x * d / 8 + turned (r .big) m i))))
+          ∙ sym (λ z. value (base z) m (λ i. digit (base z) (slot0 x z) (getD b (y * row + x * d / 8 + turned (r .big) m i) 0)))
 
     group-large : (y q : ℕ) (b : List ℕ) → q * n + n ≤ r .width → y < r .height → y * row + q * m + m ≤ length b → Bytes b
         → painted r (columns y (q * n) (q * n + n)) c b ≡ setRun (y * row + q * m) m (fullByte d (r .big) c) b

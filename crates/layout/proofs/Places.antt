@@ -172,6 +172,17 @@ module _ (r : Raster) (S : Sound r) where
       let l = digits-lt hy (in-row x k hx hk) in
       omega arith
 
+  -- all bytes of a pixel do
+  pub pixel-in : (x y : ℕ) → x < r .width → y < r .height → y * r .distance + x * r .depth / 8 + parts (r .depth) ≤ r .distance * r .height
+  unfolding byteOf
+  pixel-in x y hx hy =
+      let m = parts (r .depth) in
+      let p = parts-pos (r .depth) (S .depth) in
+      let l : m - 1 < m = omega arith in
+      let h = place-in x y (turned (r .big) m (m - 1)) hx hy (turned-below (r .big) m (m - 1) l) in
+      let e = turned-twice (r .big) m (m - 1) l in
+      omega arith
+
   pub raster-laws : Laws (r .height * r .width) (λ v. v < (2 ^ field (r .depth)) ^ parts (r .depth)) (List ℕ) (λ b. r .distance * r .height ≤ length b) (putNo r) (getNo r)
   raster-laws =
       let w = r .width in

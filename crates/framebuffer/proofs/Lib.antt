@@ -1,0 +1,4 @@
+pub mod Refusals
+pub mod Masks
+pub mod Parts
+pub mod Panes

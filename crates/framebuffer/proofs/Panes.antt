@@ -9,7 +9,8 @@ use lib.Dec.{T, leb, ltb}
 use lib.IntN.{ℤ, pos, negsuc, natAbs}
 use lib.Signed.{nonNeg, ltZ, leZ, mag}
 use borrow.Author.Tests.{ltb-true, leb-true, lt-ltb, le-leb, le-ltb}
-use Rattle.layout.specs.Figure.{single, eqZ}
+use Rattle.layout.specs.Figure.{single}
+use Rattle.whole.specs.Equal.{eqZ}
 use Rattle.layout.specs.Raster.{putPixel, painted}
 use Rattle.layout.proofs.Tests.{same-test, fails, and-true, true-and, eqZ-true, eqZ-refl}
 use Rattle.layout.proofs.Painted.{painted-cong, painted-none, put-single}

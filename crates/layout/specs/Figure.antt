@@ -1,15 +1,8 @@
 -- Figures: whether a place, by its column and its row, is inside.
-use mathlib.Core.Bool.{Bool, true, false, _&&_}
-use lib.Dec.{eqb}
-use lib.IntN.{ℤ, pos, negsuc}
+use mathlib.Core.Bool.{Bool, true, _&&_}
+use lib.IntN.{ℤ}
 use lib.Signed.{leZ, ltZ}
-
--- one number
-abbrev pub eqZ : ℤ → ℤ → Bool
-eqZ (pos a) (pos b) = eqb a b
-eqZ (pos a) (negsuc b) = false
-eqZ (negsuc a) (pos b) = false
-eqZ (negsuc a) (negsuc b) = eqb a b
+use Rattle.whole.specs.Equal.{eqZ}
 
 -- the one pixel in column x of row y
 abbrev pub single : ℤ → ℤ → ℤ → ℤ → Bool

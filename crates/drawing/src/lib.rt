@@ -1,0 +1,55 @@
+// Drawing calls into a lent buffer. Each judges its frame once, then its own arguments, and sets every pixel of the frame that its figure
+// contains.
+ghost use mathlib.Core.Path.{_≡_};
+ghost use Prim.Native.Nat.{_≤_};
+ghost use lib.ListN.{length};
+ghost use Rattle.geometry.specs.Bound.{Bounded};
+ghost use Rattle.layout.specs.Raster.{painted};
+ghost use Rattle.framebuffer.specs.Answer.{drawn};
+ghost use Rattle.framebuffer.specs.Description.{raster, drawNumber, afterDraw};
+ghost use Rattle.framebuffer.specs.Rectangle.{Within, inside};
+ghost use Rattle.drawing.specs.Figure.{lineFigure, outlineFigure};
+ghost use Rattle.drawing.specs.Number.{lineNumber};
+use framebuffer::Drawn;
+use framebuffer::Frame;
+use framebuffer::Pane;
+use geometry::Point;
+
+// The points of an accepted line, as far as the rectangle holds them.
+fn draw_edge(buf: &mut [u8], frame: Frame, pane: Pane, start: Point, end: Point, colour: u32)
+    requires { ⌜ (drawNumber frame (length (now buf)) colour 0 ≡ 0) × Within pane frame × (Bounded start × Bounded end) ⌝ }
+    ensures { λ r. ⌜ now (buf .exit) ≡ painted (raster frame) (inside pane (lineFigure start end)) colour (now (buf .entry)) ⌝ }
+{
+    let mut walker = line::Walker::new(start, end);
+    let count = line::last_step(start, end) + 1;
+    let mut k = 0u32;
+    while k < count {
+        let stepped = walker.step();
+        framebuffer::put_point(buf, frame, pane, stepped.point, colour);
+        walker = stepped.walker;
+        k += 1;
+    }
+}
+
+// The number that drawing a line answers.
+fn line_number(frame: Frame, len: usize, start: Point, end: Point, colour: u32) -> u32
+    ensures { λ r. ⌜ r ≡ lineNumber frame len start end colour ⌝ }
+{
+    let number = framebuffer::draw_refusal(frame, len, colour);
+    if number != 0 {
+        return number;
+    }
+    line::refusal(start, end)
+}
+
+// Draws the line from start to end.
+pub fn draw_line(buf: &mut [u8], frame: Frame, start: Point, end: Point, colour: u32) -> Drawn
+    ensures { λ r. ⌜ (r ≡ drawn (lineNumber frame (length (now (buf .entry))) start end colour)) × (now (buf .exit) ≡ afterDraw frame (r .number) (lineFigure start end) colour (now (buf .entry))) ⌝ }
+{
+    let number = line_number(frame, buf.len(), start, end, colour);
+    if number != 0 {
+        return Drawn { number };
+    }
+    draw_edge(buf, frame, frame.pane(), start, end, colour);
+    Drawn { number: 0 }
+}

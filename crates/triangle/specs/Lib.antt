@@ -1,0 +1,4 @@
+pub mod Order
+pub mod Triangle
+pub mod Row
+pub mod Answer

@@ -1,3 +1,4 @@
 pub mod Area
 pub mod Offsets
 pub mod Run
+pub mod Edge

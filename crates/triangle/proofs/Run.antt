@@ -27,13 +27,13 @@ pub record Run (s e : Point) (y lo hi : ℤ) : Type 0 where
   pub right : s .1 <ℤ e .1 → (x : ℤ) → hi <ℤ x → areaDoubled (x, y) s e <ℤ pos 0
 
 -- ---- so many moves to the right or to the left
-rightward : (a b : ℤ) (t : ℕ) → leZ a b ≡ true → a +ℤ toward a b *ℤ pos t ≡ a +ℤ pos t
+pub rightward : (a b : ℤ) (t : ℕ) → leZ a b ≡ true → a +ℤ toward a b *ℤ pos t ≡ a +ℤ pos t
 rightward a b t h = ap (λ (c : Bool). a +ℤ cond c (pos 1) (negsuc 0) *ℤ pos t) h ∙ ap (λ (n : ℕ). a +ℤ pos n) (one t)
   where
     one : (t : ℕ) → 1 * t ≡ t
     one t = omega arith
 
-leftward : (a b : ℤ) (t : ℕ) → leZ a b ≡ false → a ≡ (a +ℤ toward a b *ℤ pos t) +ℤ pos t
+pub leftward : (a b : ℤ) (t : ℕ) → leZ a b ≡ false → a ≡ (a +ℤ toward a b *ℤ pos t) +ℤ pos t
 leftward a b t h = back a (pos t) ∙ sym (ap (λ (c : Bool). (a +ℤ cond c (pos 1) (negsuc 0) *ℤ pos t) +ℤ pos t) h)
   where
     back : (a t : ℤ) → a ≡ (a +ℤ negsuc 0 *ℤ t) +ℤ t
@@ -120,7 +120,7 @@ module _ (s e : Point) (y : ℤ) (v f l : ℕ) (down : s .1 ≤ℤ e .1) (row : 
       mirror w v h x a = rw (as-mk w, as-mk v, as-mk h, as-mk x, as-mk a) (simp mks (mk-eq _ _ _ _ (omega arith)))
 
   -- ---- the run, to the right and to the left of the start
-  run-right : leZ (s .0) (e .0) ≡ true → Run s e y (s .0 +ℤ pos f) (s .0 +ℤ pos l)
+  pub run-right : leZ (s .0) (e .0) ≡ true → Run s e y (s .0 +ℤ pos f) (s .0 +ℤ pos l)
   run-right r =
       let lo = sum-nat (s .0 +ℤ pos f) (s .0) f refl in
       let hi = sum-nat (s .0 +ℤ pos l) (s .0) l refl in
@@ -149,7 +149,7 @@ module _ (s e : Point) (y : ℤ) (v f l : ℕ) (down : s .1 ≤ℤ e .1) (row : 
           let g = lt-mk _ _ _ _ (simp mks at (rw (as-mk x, as-mk a, as-mk l) at h)) in
           rw (as-mk x, as-mk a, as-mk l) (simp mks (mk-lt _ _ _ _ (omega arith)))
 
-  run-left : leZ (s .0) (e .0) ≡ false → Run s e y (s .0 -ℤ pos l) (s .0 -ℤ pos f)
+  pub run-left : leZ (s .0) (e .0) ≡ false → Run s e y (s .0 -ℤ pos l) (s .0 -ℤ pos f)
   run-left r =
       let lo = sum-nat (s .0) (s .0 -ℤ pos l) l (fore (s .0) (pos l)) in
       let hi = sum-nat (s .0) (s .0 -ℤ pos f) f (fore (s .0) (pos f)) in

@@ -1,9 +1,9 @@
 -- A triangle's rows, and the columns of a row (01, "Triangles").
-use mathlib.Core.Bool.{Bool, cond}
+use mathlib.Core.Bool.{Bool, cond, _&&_}
 use mathlib.Core.List.{List, [], _∷_, _++_}
 use Prim.Native.Nat.{ℕ, zero, suc, _+_}
 use lib.IntN.{ℤ, pos, natAbs, _+ℤ_, _-ℤ_}
-use lib.Signed.{leZ}
+use lib.Signed.{leZ, ltZ}
 use Rattle.whole.specs.Equal.{eqZ}
 use Rattle.geometry.specs.declared.Point.{Point}
 use Rattle.line.specs.Line.{pointAt, points}
@@ -23,6 +23,10 @@ joined a b = cond (eqZ (a .0) (a .1)) b (cond (eqZ (b .0) (b .1)) a (cond (leZ (
 unfoldable pub spanOf : List ℤ → Columns
 spanOf [] = (pos 0, pos 0)
 spanOf (x ∷ xs) = joined (x, x +ℤ pos 1) (spanOf xs)
+
+-- x is one of the columns
+abbrev pub inSpan : Columns → ℤ → Bool
+inSpan s x = leZ (s .0) x && ltZ x (s .1)
 
 -- the columns of those points on row y that the steps below n lead to
 abbrev pub columnsTo : (ℕ → Point) → ℤ → ℕ → List ℤ

@@ -18,6 +18,13 @@ le-antisym {a} {b} h k = nat-eq (omega (arith, le-nat h, le-nat k))
 pub lt-le : {a b : ℤ} → a <ℤ b → a ≤ℤ b
 lt-le {a} {b} h = nat-le (omega (arith, lt-nat h))
 
+-- one of the two orders, unless the other holds
+pub le-unless : {a b : ℤ} → (b <ℤ a → ⊥) → a ≤ℤ b
+le-unless {a} {b} n = let m : ¬ (up b + dn a < up a + dn b) = λ k. n (nat-lt k) in nat-le (omega arith)
+
+pub lt-unless : {a b : ℤ} → (b ≤ℤ a → ⊥) → a <ℤ b
+lt-unless {a} {b} n = let m : ¬ (up b + dn a ≤ up a + dn b) = λ k. n (nat-le k) in nat-lt (omega arith)
+
 -- ---- a difference that is not negative
 pub le-sub : (a b : ℤ) → a ≤ℤ b → pos 0 ≤ℤ (b -ℤ a)
 le-sub a b h = rw (as-mk a, as-mk b) (simp mks (mk-le _ _ _ _ (omega (arith, le-nat h))))
@@ -29,6 +36,9 @@ sub-le a b h =
 
 pub lt-sub : (a b : ℤ) → a <ℤ b → (a -ℤ b) <ℤ pos 0
 lt-sub a b h = rw (as-mk a, as-mk b) (simp mks (mk-lt _ _ _ _ (omega (arith, lt-nat h))))
+
+pub lt-sub-pos : (a b : ℤ) → a <ℤ b → pos 0 <ℤ (b -ℤ a)
+lt-sub-pos a b h = rw (as-mk a, as-mk b) (simp mks (mk-lt _ _ _ _ (omega (arith, lt-nat h))))
 
 pub nonneg-add : (a b : ℤ) → pos 0 ≤ℤ a → pos 0 ≤ℤ b → pos 0 ≤ℤ (a +ℤ b)
 nonneg-add a b h k = rw (as-mk a, as-mk b) (simp mks (mk-le _ _ _ _ (omega (arith, le-nat h, le-nat k))))

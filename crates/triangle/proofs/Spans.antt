@@ -28,9 +28,6 @@ pub record Bounds (E : ℤ → Type 0) (s : Columns) : Type 0 where
   pub least : (x : ℤ) → E x → s .0 ≤ℤ x
   pub largest : (x : ℤ) → E x → x ≤ℤ last
 
-abbrev none : Columns
-none = (pos 0, pos 0)
-
 abbrev pub Spans : (ℤ → Type 0) → Columns → Type 0
 Spans E s = Bounds E s ⊎ ((s ≡ (pos 0, pos 0)) × ((x : ℤ) → E x → ⊥))
 
@@ -78,20 +75,109 @@ hull-decides E s x b = decides-map (decides-and (leZ (s .0) x) (ltZ x (s .1)) (d
     from (inr n) h = absurd (n .1 (h .first) (h .at-first))
 
 -- ---- two spans joined
+-- the smaller of two least, and the larger of two largest
+record Least (E : ℤ → Type 0) (a : ℤ) : Type 0 where
+  at : E a
+  least : (x : ℤ) → E x → a ≤ℤ x
+
+record Past (E : ℤ → Type 0) (b : ℤ) : Type 0 where
+  last : ℤ
+  past : b ≡ last +ℤ pos 1
+  at : E last
+  largest : (x : ℤ) → E x → x ≤ℤ last
+
+full : (E : ℤ → Type 0) (s : Columns) → Bounds E s → eqZ (s .0) (s .1) ≡ false
+full E s b = decides-no (decides-eq (s .0) (s .1)) (λ e. omega (arith, eq-nat e, lt-nat (before-past (s .0) (s .1) (b .last) (b .past) (b .least (b .last) (b .at-last)))))
+
+empty : (s : Columns) → s ≡ (pos 0, pos 0) → eqZ (s .0) (s .1) ≡ true
+empty s e = ap (λ (c : Columns). eqZ (c .0) (c .1)) e
+
 module _ (E F : ℤ → Type 0) (s t : Columns) where
   abbrev Both : ℤ → Type 0
   Both x = E x ⊎ F x
 
-  full : (G : ℤ → Type 0) (c : Columns) → Bounds G c → eqZ (c .0) (c .1) ≡ false
-  full G c b = decides-no (decides-eq (c .0) (c .1)) (λ e. omega (arith, eq-nat e, lt-nat (before-past (c .0) (c .1) (b .last) (b .past) (b .least (b .last) (b .at-last)))))
+  module _ (a : Bounds E s) (b : Bounds F t) where
+    join-first : (p : Bool) → (p ≡ true → s .0 ≤ℤ t .0) → (p ≡ false → t .0 <ℤ s .0) → Least Both (cond p (s .0) (t .0))
+    join-first true f g = record { at = inl (a .at-first); least = λ x. ⊎-elim (a .least x) (λ q. le-trans (f refl) (b .least x q)) }
+    join-first false f g = record { at = inr (b .at-first); least = λ x. ⊎-elim (λ q. le-trans (lt-le (g refl)) (a .least x q)) (b .least x) }
 
-  join-both : Bounds E s → Bounds F t → Bounds Both (cond (leZ (s .0) (t .0)) (s .0) (t .0), cond (leZ (s .1) (t .1)) (t .1) (s .1))
-  join-both a b = by (leZ (s .0) (t .0)) (leZ (s .1) (t .1)) le-yes le-no le-yes le-no
-    where
-      by : (p q : Bool) → (p ≡ true → s .0 ≤ℤ t .0) → (p ≡ false → t .0 <ℤ s .0) → (q ≡ true → s .1 ≤ℤ t .1) → (q ≡ false → t .1 <ℤ s .1) → Bounds Both (cond p (s .0) (t .0), cond q (t .1) (s .1))
-      by p q f g h k = ?
+    join-last : (p : Bool) → (p ≡ true → s .1 ≤ℤ t .1) → (p ≡ false → t .1 <ℤ s .1) → Past Both (cond p (t .1) (s .1))
+    join-last true f g =
+        let l : a .last ≤ℤ b .last = nat-le (omega (arith, le-nat (f refl), sum-nat (s .1) (a .last) 1 (a .past), sum-nat (t .1) (b .last) 1 (b .past))) in
+        record { last = b .last; past = b .past; at = inr (b .at-last); largest = λ x. ⊎-elim (λ q. le-trans (a .largest x q) l) (b .largest x) }
+    join-last false f g =
+        let l : b .last ≤ℤ a .last = nat-le (omega (arith, lt-nat (g refl), sum-nat (s .1) (a .last) 1 (a .past), sum-nat (t .1) (b .last) 1 (b .past))) in
+        record { last = a .last; past = a .past; at = inl (a .at-last); largest = λ x. ⊎-elim (a .largest x) (λ q. le-trans (b .largest x q) l) }
+
+    join-both : Bounds Both (cond (leZ (s .0) (t .0)) (s .0) (t .0), cond (leZ (s .1) (t .1)) (t .1) (s .1))
+    join-both =
+        let f = join-first (leZ (s .0) (t .0)) le-yes le-no in
+        let l = join-last (leZ (s .1) (t .1)) le-yes le-no in
+        record { last = l .last; past = l .past; at-first = f .at; at-last = l .at; least = f .least; largest = l .largest }
 
   pub join-spans : Spans E s → Spans F t → Spans Both (joined s t)
   join-spans (inl a) (inl b) = rw (full E s a, full F t b) (inl (join-both a b))
-  join-spans (inl a) (inr m) = ?
-  join-spans (inr n) b = ?
+  join-spans (inl a) (inr m) = rw (full E s a, empty t (m .0)) (span-map E Both s (λ x. inl) (λ x. ⊎-elim (λ q. q) (λ q. absurd (m .1 x q))) (inl a))
+  join-spans (inr n) b = rw (empty s (n .0)) (span-map F Both t (λ x. inr) (λ x. ⊎-elim (λ q. absurd (n .1 x q)) (λ q. q)) b)
+
+-- ---- the span of a list of columns
+pub list-spans : (xs : List ℤ) → Spans (λ x. List·Memᴰ x xs) (spanOf xs)
+unfolding spanOf
+list-spans [] = inr (refl, λ x. List·Memᴰ·not-nil)
+list-spans (c ∷ xs) =
+    span-map (λ x. (x ≡ c) ⊎ List·Memᴰ x xs) (λ x. List·Memᴰ x (c ∷ xs)) (joined (c, c +ℤ pos 1) (spanOf xs)) (λ x. ⊎-elim List·Memᴰ·head List·Memᴰ·tail) (λ x. List·Memᴰ·cases-cons)
+    (join-spans (λ x. x ≡ c) (λ x. List·Memᴰ x xs) (c, c +ℤ pos 1) (spanOf xs)
+    (inl (record { last = c; past = refl; at-first = refl; at-last = refl; least = λ x e. nat-le (omega (arith, eq-nat e)); largest = λ x e. nat-le (omega (arith, eq-nat e)) }))
+    (list-spans xs))
+
+-- one list after another
+pub span-append : (xs ys : List ℤ) → joined (spanOf xs) (spanOf ys) ≡ spanOf (xs ++ ys)
+span-append xs ys =
+    span-one (λ x. List·Memᴰ x (xs ++ ys)) _ _
+    (span-map (λ x. List·Memᴰ x xs ⊎ List·Memᴰ x ys) (λ x. List·Memᴰ x (xs ++ ys)) _ (λ x. ⊎-elim (Memᴰ·append-left ys) (Memᴰ·append-right xs)) (λ x. List·Memᴰ·append-cases xs)
+    (join-spans (λ x. List·Memᴰ x xs) (λ x. List·Memᴰ x ys) (spanOf xs) (spanOf ys) (list-spans xs) (list-spans ys)))
+    (list-spans (xs ++ ys))
+
+-- ---- the columns of a line's points on a row
+record Step (f : ℕ → Point) (x y : ℤ) (n : ℕ) : Type 0 where
+  k : ℕ
+  below : k < n
+  here : (x, y) ≡ f k
+
+module _ (f : ℕ → Point) (x y : ℤ) where
+  listed : (n : ℕ) → List·Memᴰ x (columnsTo f y n) → Step f x y n
+  listed zero m = absurd (List·Memᴰ·not-nil m)
+  listed (suc n) m = by (eqZ (f n .1) y) (decides-eq (f n .1) y) (λ (k : List·Memᴰ x (columnsTo f y n)). listed n k) m
+    where
+      more : Step f x y n → Step f x y (suc n)
+      more q = record { k = q .k; below = omega (arith, q .below); here = q .here }
+
+      by : (t : Bool) → Decides t (f n .1 ≡ y) → (List·Memᴰ x (columnsTo f y n) → Step f x y n) → List·Memᴰ x (cond t (f n .0 ∷ columnsTo f y n) (columnsTo f y n)) → Step f x y (suc n)
+      by true d fewer m = ⊎-elim (λ e. record { k = n; below = omega arith; here = λ i. (e i, sym (d .yes refl) i) }) (λ q. more (fewer q)) (List·Memᴰ·cases-cons m)
+      by false d fewer m = more (fewer m)
+
+  lists : (n : ℕ) → Step f x y n → List·Memᴰ x (columnsTo f y n)
+  lists zero q = absurd (omega (arith, q .below))
+  lists (suc n) q = by (eqZ (f n .1) y) (decides-eq (f n .1) y) (λ (l : q .k < n). lists n (record { k = q .k; below = l; here = q .here })) (decLt (q .k) n)
+    where
+      here : ¬ (q .k < n) → (x, y) ≡ f n
+      here l = q .here ∙ ap f (omega (arith, q .below))
+
+      by : (t : Bool) → Decides t (f n .1 ≡ y) → (q .k < n → List·Memᴰ x (columnsTo f y n)) → Dec (q .k < n) → List·Memᴰ x (cond t (f n .0 ∷ columnsTo f y n) (columnsTo f y n))
+      by true d fewer (yes l) = List·Memᴰ·tail (fewer l)
+      by true d fewer (no l) = List·Memᴰ·head (ap (λ (p : Point). p .0) (here l))
+      by false d fewer (yes l) = fewer l
+      by false d fewer (no l) = absurd (d .no refl (ap (λ (p : Point). p .1) (sym (here l))))
+
+module _ (s e : Point) (x y : ℤ) where
+  pub column-has : List·Memᴰ x (columns s e y) → HasPoint s e (x, y)
+  unfolding columns
+  column-has m = let q = listed (pointAt s e) x y (points s e) m in record { step = q .k; walked = omega (arith, q .below); here = q .here }
+
+  pub has-column : HasPoint s e (x, y) → List·Memᴰ x (columns s e y)
+  unfolding columns
+  has-column h = lists (pointAt s e) x y (points s e) (record { k = h .step; below = omega (arith, h .walked); here = h .here })
+
+-- the span of a line's points on a row
+pub line-spans : (s e : Point) (y : ℤ) → Spans (λ x. HasPoint s e (x, y)) (spanOf (columns s e y))
+line-spans s e y = span-map (λ x. List·Memᴰ x (columns s e y)) (λ x. HasPoint s e (x, y)) _ (λ x. column-has s e x y) (λ x. has-column s e x y) (list-spans (columns s e y))

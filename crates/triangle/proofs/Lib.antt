@@ -6,3 +6,4 @@ pub mod Order
 pub mod Sides
 pub mod Agree
 pub mod Spans
+pub mod Triangle

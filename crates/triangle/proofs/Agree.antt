@@ -119,11 +119,15 @@ module _ (s e f g : Point) (x y : ℤ) (E : RunOn s e y) (F : RunOn f g y) (tall
         by (inl a) (inl b) = inl (outer-left lo l a b p)
         by (inr (inr a)) (inr (inr b)) = inl (outer-right hi u a b q)
         by (inl a) (inr (inr b)) =
-            inr (record { sides = inl (lt-le (E .run .left tall-e x a), lt-le (F .run .right tall-f x b));
-              apart = λ j v w. absurd (omega (arith, lt-nat a, lt-nat b, le-nat (E .run .has j v .0), le-nat (F .run .has j w .1))) })
+            inr (record {
+              sides = inl (lt-le (E .run .left tall-e x a), lt-le (F .run .right tall-f x b));
+              apart = λ j v w. absurd (omega (arith, lt-nat a, lt-nat b, le-nat (E .run .has j v .0), le-nat (F .run .has j w .1)));
+            })
         by (inr (inr a)) (inl b) =
-            inr (record { sides = inr (lt-le (E .run .right tall-e x a), lt-le (F .run .left tall-f x b));
-              apart = λ j v w. absurd (omega (arith, lt-nat a, lt-nat b, le-nat (E .run .has j v .1), le-nat (F .run .has j w .0))) })
+            inr (record {
+              sides = inr (lt-le (E .run .right tall-e x a), lt-le (F .run .left tall-f x b));
+              apart = λ j v w. absurd (omega (arith, lt-nat a, lt-nat b, le-nat (E .run .has j v .1), le-nat (F .run .has j w .0)));
+            })
 
 -- ---- a triangle with area: contained is the same as between two edge points
 module _ (p1 p2 p3 p : Point) (u : p1 .1 ≤ℤ p2 .1) (l : p2 .1 ≤ℤ p3 .1) (solid : Flat p1 p2 p3 → ⊥) where

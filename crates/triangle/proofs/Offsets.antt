@@ -66,9 +66,10 @@ reach w h v = (2 * v + 1) * w / (2 * h)
 
 pub reaches : (w h v t : ℕ) → 0 < h → (t ≤ reach w h v) ↔ (2 * h * t ≤ 2 * w * v + w)
 unfolding reach
-reaches w h v t p =
-    (λ l. omega (arith, le-div-iff-mul-le {k = 2 * h} {x = t} {y = (2 * v + 1) * w} (omega arith) .0 l),
-    λ l. le-div-iff-mul-le {k = 2 * h} {x = t} {y = (2 * v + 1) * w} (omega arith) .1 (omega arith))
+reaches w h v t p = (
+  λ l. omega (arith, le-div-iff-mul-le {k = 2 * h} {x = t} {y = (2 * v + 1) * w} (omega arith) .0 l),
+  λ l. le-div-iff-mul-le {k = 2 * h} {x = t} {y = (2 * v + 1) * w} (omega arith) .1 (omega arith),
+)
 
 unfoldable pub first : ℕ → ℕ → ℕ → ℕ
 first w h zero = 0
@@ -77,9 +78,10 @@ first w h (suc v) = reach w h v + 1
 firsts : (w h v t : ℕ) → 0 < h → 0 < w → (first w h v ≤ t) ↔ (2 * w * v ≤ 2 * h * t + (w - 1))
 unfolding first
 firsts w h zero t p q = (λ l. omega arith, λ l. omega arith)
-firsts w h (suc v) t p q =
-    (λ l. let n : ¬ (2 * h * t ≤ 2 * w * v + w) = λ s. omega (arith, reaches w h v t p .1 s) in omega arith,
-    λ l. let n : ¬ (t ≤ reach w h v) = λ s. omega (arith, reaches w h v t p .0 s) in omega arith)
+firsts w h (suc v) t p q = (
+  λ l. let n : ¬ (2 * h * t ≤ 2 * w * v + w) = λ s. omega (arith, reaches w h v t p .1 s) in omega arith,
+  λ l. let n : ¬ (t ≤ reach w h v) = λ s. omega (arith, reaches w h v t p .0 s) in omega arith,
+)
 
 -- a row has an offset
 some-reach : (w h v : ℕ) → 0 < h → h < w → first w h v ≤ reach w h v

@@ -14,7 +14,7 @@ use Rattle.whole.proofs.Order.{le-trans, le-antisym, lt-le, le-unless, lt-unles
 use Rattle.geometry.specs.declared.Point.{Point}
 use Rattle.line.specs.Line.{HasPoint, hasPoint}
 use Rattle.line.proofs.Points.{has-start, has-end, has-decides}
-use Rattle.triangle.specs.Triangle.{areaDoubled, isFlat, noneBelow, noneAbove, onEdge}
+use Rattle.triangle.specs.Triangle.{areaDoubled, isInside, onEdge}
 use Rattle.triangle.specs.Between.{EdgePoint, Between}
 use Rattle.triangle.proofs.Area.{area-from-first, area-from-last, area-level}
 use Rattle.triangle.proofs.Run.{Run}
@@ -263,8 +263,8 @@ edge-decides p1 p2 p3 p =
     decides-or (hasPoint p1 p2 p) _ (has-decides p1 p2 p) (decides-or (hasPoint p1 p3 p) (hasPoint p2 p3 p) (has-decides p1 p3 p) (has-decides p2 p3 p))
 
 pub between-decides : (p1 p2 p3 p : Point) (flat : Bool) → Decides flat (Flat p1 p2 p3) → p1 .1 ≤ℤ p2 .1 → p2 .1 ≤ℤ p3 .1
-    → Decides (cond flat (hasPoint p1 p3 p) ((noneBelow p1 p2 p3 p || noneAbove p1 p2 p3 p) || onEdge p1 p2 p3 p)) (Between flat p1 p2 p3 p)
+    → Decides (cond flat (hasPoint p1 p3 p) (isInside p1 p2 p3 p || onEdge p1 p2 p3 p)) (Between flat p1 p2 p3 p)
 between-decides p1 p2 p3 p true d u l = decides-map (has-decides p1 p3 p) (flat-in p1 p2 p3 p) (flat-out p1 p2 p3 p (le-trans u l))
 between-decides p1 p2 p3 p false d u l =
-    decides-map (decides-or (noneBelow p1 p2 p3 p || noneAbove p1 p2 p3 p) (onEdge p1 p2 p3 p) (inside-decides p1 p2 p3 p) (edge-decides p1 p2 p3 p))
+    decides-map (decides-or (isInside p1 p2 p3 p) (onEdge p1 p2 p3 p) (inside-decides p1 p2 p3 p) (edge-decides p1 p2 p3 p))
     (solid-in p1 p2 p3 p u l (d .no refl)) (solid-out p1 p2 p3 p u l (d .no refl))

@@ -15,7 +15,8 @@ use Rattle.line.specs.Line.{toward, wide, high, steep, major, moves, xMoves, yM
 use Rattle.line.proofs.Moves.{moves-minor, moves-mono}
 use Rattle.line.proofs.Lengths.{y-by, major-by}
 use Rattle.line.proofs.Closed.{OnLine, has-off, off-moves, closed→}
-use Rattle.triangle.proofs.Offsets.{Offsets, Some, offsets}
+use Rattle.triangle.specs.Offsets.{firstOffset, lastOffset}
+use Rattle.triangle.proofs.Offsets.{Offsets, offsets}
 use Rattle.triangle.proofs.Run.{Run, rightward, leftward, moves-to, run-right, run-left}
 
 -- ---- in the box
@@ -95,12 +96,12 @@ run-on s e y a b = by (leZ (s .0) (e .0)) refl
     v : ℕ
     v = natAbs (y -ℤ s .1)
 
-    o : Some (wide s e) (high s e) v
+    o : Offsets (wide s e) (high s e) v (firstOffset (wide s e) (high s e) v) (lastOffset (wide s e) (high s e) v)
     o = offsets (wide s e) (high s e) v (omega (arith, le-nat b, sum-nat y (s .1) v (moves-to (s .1) y a), sum-nat (e .1) (s .1) (natAbs (e .1 -ℤ s .1)) (moves-to (s .1) (e .1) d)))
 
     by : (t : Bool) → leZ (s .0) (e .0) ≡ t → RunOn s e y
-    by true h = record { lo = _; hi = _; run = run-right s e y v (o .f) (o .l) d (moves-to (s .1) y a) (o .are) h }
-    by false h = record { lo = _; hi = _; run = run-left s e y v (o .f) (o .l) d (moves-to (s .1) y a) (o .are) h }
+    by true h = record { lo = _; hi = _; run = run-right s e y v _ _ d (moves-to (s .1) y a) o h }
+    by false h = record { lo = _; hi = _; run = run-left s e y v _ _ d (moves-to (s .1) y a) o h }
 
 -- between two points of one row there is no gap
 pub no-gap : (s e : Point) (y a x b : ℤ) → s .1 ≤ℤ e .1 → HasPoint s e (a, y) → HasPoint s e (b, y) → a ≤ℤ x → x ≤ℤ b → HasPoint s e (x, y)

@@ -2,15 +2,16 @@
 -- numbers from a first to a last, each by one division; on a row of an edge that is not level, what comes before the first lies before the ideal
 -- line, and what comes past the last lies past it. Assumes nothing.
 use mathlib.Core.Path.{_≡_, refl, sym, ap, subst, _∙_}
-use mathlib.Core.Bool.{Bool, true, false}
+use mathlib.Core.Bool.{Bool, true, false, cond}
 use mathlib.Core.Logic.{_↔_}
 use Prim.Native.Nat.{ℕ, zero, suc, _+_, _*_, _-_, _/_, _≤_, _<_, min}
-use native.Mathlib.Decide.{decLe, decLt}
+use native.Mathlib.Decide.{decLt}
 use native.Mathlib.Nat.{le-div-iff-mul-le, mul-le-mul-left, mul-le-mul-right}
 use native.Mathlib.Omega.{arith}
-use borrow.Author.Tests.{le-leb, lt-leb, leb-true, leb-false}
-use lib.Dec.{leb}
+use borrow.Author.Tests.{le-leb, lt-leb, leb-true, leb-false, eqb-true, eqb-false}
+use lib.Dec.{leb, eqb}
 use Rattle.line.specs.Line.{moves}
+use Rattle.triangle.specs.Offsets.{reach, start, firstOffset, lastOffset}
 use Rattle.line.proofs.Moves.{Band, moves-band, moves-is, moves-minor, moves-none}
 use Rattle.line.proofs.Closed.{OnLine}
 
@@ -60,10 +61,6 @@ steep w h v s r =
     }
 
 -- ---- a low edge: from one past the last of the row above to the last of this row, as far as the edge goes
--- the last offset on row v, were the edge to go on
-unfoldable pub reach : ℕ → ℕ → ℕ → ℕ
-reach w h v = (2 * v + 1) * w / (2 * h)
-
 pub reaches : (w h v t : ℕ) → 0 < h → (t ≤ reach w h v) ↔ (2 * h * t ≤ 2 * w * v + w)
 unfolding reach
 reaches w h v t p = (
@@ -71,12 +68,8 @@ reaches w h v t p = (
   λ l. le-div-iff-mul-le {k = 2 * h} {x = t} {y = (2 * v + 1) * w} (omega arith) .1 (omega arith),
 )
 
-unfoldable pub first : ℕ → ℕ → ℕ → ℕ
-first w h zero = 0
-first w h (suc v) = reach w h v + 1
-
-firsts : (w h v t : ℕ) → 0 < h → 0 < w → (first w h v ≤ t) ↔ (2 * w * v ≤ 2 * h * t + (w - 1))
-unfolding first
+firsts : (w h v t : ℕ) → 0 < h → 0 < w → (start w h v ≤ t) ↔ (2 * w * v ≤ 2 * h * t + (w - 1))
+unfolding start
 firsts w h zero t p q = (λ l. omega arith, λ l. omega arith)
 firsts w h (suc v) t p q = (
   λ l. let n : ¬ (2 * h * t ≤ 2 * w * v + w) = λ s. omega (arith, reaches w h v t p .1 s) in omega arith,
@@ -84,21 +77,21 @@ firsts w h (suc v) t p q = (
 )
 
 -- a row has an offset
-some-reach : (w h v : ℕ) → 0 < h → h < w → first w h v ≤ reach w h v
-unfolding first
+some-reach : (w h v : ℕ) → 0 < h → h < w → start w h v ≤ reach w h v
+unfolding start
 some-reach w h zero p s = omega arith
 some-reach w h (suc v) p s = reaches w h (suc v) (reach w h v + 1) p .1 (omega (arith, reaches w h v (reach w h v) p .0 (omega arith)))
 
 module _ (w h v : ℕ) (p : 0 < h) (s : h < w) (r : v ≤ h) where
-  low-on : (t : ℕ) → OnLine false w h t v ↔ ((first w h v ≤ t) × (t ≤ min w (reach w h v)))
+  low-on : (t : ℕ) → OnLine false w h t v ↔ ((start w h v ≤ t) × (t ≤ min w (reach w h v)))
   low-on t = (to, from)
     where
-      to : OnLine false w h t v → (first w h v ≤ t) × (t ≤ min w (reach w h v))
+      to : OnLine false w h t v → (start w h v ≤ t) × (t ≤ min w (reach w h v))
       to o =
           let b : Band w h t v = subst (λ (n : ℕ). Band w h t n) (sym (o .1)) (moves-band w h t (omega arith) (o .0)) in
           (firsts w h v t p (omega arith) .1 (b .low), omega (arith, o .0, reaches w h v t p .1 (b .high)))
 
-      from : (first w h v ≤ t) × (t ≤ min w (reach w h v)) → OnLine false w h t v
+      from : (start w h v ≤ t) × (t ≤ min w (reach w h v)) → OnLine false w h t v
       from g =
           let b : Band w h t v = record { low = firsts w h v t p (omega arith) .0 (g .0); high = reaches w h v t p .0 (omega (arith, g .1)) } in
           let n : ¬ (t < v) = λ l. omega (arith, b .low, mul-le-mul-left w l, mul-le-mul-right t s) in
@@ -108,26 +101,23 @@ module _ (w h v : ℕ) (p : 0 < h) (s : h < w) (r : v ≤ h) where
   low-past t (yes l) g = omega (arith, mul-le-mul-left w r, mul-le-mul-left h l)
   low-past t (no l) g = let n : ¬ (2 * h * t ≤ 2 * w * v + w) = λ k. omega (arith, reaches w h v t p .1 k) in omega arith
 
-  pub low : Offsets w h v (first w h v) (min w (reach w h v))
+  pub low : Offsets w h v (start w h v) (min w (reach w h v))
   low =
       record {
         some = omega (arith, some-reach w h v p s, firsts w h v w p (omega arith) .1 (omega (arith, mul-le-mul-left w r)));
         wide = omega arith;
-        on = λ t. subst (λ (q : Bool). OnLine q w h t v ↔ ((first w h v ≤ t) × (t ≤ min w (reach w h v)))) (sym (lt-leb w h s)) (low-on t);
+        on = λ t. subst (λ (q : Bool). OnLine q w h t v ↔ ((start w h v ≤ t) × (t ≤ min w (reach w h v)))) (sym (lt-leb w h s)) (low-on t);
         before = λ t l. let n : ¬ (2 * w * v ≤ 2 * h * t + (w - 1)) = λ g. omega (arith, firsts w h v t p (omega arith) .1 g) in omega arith;
         past = λ q t l. low-past t (decLt w t) l;
       }
 
--- every row of an edge has its offsets
-pub record Some (w h v : ℕ) : Type 0 where
-  pub f : ℕ
-  pub l : ℕ
-  pub are : Offsets w h v f l
-
-pub offsets : (w h v : ℕ) → v ≤ h → Some w h v
-offsets w zero v r = record { f = 0; l = w; are = subst (λ (n : ℕ). Offsets w 0 n 0 w) (omega arith) (level w) }
-offsets w (suc h) v r = by (decLe w (suc h))
+-- ---- any edge
+pub offsets : (w h v : ℕ) → v ≤ h → Offsets w h v (firstOffset w h v) (lastOffset w h v)
+unfolding firstOffset lastOffset
+offsets w h v r = by (eqb h 0) (leb w h) (eqb-true h 0) (eqb-false h 0) (leb-true w h) (leb-false w h)
   where
-    by : Dec (w ≤ suc h) → Some w (suc h) v
-    by (yes s) = record { f = moves (suc h) w v; l = moves (suc h) w v; are = steep w (suc h) v s r }
-    by (no s) = record { f = first w (suc h) v; l = min w (reach w (suc h) v); are = low w (suc h) v (omega arith) (omega arith) r }
+    by : (s t : Bool) → (s ≡ true → h ≡ 0) → (s ≡ false → h ≡ 0 → ⊥) → (t ≡ true → w ≤ h) → (t ≡ false → h < w)
+        → Offsets w h v (cond s 0 (cond t (moves h w v) (start w h v))) (cond s w (cond t (moves h w v) (min w (reach w h v))))
+    by true t f g p q = let e = f refl in subst (λ (n : ℕ). Offsets w n v 0 w) (sym e) (subst (λ (n : ℕ). Offsets w 0 n 0 w) (omega arith) (level w))
+    by false true f g p q = steep w h v (p refl) r
+    by false false f g p q = let n = g refl in low w h v (omega arith) (q refl) r

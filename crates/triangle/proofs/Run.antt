@@ -16,7 +16,7 @@ use Rattle.line.specs.Line.{toward, wide, high, steep, xMoves, yMoves, HasPoint
 use Rattle.line.proofs.Closed.{Off, moves-off, off-moves, has-off, closed→, closed←}
 use Rattle.triangle.specs.Triangle.{areaDoubled}
 use Rattle.triangle.proofs.Area.{area-near}
-use Rattle.triangle.proofs.Offsets.{Offsets, Some, offsets}
+use Rattle.triangle.proofs.Offsets.{Offsets}
 
 -- the points on row y are the columns lo to hi
 pub record Run (s e : Point) (y lo hi : ℤ) : Type 0 where

@@ -1,7 +1,7 @@
 -- Laws of the sides that a pixel is on: the tests decide the statements, any order of the vertices gives the same, and a pixel that is on the same
 -- side of all three edges stands on the triangle's rows. Assumes nothing.
 use mathlib.Core.Path.{_≡_, refl, sym, ap, subst, _∙_}
-use mathlib.Core.Bool.{Bool, true, false, _&&_, _||_}
+use mathlib.Core.Bool.{Bool, true, false, _&&_}
 use mathlib.Core.Logic.{_⊎_, inl, inr, ⊎-elim}
 use native.Mathlib.Omega.{arith}
 use lib.IntN.{ℤ, pos, negℤ, _+ℤ_, _-ℤ_, _*ℤ_}
@@ -12,7 +12,7 @@ use Rattle.whole.proofs.Decides.{decides-map, decides-and, decides-or, decides-
 use Rattle.whole.proofs.Difference.{up, dn, as-mk, mks, mk-eq, mk-le, le-nat, nat-lt, nat-eq}
 use Rattle.whole.proofs.Order.{le-trans, le-sub, sub-le, nonneg-add, nonneg-mul, nonneg-cancel}
 use Rattle.geometry.specs.declared.Point.{Point}
-use Rattle.triangle.specs.Triangle.{areaDoubled, isFlat, noneBelow, noneAbove}
+use Rattle.triangle.specs.Triangle.{areaDoubled, isFlat, alike, isInside}
 use Rattle.triangle.proofs.Area.{area-swap, area-turn, area-back, area-sum, weighed-below, weighed-above}
 
 -- ---- the statements
@@ -36,21 +36,23 @@ pub flat-decides : (a b c : Point) → Decides (isFlat a b c) (Flat a b c)
 unfolding isFlat
 flat-decides a b c = decides-eq (areaDoubled a b c) (pos 0)
 
-module _ (a b c p : Point) where
-  below-decides : Decides (noneBelow a b c p) (NoneBelow a b c p)
-  unfolding noneBelow
-  below-decides =
-      decides-map (decides-and (leZ (pos 0) (areaDoubled p a b)) _ (decides-le _ _) (decides-and (leZ (pos 0) (areaDoubled p b c)) (leZ (pos 0) (areaDoubled p c a)) (decides-le _ _) (decides-le _ _)))
-      (λ h. record { ab = h .0; bc = h .1 .0; ca = h .1 .1 }) (λ h. (h .ab, (h .bc, h .ca)))
+pub inside-decides : (a b c p : Point) → Decides (isInside a b c p) (Inside a b c p)
+unfolding isInside alike
+inside-decides a b c p =
+    decides-map (decides-or (leZ (pos 0) A && (leZ (pos 0) B && leZ (pos 0) C)) (leZ A (pos 0) && (leZ B (pos 0) && leZ C (pos 0)))
+    (decides-and (leZ (pos 0) A) _ (decides-le _ _) (decides-and (leZ (pos 0) B) (leZ (pos 0) C) (decides-le _ _) (decides-le _ _)))
+    (decides-and (leZ A (pos 0)) _ (decides-le _ _) (decides-and (leZ B (pos 0)) (leZ C (pos 0)) (decides-le _ _) (decides-le _ _))))
+    (⊎-elim (λ h. inl (record { ab = h .0; bc = h .1 .0; ca = h .1 .1 })) (λ h. inr (record { ab = h .0; bc = h .1 .0; ca = h .1 .1 })))
+    (⊎-elim (λ h. inl (h .ab, (h .bc, h .ca))) (λ h. inr (h .ab, (h .bc, h .ca))))
+  where
+    A : ℤ
+    A = areaDoubled p a b
 
-  above-decides : Decides (noneAbove a b c p) (NoneAbove a b c p)
-  unfolding noneAbove
-  above-decides =
-      decides-map (decides-and (leZ (areaDoubled p a b) (pos 0)) _ (decides-le _ _) (decides-and (leZ (areaDoubled p b c) (pos 0)) (leZ (areaDoubled p c a) (pos 0)) (decides-le _ _) (decides-le _ _)))
-      (λ h. record { ab = h .0; bc = h .1 .0; ca = h .1 .1 }) (λ h. (h .ab, (h .bc, h .ca)))
+    B : ℤ
+    B = areaDoubled p b c
 
-  pub inside-decides : Decides (noneBelow a b c p || noneAbove a b c p) (Inside a b c p)
-  inside-decides = decides-or (noneBelow a b c p) (noneAbove a b c p) below-decides above-decides
+    C : ℤ
+    C = areaDoubled p c a
 
 -- ---- the vertices in another order
 -- seen from its other end, an edge's side turns
@@ -88,11 +90,11 @@ module _ (a b c : Point) where
   pub flat-turn : isFlat b c a ≡ isFlat a b c
   flat-turn = decides-one _ _ (flat-decides b c a) (decides-map (flat-decides a b c) (λ h. area-turn a b c ∙ h) (λ h. sym (area-turn a b c) ∙ h))
 
-  pub tests-swap : (p : Point) → (noneBelow b a c p || noneAbove b a c p) ≡ (noneBelow a b c p || noneAbove a b c p)
-  tests-swap p = decides-one _ _ (inside-decides b a c p) (decides-map (inside-decides a b c p) (inside-swap a b c p) (inside-swap b a c p))
+  pub isInside-swap : (p : Point) → isInside b a c p ≡ isInside a b c p
+  isInside-swap p = decides-one _ _ (inside-decides b a c p) (decides-map (inside-decides a b c p) (inside-swap a b c p) (inside-swap b a c p))
 
-  pub tests-turn : (p : Point) → (noneBelow b c a p || noneAbove b c a p) ≡ (noneBelow a b c p || noneAbove a b c p)
-  tests-turn p =
+  pub isInside-turn : (p : Point) → isInside b c a p ≡ isInside a b c p
+  isInside-turn p =
       decides-one _ _ (inside-decides b c a p) (decides-map (inside-decides a b c p) (inside-turn a b c p) (λ h. inside-turn c a b p (inside-turn b c a p h)))
 
 -- ---- on the rows of the triangle

@@ -17,7 +17,8 @@ use Rattle.whole.proofs.Machine.{le-yes, le-no}
 use Rattle.whole.proofs.Order.{le-trans, le-antisym, lt-le}
 use Rattle.geometry.specs.declared.Point.{Point}
 use Rattle.line.specs.Line.{pointAt, points, major, HasPoint}
-use Rattle.triangle.specs.Row.{Columns, joined, spanOf, inSpan, columnsTo, columns}
+use Rattle.triangle.specs.declared.Columns.{Columns}
+use Rattle.triangle.specs.Row.{joined, spanOf, inSpan, columnsTo, columns}
 
 -- ---- the span of the columns E
 pub record Bounds (E : ℤ → Type 0) (s : Columns) : Type 0 where

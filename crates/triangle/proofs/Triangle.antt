@@ -16,13 +16,13 @@ use Rattle.geometry.specs.declared.Point.{Point}
 use Rattle.line.specs.Line.{HasPoint, hasPoint}
 use Rattle.triangle.specs.declared.Sorted.{Sorted}
 use Rattle.triangle.specs.Order.{sorted}
-use Rattle.triangle.specs.Triangle.{isFlat, noneBelow, noneAbove, onEdge, contained}
+use Rattle.triangle.specs.Triangle.{isFlat, isInside, onEdge, contained}
 use Rattle.triangle.specs.Between.{EdgePoint, Between}
-use Rattle.triangle.specs.Row.{Columns, spanOf, inSpan, columns, rowColumns, rowSpan, firstRow, rowCount}
+use Rattle.triangle.specs.Row.{spanOf, inSpan, columns, edgeColumns, rowSpan, firstRow, rowCount}
 use Rattle.triangle.proofs.Run.{moves-to}
 use Rattle.triangle.proofs.Edge.{RunOn, run-on, edge-rows, edge-left, edge-right, edge-top, edge-bottom}
 use Rattle.triangle.proofs.Order.{Ordered, before-rows, sorted-ordered, sorted-same, All, sorted-all, sorted-swap, sorted-turn}
-use Rattle.triangle.proofs.Sides.{Flat, flat-decides, flat-swap, flat-turn, tests-swap, tests-turn}
+use Rattle.triangle.proofs.Sides.{Flat, flat-decides, flat-swap, flat-turn, isInside-swap, isInside-turn}
 use Rattle.triangle.proofs.Agree.{between-decides}
 use Rattle.triangle.proofs.Spans.{Bounds, Spans, Hull, span-map, hull-decides, list-spans, column-has, has-column}
 
@@ -49,8 +49,8 @@ module _ (v1 v2 v3 : Point) where
   flat-sorted : isFlat p1 p2 p3 ≡ flat
   flat-sorted = sorted-same isFlat flat-swap flat-turn v1 v2 v3
 
-  inside-sorted : (p : Point) → (noneBelow p1 p2 p3 p || noneAbove p1 p2 p3 p) ≡ (noneBelow v1 v2 v3 p || noneAbove v1 v2 v3 p)
-  inside-sorted p = sorted-same (λ a b c. noneBelow a b c p || noneAbove a b c p) (λ a b c. tests-swap a b c p) (λ a b c. tests-turn a b c p) v1 v2 v3
+  inside-sorted : (p : Point) → isInside p1 p2 p3 p ≡ isInside v1 v2 v3 p
+  inside-sorted p = sorted-same (λ a b c. isInside a b c p) (λ a b c. isInside-swap a b c p) (λ a b c. isInside-turn a b c p) v1 v2 v3
 
   -- ---- CONTAINED exactly if it lies between two edge points of its row
   pub contained-decides : (p : Point) → Decides (contained v1 v2 v3 p) (Between flat p1 p2 p3 p)
@@ -60,23 +60,23 @@ module _ (v1 v2 v3 : Point) where
       (between-decides p1 p2 p3 p flat (decides-at flat-sorted (flat-decides p1 p2 p3)) upper lower)
 
   -- ---- the span of row y is that of the edge points on it
-  listed : (b : Bool) (x y : ℤ) → List·Memᴰ x (cond b (columns p1 p3 y) (columns p1 p2 y ++ (columns p1 p3 y ++ columns p2 p3 y))) → EdgePoint b p1 p2 p3 (x, y)
+  listed : (b : Bool) (x y : ℤ) → List·Memᴰ x (edgeColumns b (sorted v1 v2 v3) y) → EdgePoint b p1 p2 p3 (x, y)
   listed true x y m = column-has p1 p3 x y m
   listed false x y m =
       ⊎-elim (λ q. inl (column-has p1 p2 x y q)) (λ q. inr (⊎-elim (λ r. inl (column-has p1 p3 x y r)) (λ r. inr (column-has p2 p3 x y r)) (List·Memᴰ·append-cases (columns p1 p3 y) q)))
       (List·Memᴰ·append-cases (columns p1 p2 y) m)
 
-  lists : (b : Bool) (x y : ℤ) → EdgePoint b p1 p2 p3 (x, y) → List·Memᴰ x (cond b (columns p1 p3 y) (columns p1 p2 y ++ (columns p1 p3 y ++ columns p2 p3 y)))
+  lists : (b : Bool) (x y : ℤ) → EdgePoint b p1 p2 p3 (x, y) → List·Memᴰ x (edgeColumns b (sorted v1 v2 v3) y)
   lists true x y q = has-column p1 p3 x y q
   lists false x y (inl q) = Memᴰ·append-left _ (has-column p1 p2 x y q)
   lists false x y (inr (inl q)) = Memᴰ·append-right (columns p1 p2 y) (Memᴰ·append-left _ (has-column p1 p3 x y q))
   lists false x y (inr (inr q)) = Memᴰ·append-right (columns p1 p2 y) (Memᴰ·append-right (columns p1 p3 y) (has-column p2 p3 x y q))
 
   pub row-spans : (y : ℤ) → Spans (λ x. EdgePoint flat p1 p2 p3 (x, y)) (rowSpan v1 v2 v3 y)
-  unfolding rowSpan rowColumns
+  unfolding rowSpan
   row-spans y =
-      span-map (λ x. List·Memᴰ x (rowColumns v1 v2 v3 y)) (λ x. EdgePoint flat p1 p2 p3 (x, y)) (spanOf (rowColumns v1 v2 v3 y)) (λ x. listed flat x y) (λ x. lists flat x y)
-      (list-spans (rowColumns v1 v2 v3 y))
+      span-map (λ x. List·Memᴰ x (edgeColumns flat (sorted v1 v2 v3) y)) (λ x. EdgePoint flat p1 p2 p3 (x, y)) (spanOf (edgeColumns flat (sorted v1 v2 v3) y)) (λ x. listed flat x y) (λ x. lists flat x y)
+      (list-spans (edgeColumns flat (sorted v1 v2 v3) y))
 
   -- ---- SPAN AND CONTAINMENT AGREE: a pixel is contained exactly if the span of its row holds its column
   pub span-and-containment-agree : (p : Point) → contained v1 v2 v3 p ≡ inSpan (rowSpan v1 v2 v3 (p .1)) (p .0)
@@ -177,12 +177,12 @@ pub record Same (a b c d e f : Point) : Type 0 where
   pub count : rowCount a b c ≡ rowCount d e f
 
 -- from the same sorted vertices and the same tests
-same-by : (a b c d e f : Point) → sorted a b c ≡ sorted d e f → isFlat a b c ≡ isFlat d e f → ((p : Point) → (noneBelow a b c p || noneAbove a b c p) ≡ (noneBelow d e f p || noneAbove d e f p)) → Same a b c d e f
-unfolding contained rowSpan rowColumns firstRow rowCount
+same-by : (a b c d e f : Point) → sorted a b c ≡ sorted d e f → isFlat a b c ≡ isFlat d e f → ((p : Point) → isInside a b c p ≡ isInside d e f p) → Same a b c d e f
+unfolding contained rowSpan firstRow rowCount
 same-by a b c d e f s z t =
     record {
       contains = λ p i. cond (z i) (hasPoint (s i .p1) (s i .p3) p) (t p i || onEdge (s i .p1) (s i .p2) (s i .p3) p);
-      span = λ y i. spanOf (cond (z i) (columns (s i .p1) (s i .p3) y) (columns (s i .p1) (s i .p2) y ++ (columns (s i .p1) (s i .p3) y ++ columns (s i .p2) (s i .p3) y)));
+      span = λ y i. spanOf (edgeColumns (z i) (s i) y);
       first = λ i. s i .p1 .1;
       count = λ i. natAbs (s i .p3 .1 -ℤ s i .p1 .1) + 1;
     }
@@ -192,10 +192,10 @@ same-then s t = record { contains = λ p. s .contains p ∙ t .contains p; span 
 
 module _ (a b c : Point) where
   pub order-bac : Same b a c a b c
-  order-bac = same-by b a c a b c (sorted-swap a b c) (flat-swap a b c) (tests-swap a b c)
+  order-bac = same-by b a c a b c (sorted-swap a b c) (flat-swap a b c) (isInside-swap a b c)
 
   pub order-bca : Same b c a a b c
-  order-bca = same-by b c a a b c (sorted-turn a b c) (flat-turn a b c) (tests-turn a b c)
+  order-bca = same-by b c a a b c (sorted-turn a b c) (flat-turn a b c) (isInside-turn a b c)
 
 module _ (a b c : Point) where
   pub order-cab : Same c a b a b c

@@ -8,14 +8,11 @@ use Rattle.whole.specs.Equal.{eqZ}
 use Rattle.geometry.specs.declared.Point.{Point}
 use Rattle.line.specs.Line.{pointAt, points}
 use Rattle.triangle.specs.declared.Sorted.{Sorted}
+use Rattle.triangle.specs.declared.Columns.{Columns}
 use Rattle.triangle.specs.Order.{sorted}
 use Rattle.triangle.specs.Triangle.{isFlat}
 
--- a span of columns: the first, and one past the last; empty if they are the same
-abbrev pub Columns : Type 0
-Columns = ℤ × ℤ
-
--- the span a, which takes in b
+-- the span that takes in a and b: a span is its first column and one past its last, and empty if they are the same
 abbrev pub joined : Columns → Columns → Columns
 joined a b = cond (eqZ (a .0) (a .1)) b (cond (eqZ (b .0) (b .1)) a (cond (leZ (a .0) (b .0)) (a .0) (b .0), cond (leZ (a .1) (b .1)) (b .1) (a .1)))
 
@@ -37,16 +34,14 @@ columnsTo f y (suc n) = cond (eqZ (f n .1) y) (f n .0 ∷ columnsTo f y n) (colu
 unfoldable pub columns : Point → Point → ℤ → List ℤ
 columns s e y = columnsTo (pointAt s e) y (points s e)
 
-module _ (v1 v2 v3 : Point) where
-  -- the columns of the edge points on row y; zero area: of the line p1 to p3 only
-  unfoldable pub rowColumns : ℤ → List ℤ
-  rowColumns y =
-      let t : Sorted = sorted v1 v2 v3 in
-      cond (isFlat v1 v2 v3) (columns (t .p1) (t .p3) y) (columns (t .p1) (t .p2) y ++ (columns (t .p1) (t .p3) y ++ columns (t .p2) (t .p3) y))
+-- the columns of the edge points on row y; zero area: of the line p1 to p3 only
+abbrev pub edgeColumns : Bool → Sorted → ℤ → List ℤ
+edgeColumns flat t y = cond flat (columns (t .p1) (t .p3) y) (columns (t .p1) (t .p2) y ++ (columns (t .p1) (t .p3) y ++ columns (t .p2) (t .p3) y))
 
+module _ (v1 v2 v3 : Point) where
   -- the span of row y
   unfoldable pub rowSpan : ℤ → Columns
-  rowSpan y = spanOf (rowColumns y)
+  rowSpan y = spanOf (edgeColumns (isFlat v1 v2 v3) (sorted v1 v2 v3) y)
 
   -- the first row, and the number of rows
   unfoldable pub firstRow : ℤ

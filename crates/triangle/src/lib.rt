@@ -9,6 +9,9 @@ pub struct Sorted {
     pub p3: Point,
 }
 
+// A span of columns: the first, and one past the last; empty if they are the same.
+pub struct Columns(pub i32, pub i32);
+
 // The rows of a triangle: the first, and how many. With a refusal its number, and 0 and 0.
 #[repr(C)]
 pub struct Rows {

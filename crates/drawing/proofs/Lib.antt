@@ -1,2 +1,4 @@
 pub mod Figures
 pub mod Calls
+pub mod Rows
+pub mod Fill

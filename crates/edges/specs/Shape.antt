@@ -53,3 +53,19 @@ pub record Rowed (t : Shape) (y : ℤ) (r : Row) : Type 0 where
   pub holds : (c : ℤ) → On t c y → (r .low ≤ℤ c) × (c ≤ℤ r .high)
   pub low-is : (r .low ≡ pos 131072) ⊎ On t (r .low) y
   pub high-is : (r .high ≡ negsuc 131072) ⊎ On t (r .high) y
+
+-- (x, y) lies between two walked points of its row
+pub record Between (t : Shape) (x y : ℤ) : Type 0 where
+  pub first : ℤ
+  pub last : ℤ
+  pub from : first ≤ℤ x
+  pub to : x ≤ℤ last
+  pub at-first : On t first y
+  pub at-last : On t last y
+
+-- the walks of a triangle whose rows are top to bottom, at its top
+pub record Begun (t : Shape) (top bottom : ℤ) (w : Walk) : Type 0 where
+  pub at : WalkAt t top w
+  pub first : t .p1 .1 ≡ top
+  pub last : t .p3 .1 ≡ bottom
+  pub few : total t ≤ 786432

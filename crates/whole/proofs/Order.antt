@@ -41,6 +41,11 @@ lt-of h k = lt-unless (λ g. k (le-antisym h g))
 pub le-lt-more : {a b : ℤ} → a ≤ℤ b → a <ℤ (b +ℤ pos 1)
 le-lt-more {a} {b} h = rw (as-mk a, as-mk b) (simp mks (mk-lt _ _ _ _ (omega (arith, le-nat h))))
 
+pub more-lt-le : {a b : ℤ} → a <ℤ (b +ℤ pos 1) → a ≤ℤ b
+more-lt-le {a} {b} h =
+    let g = lt-mk _ _ _ _ (simp mks at (rw (as-mk a, as-mk b) at h)) in
+    nat-le (omega arith)
+
 pub lt-more-le : {a b : ℤ} → a <ℤ b → (a +ℤ pos 1) ≤ℤ b
 lt-more-le {a} {b} h = rw (as-mk a, as-mk b) (simp mks (mk-le _ _ _ _ (omega (arith, lt-nat h))))
 

@@ -16,7 +16,7 @@ use Rattle.geometry.specs.declared.Point.{Point}
 use Rattle.line.specs.Line.{HasPoint, hasPoint}
 use Rattle.triangle.specs.declared.Sorted.{Sorted}
 use Rattle.triangle.specs.Order.{sorted}
-use Rattle.triangle.specs.Triangle.{isFlat, isInside, onEdge, contained}
+use Rattle.triangle.specs.Triangle.{areaDoubled, noneBelow, noneAbove, isFlat, isInside, onEdge, contained}
 use Rattle.triangle.specs.Between.{EdgePoint, Between}
 use Rattle.triangle.specs.Row.{spanOf, inSpan, columns, edgeColumns, rowSpan, firstRow, rowCount}
 use Rattle.triangle.proofs.Run.{moves-to}
@@ -58,6 +58,26 @@ module _ (v1 v2 v3 : Point) where
   contained-decides p =
       decides-at (ap (λ (b : Bool). cond flat (hasPoint p1 p3 p) (b || onEdge p1 p2 p3 p)) (inside-sorted p))
       (between-decides p1 p2 p3 p flat (decides-at flat-sorted (flat-decides p1 p2 p3)) upper lower)
+
+  -- by the area: only a triangle with area has an inside
+  pub contained-flat : (p : Point) → Flat v1 v2 v3 → contained v1 v2 v3 p ≡ hasPoint p1 p3 p
+  unfolding contained
+  contained-flat p h = ap (λ (b : Bool). cond b (hasPoint p1 p3 p) (isInside v1 v2 v3 p || onEdge p1 p2 p3 p)) (decides-yes (flat-decides v1 v2 v3) h)
+
+  module _ (p : Point) (solid : Flat v1 v2 v3 → ⊥) where
+    sides : (s t : Bool) → noneBelow (areaDoubled p v1 v2) (areaDoubled p v2 v3) (areaDoubled p v3 v1) ≡ s → noneAbove (areaDoubled p v1 v2) (areaDoubled p v2 v3) (areaDoubled p v3 v1) ≡ t
+        → contained v1 v2 v3 p ≡ ((s || t) || onEdge p1 p2 p3 p)
+    unfolding contained isInside
+    sides s t below above = λ i. cond (decides-no (flat-decides v1 v2 v3) solid i) (hasPoint p1 p3 p) ((below i || above i) || onEdge p1 p2 p3 p)
+
+    pub contained-below : noneBelow (areaDoubled p v1 v2) (areaDoubled p v2 v3) (areaDoubled p v3 v1) ≡ true → contained v1 v2 v3 p ≡ true
+    contained-below h = sides true _ h refl
+
+    pub contained-above : noneBelow (areaDoubled p v1 v2) (areaDoubled p v2 v3) (areaDoubled p v3 v1) ≡ false → noneAbove (areaDoubled p v1 v2) (areaDoubled p v2 v3) (areaDoubled p v3 v1) ≡ true → contained v1 v2 v3 p ≡ true
+    contained-above h k = sides false true h k
+
+    pub contained-edge : noneBelow (areaDoubled p v1 v2) (areaDoubled p v2 v3) (areaDoubled p v3 v1) ≡ false → noneAbove (areaDoubled p v1 v2) (areaDoubled p v2 v3) (areaDoubled p v3 v1) ≡ false → contained v1 v2 v3 p ≡ onEdge p1 p2 p3 p
+    contained-edge h k = sides false false h k
 
   -- ---- the span of row y is that of the edge points on it
   listed : (b : Bool) (x y : ℤ) → List·Memᴰ x (edgeColumns b (sorted v1 v2 v3) y) → EdgePoint b p1 p2 p3 (x, y)

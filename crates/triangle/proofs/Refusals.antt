@@ -1,5 +1,5 @@
 -- Laws of a triangle's refusal: 5 exactly if a vertex is out of bounds, and 0 else. Assumes nothing.
-use mathlib.Core.Path.{_≡_, refl, ap, sym, _∙_}
+use mathlib.Core.Path.{_≡_, refl, ap, sym, subst, _∙_}
 use mathlib.Core.Bool.{Bool, true, false, cond, _&&_}
 use Prim.Native.Nat.{ℕ, zero, suc}
 use native.Mathlib.Omega.{arith}
@@ -10,6 +10,9 @@ use Rattle.geometry.specs.declared.Point.{Point}
 use Rattle.geometry.specs.Bound.{Bounded, inBounds}
 use Rattle.geometry.proofs.Bound.{bounded-decides}
 use Rattle.triangle.specs.declared.RowRange.{RowRange}
+use Rattle.triangle.specs.declared.Sorted.{Sorted}
+use Rattle.triangle.specs.Order.{sorted}
+use Rattle.triangle.proofs.Order.{All, sorted-all}
 use Rattle.triangle.specs.Answer.{vertexRefusal, rowsAnswer}
 
 module _ (v1 v2 v3 : Point) where
@@ -36,6 +39,10 @@ module _ (v1 v2 v3 : Point) where
       by : (t : Bool) → Decides t Accepted → _≡_ {A = ℕ} (cond t 0 5) 0 → Accepted
       by true d h = d .yes refl
       by false d h = absurd (omega arith)
+
+-- the sorted vertices of an accepted triangle are in bounds
+pub sorted-bounded : (v1 v2 v3 : Point) (t : Sorted) → t ≡ sorted v1 v2 v3 → Accepted v1 v2 v3 → All Bounded t
+sorted-bounded v1 v2 v3 t e h = subst (All Bounded) (sym e) (sorted-all Bounded v1 v2 v3 (h .0) (h .1) (h .2))
 
 pub rows-refused : (n : ℕ) (y : ℤ) (m : ℕ) → (n ≡ 0 → ⊥) → _≡_ {A = RowRange} (record { number = n; first = pos 0; count = 0 }) (rowsAnswer n y m)
 rows-refused zero y m h = absurd (h refl)

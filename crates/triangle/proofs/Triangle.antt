@@ -46,7 +46,10 @@ module _ (v1 v2 v3 : Point) where
   pub lower : p2 .1 ≤ℤ p3 .1
   lower = before-rows p2 p3 (sorted-ordered v1 v2 v3 .lower)
 
-  flat-sorted : isFlat p1 p2 p3 ≡ flat
+  pub down : p1 .1 ≤ℤ p3 .1
+  down = le-trans upper lower
+
+  pub flat-sorted : isFlat p1 p2 p3 ≡ flat
   flat-sorted = sorted-same isFlat flat-swap flat-turn v1 v2 v3
 
   inside-sorted : (p : Point) → isInside p1 p2 p3 p ≡ isInside v1 v2 v3 p
@@ -108,9 +111,9 @@ module _ (v1 v2 v3 : Point) where
 
   -- ---- the rows: those from y1 to y3 have a span, and no other
   edge-row : (b : Bool) (p : Point) → EdgePoint b p1 p2 p3 p → (p1 .1 ≤ℤ p .1) × (p .1 ≤ℤ p3 .1)
-  edge-row true p q = edge-rows p1 p3 p (le-trans upper lower) q
+  edge-row true p q = edge-rows p1 p3 p down q
   edge-row false p (inl q) = let r = edge-rows p1 p2 p upper q in (r .0, le-trans (r .1) lower)
-  edge-row false p (inr (inl q)) = edge-rows p1 p3 p (le-trans upper lower) q
+  edge-row false p (inr (inl q)) = edge-rows p1 p3 p down q
   edge-row false p (inr (inr q)) = let r = edge-rows p2 p3 p lower q in (le-trans upper (r .0), r .1)
 
   pub no-row : (y : ℤ) → (p1 .1 ≤ℤ y → y ≤ℤ p3 .1 → ⊥) → rowSpan v1 v2 v3 y ≡ (pos 0, pos 0)
@@ -139,7 +142,7 @@ module _ (v1 v2 v3 : Point) where
   -- the first row is y1, and the last, one before first and number together, is y3
   pub last-row : p3 .1 ≡ (firstRow v1 v2 v3 +ℤ pos (rowCount v1 v2 v3)) -ℤ pos 1
   unfolding firstRow rowCount
-  last-row = moves-to (p1 .1) (p3 .1) (le-trans upper lower) ∙ one-less (p1 .1) (natAbs (p3 .1 -ℤ p1 .1))
+  last-row = moves-to (p1 .1) (p3 .1) down ∙ one-less (p1 .1) (natAbs (p3 .1 -ℤ p1 .1))
     where
       one-less : (y : ℤ) (n : ℕ) → y +ℤ pos n ≡ (y +ℤ pos (n + 1)) -ℤ pos 1
       one-less y n = rw (as-mk y) (simp mks (mk-eq _ _ _ _ (omega arith)))

@@ -1,6 +1,6 @@
 -- `triangle::holds` asks the box, which has all that is contained, then the three areas, whose sum says whether there is area, then the edges.
 -- Assumes nothing.
-use mathlib.Core.Path.{_≡_, refl, sym, ap, subst, _∙_}
+use mathlib.Core.Path.{_≡_, sym, ap, _∙_}
 use mathlib.Core.Bool.{Bool, true, false, _||_}
 use lib.Dec.{lit<}
 use lib.IntN.{ℤ, pos, _+ℤ_}
@@ -17,8 +17,8 @@ use Rattle.triangle.specs.Order.{sorted}
 use Rattle.triangle.specs.Triangle.{areaDoubled, noneBelow, noneAbove, isInside, onEdge}
 use Rattle.triangle.specs.Box.{isOutside}
 use Rattle.triangle.proofs.Area.{area-sum}
-use Rattle.triangle.proofs.Order.{All, sorted-all}
 use Rattle.triangle.proofs.Sides.{Flat}
+use Rattle.triangle.proofs.Refusals.{sorted-bounded}
 use Rattle.triangle.proofs.Triangle.{contained-flat, contained-below, contained-above, contained-edge}
 use Rattle.triangle.proofs.Box.{outside-not, not-outside, area-size}
 use Rattle.triangle.proofs.holds.Statement.{statement}
@@ -84,17 +84,13 @@ add-if2 c = fits (AB c)
 add-if2-2 : tie.Need-add-if2-2
 add-if2-2 c = fits (ABC c)
 
--- the sorted vertices are in bounds
-bounded : (v1 v2 v3 : Point) (t : Sorted) → t ≡ sorted v1 v2 v3 → Bounded v1 × Bounded v2 × Bounded v3 → All Bounded t
-bounded v1 v2 v3 t e h = subst (All Bounded) (sym e) (sorted-all Bounded v1 v2 v3 (h .0) (h .1) (h .2))
-
 sorted-yx-requires : tie.Need-sorted-yx-requires
 sorted-yx-requires c κs = search needs
 
 meets-requires : tie.Need-meets-requires
 meets-requires c κs =
     let s = c .before .before .before .before .before .before .before in
-    let b = bounded (s .args .v1) (s .args .v2) (s .args .v3) (c .sorted-yx .result) (c .sorted-yx .ensures) (s .pre) in
+    let b = sorted-bounded (s .args .v1) (s .args .v2) (s .args .v3) (c .sorted-yx .result) (c .sorted-yx .ensures) (s .pre) in
     (b .first, b .third)
 
 returns-2 : tie.Need-returns-2
@@ -132,7 +128,7 @@ sorted-yx-requires-2 c κs = search needs
 on-edge-requires : tie.Need-on-edge-requires
 on-edge-requires c κs =
     let s = c .before .before .before .before .before .before .before .before .before .before .before in
-    let b = bounded (s .args .v1) (s .args .v2) (s .args .v3) (c .sorted-yx2 .result) (c .sorted-yx2 .ensures) (s .pre) in
+    let b = sorted-bounded (s .args .v1) (s .args .v2) (s .args .v3) (c .sorted-yx2 .result) (c .sorted-yx2 .ensures) (s .pre) in
     (b .first, b .second, b .third)
 
 returns-5 : tie.Need-returns-5

@@ -7,3 +7,5 @@ pub mod Sides
 pub mod Agree
 pub mod Spans
 pub mod Triangle
+pub mod Box
+pub mod Refusals

@@ -12,7 +12,7 @@ use Rattle.whole.proofs.Decides.{decides-map, decides-and, decides-or, decides-
 use Rattle.whole.proofs.Difference.{up, dn, as-mk, mks, mk-eq, mk-le, le-nat, nat-lt, nat-eq}
 use Rattle.whole.proofs.Order.{le-trans, le-sub, sub-le, nonneg-add, nonneg-mul, nonneg-cancel}
 use Rattle.geometry.specs.declared.Point.{Point}
-use Rattle.triangle.specs.Triangle.{areaDoubled, isFlat, alike, isInside}
+use Rattle.triangle.specs.Triangle.{areaDoubled, noneBelow, noneAbove, isFlat, isInside}
 use Rattle.triangle.proofs.Area.{area-swap, area-turn, area-back, area-sum, weighed-below, weighed-above}
 
 -- ---- the statements
@@ -37,9 +37,9 @@ unfolding isFlat
 flat-decides a b c = decides-eq (areaDoubled a b c) (pos 0)
 
 pub inside-decides : (a b c p : Point) → Decides (isInside a b c p) (Inside a b c p)
-unfolding isInside alike
+unfolding isInside noneBelow noneAbove
 inside-decides a b c p =
-    decides-map (decides-or (leZ (pos 0) A && (leZ (pos 0) B && leZ (pos 0) C)) (leZ A (pos 0) && (leZ B (pos 0) && leZ C (pos 0)))
+    decides-map (decides-or (noneBelow A B C) (noneAbove A B C)
     (decides-and (leZ (pos 0) A) _ (decides-le _ _) (decides-and (leZ (pos 0) B) (leZ (pos 0) C) (decides-le _ _) (decides-le _ _)))
     (decides-and (leZ A (pos 0)) _ (decides-le _ _) (decides-and (leZ B (pos 0)) (leZ C (pos 0)) (decides-le _ _) (decides-le _ _))))
     (⊎-elim (λ h. inl (record { ab = h .0; bc = h .1 .0; ca = h .1 .1 })) (λ h. inr (record { ab = h .0; bc = h .1 .0; ca = h .1 .1 })))

@@ -16,7 +16,7 @@ use Rattle.geometry.specs.declared.Point.{Point}
 use Rattle.line.specs.Line.{HasPoint, hasPoint}
 use Rattle.triangle.specs.declared.Sorted.{Sorted}
 use Rattle.triangle.specs.Order.{sorted}
-use Rattle.triangle.specs.Triangle.{isFlat, isInside, onEdge, contained}
+use Rattle.triangle.specs.Triangle.{areaDoubled, noneBelow, noneAbove, isFlat, isInside, onEdge, contained}
 use Rattle.triangle.specs.Between.{EdgePoint, Between}
 use Rattle.triangle.specs.Row.{spanOf, inSpan, columns, edgeColumns, rowSpan, firstRow, rowCount}
 use Rattle.triangle.proofs.Run.{moves-to}
@@ -46,7 +46,10 @@ module _ (v1 v2 v3 : Point) where
   pub lower : p2 .1 ≤ℤ p3 .1
   lower = before-rows p2 p3 (sorted-ordered v1 v2 v3 .lower)
 
-  flat-sorted : isFlat p1 p2 p3 ≡ flat
+  pub down : p1 .1 ≤ℤ p3 .1
+  down = le-trans upper lower
+
+  pub flat-sorted : isFlat p1 p2 p3 ≡ flat
   flat-sorted = sorted-same isFlat flat-swap flat-turn v1 v2 v3
 
   inside-sorted : (p : Point) → isInside p1 p2 p3 p ≡ isInside v1 v2 v3 p
@@ -58,6 +61,26 @@ module _ (v1 v2 v3 : Point) where
   contained-decides p =
       decides-at (ap (λ (b : Bool). cond flat (hasPoint p1 p3 p) (b || onEdge p1 p2 p3 p)) (inside-sorted p))
       (between-decides p1 p2 p3 p flat (decides-at flat-sorted (flat-decides p1 p2 p3)) upper lower)
+
+  -- by the area: only a triangle with area has an inside
+  pub contained-flat : (p : Point) → Flat v1 v2 v3 → contained v1 v2 v3 p ≡ hasPoint p1 p3 p
+  unfolding contained
+  contained-flat p h = ap (λ (b : Bool). cond b (hasPoint p1 p3 p) (isInside v1 v2 v3 p || onEdge p1 p2 p3 p)) (decides-yes (flat-decides v1 v2 v3) h)
+
+  module _ (p : Point) (solid : Flat v1 v2 v3 → ⊥) where
+    sides : (s t : Bool) → noneBelow (areaDoubled p v1 v2) (areaDoubled p v2 v3) (areaDoubled p v3 v1) ≡ s → noneAbove (areaDoubled p v1 v2) (areaDoubled p v2 v3) (areaDoubled p v3 v1) ≡ t
+        → contained v1 v2 v3 p ≡ ((s || t) || onEdge p1 p2 p3 p)
+    unfolding contained isInside
+    sides s t below above = λ i. cond (decides-no (flat-decides v1 v2 v3) solid i) (hasPoint p1 p3 p) ((below i || above i) || onEdge p1 p2 p3 p)
+
+    pub contained-below : noneBelow (areaDoubled p v1 v2) (areaDoubled p v2 v3) (areaDoubled p v3 v1) ≡ true → contained v1 v2 v3 p ≡ true
+    contained-below h = sides true _ h refl
+
+    pub contained-above : noneBelow (areaDoubled p v1 v2) (areaDoubled p v2 v3) (areaDoubled p v3 v1) ≡ false → noneAbove (areaDoubled p v1 v2) (areaDoubled p v2 v3) (areaDoubled p v3 v1) ≡ true → contained v1 v2 v3 p ≡ true
+    contained-above h k = sides false true h k
+
+    pub contained-edge : noneBelow (areaDoubled p v1 v2) (areaDoubled p v2 v3) (areaDoubled p v3 v1) ≡ false → noneAbove (areaDoubled p v1 v2) (areaDoubled p v2 v3) (areaDoubled p v3 v1) ≡ false → contained v1 v2 v3 p ≡ onEdge p1 p2 p3 p
+    contained-edge h k = sides false false h k
 
   -- ---- the span of row y is that of the edge points on it
   listed : (b : Bool) (x y : ℤ) → List·Memᴰ x (edgeColumns b (sorted v1 v2 v3) y) → EdgePoint b p1 p2 p3 (x, y)
@@ -88,9 +111,9 @@ module _ (v1 v2 v3 : Point) where
 
   -- ---- the rows: those from y1 to y3 have a span, and no other
   edge-row : (b : Bool) (p : Point) → EdgePoint b p1 p2 p3 p → (p1 .1 ≤ℤ p .1) × (p .1 ≤ℤ p3 .1)
-  edge-row true p q = edge-rows p1 p3 p (le-trans upper lower) q
+  edge-row true p q = edge-rows p1 p3 p down q
   edge-row false p (inl q) = let r = edge-rows p1 p2 p upper q in (r .0, le-trans (r .1) lower)
-  edge-row false p (inr (inl q)) = edge-rows p1 p3 p (le-trans upper lower) q
+  edge-row false p (inr (inl q)) = edge-rows p1 p3 p down q
   edge-row false p (inr (inr q)) = let r = edge-rows p2 p3 p lower q in (le-trans upper (r .0), r .1)
 
   pub no-row : (y : ℤ) → (p1 .1 ≤ℤ y → y ≤ℤ p3 .1 → ⊥) → rowSpan v1 v2 v3 y ≡ (pos 0, pos 0)
@@ -119,7 +142,7 @@ module _ (v1 v2 v3 : Point) where
   -- the first row is y1, and the last, one before first and number together, is y3
   pub last-row : p3 .1 ≡ (firstRow v1 v2 v3 +ℤ pos (rowCount v1 v2 v3)) -ℤ pos 1
   unfolding firstRow rowCount
-  last-row = moves-to (p1 .1) (p3 .1) (le-trans upper lower) ∙ one-less (p1 .1) (natAbs (p3 .1 -ℤ p1 .1))
+  last-row = moves-to (p1 .1) (p3 .1) down ∙ one-less (p1 .1) (natAbs (p3 .1 -ℤ p1 .1))
     where
       one-less : (y : ℤ) (n : ℕ) → y +ℤ pos n ≡ (y +ℤ pos (n + 1)) -ℤ pos 1
       one-less y n = rw (as-mk y) (simp mks (mk-eq _ _ _ _ (omega arith)))

@@ -12,9 +12,13 @@ use Rattle.triangle.specs.Order.{sorted}
 unfoldable pub areaDoubled : Point → Point → Point → ℤ
 areaDoubled a b c = ((b .0 -ℤ a .0) *ℤ (c .1 -ℤ a .1)) -ℤ ((c .0 -ℤ a .0) *ℤ (b .1 -ℤ a .1))
 
--- a, b, c are all at least 0, or all at most 0
-unfoldable pub alike : ℤ → ℤ → ℤ → Bool
-alike a b c = (leZ (pos 0) a && (leZ (pos 0) b && leZ (pos 0) c)) || (leZ a (pos 0) && (leZ b (pos 0) && leZ c (pos 0)))
+-- a, b, c are all at least 0
+unfoldable pub noneBelow : ℤ → ℤ → ℤ → Bool
+noneBelow a b c = leZ (pos 0) a && (leZ (pos 0) b && leZ (pos 0) c)
+
+-- all at most 0
+unfoldable pub noneAbove : ℤ → ℤ → ℤ → Bool
+noneAbove a b c = leZ a (pos 0) && (leZ b (pos 0) && leZ c (pos 0))
 
 -- a point of one of the edges: p1 to p2, p1 to p3, p2 to p3
 unfoldable pub onEdge : Point → Point → Point → Point → Bool
@@ -27,7 +31,7 @@ module _ (v1 v2 v3 : Point) where
 
   -- the doubled areas of (p, v1, v2), (p, v2, v3), (p, v3, v1) are all at least 0 or all at most 0
   unfoldable pub isInside : Point → Bool
-  isInside p = alike (areaDoubled p v1 v2) (areaDoubled p v2 v3) (areaDoubled p v3 v1)
+  isInside p = noneBelow (areaDoubled p v1 v2) (areaDoubled p v2 v3) (areaDoubled p v3 v1) || noneAbove (areaDoubled p v1 v2) (areaDoubled p v2 v3) (areaDoubled p v3 v1)
 
   -- area not zero: such a pixel, or a point of an edge; area zero: a point of the line p1 to p3
   unfoldable pub contained : Point → Bool

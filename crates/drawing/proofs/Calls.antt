@@ -6,14 +6,14 @@ use Prim.Native.Nat.{ℕ}
 use lib.Dec.{eqb}
 use lib.IntN.{ℤ}
 use borrow.Author.Tests.{eqb-true, eqb-false}
-use Rattle.layout.specs.Raster.{Raster, painted}
+use Rattle.layout.specs.Raster.{Sound, painted}
 use Rattle.framebuffer.specs.declared.Frame.{Frame}
 use Rattle.framebuffer.specs.declared.Pane.{Pane}
 use Rattle.framebuffer.specs.declared.Drawn.{Drawn}
 use Rattle.framebuffer.specs.Answer.{drawn}
 use Rattle.framebuffer.specs.Description.{raster, drawNumber, afterDraw}
 use Rattle.framebuffer.specs.Rectangle.{inside, ownPane}
-use Rattle.framebuffer.proofs.Refusals.{Nest, draw-nest, refused, passed, is-drawable, unchanged}
+use Rattle.framebuffer.proofs.Refusals.{Nest, draw-nest, refused, passed, is-drawable, sound, unchanged}
 use Rattle.framebuffer.proofs.Panes.{painted-own}
 
 -- ---- the number: the frame's and the colour's, else the call's own
@@ -31,6 +31,10 @@ module _ (f : Frame) (len colour own : ℕ) where
       by : (t : Bool) → eqb (drawNumber f len colour 0) 0 ≡ t → (drawNumber f len colour 0 ≡ 0) × (own ≡ 0)
       by true e = let ok : drawNumber f len colour 0 ≡ 0 = eqb-true (drawNumber f len colour 0) 0 e in (ok, sym (passed (draw-nest f len colour) own ok) ∙ z)
       by false e = let n : drawNumber f len colour 0 ≡ 0 → ⊥ = eqb-false (drawNumber f len colour 0) 0 e in absurd (n (sym (refused (draw-nest f len colour) own refl n) ∙ z))
+
+-- an accepted frame is sound
+pub sound-at : (f : Frame) (len colour : ℕ) → drawNumber f len colour 0 ≡ 0 → Sound (raster f)
+sound-at f len colour ok = sound f (is-drawable f len colour ok .accepted .described)
 
 -- ---- the answer and the bytes
 module _ (f : Frame) (figure : ℤ → ℤ → Bool) (colour : ℕ) (b : List ℕ) where

@@ -8,8 +8,8 @@ ghost use Rattle.layout.specs.Raster.{painted};
 ghost use Rattle.framebuffer.specs.Answer.{drawn};
 ghost use Rattle.framebuffer.specs.Description.{raster, drawNumber, afterDraw};
 ghost use Rattle.framebuffer.specs.Rectangle.{Within, inside};
-ghost use Rattle.drawing.specs.Figure.{lineFigure, outlineFigure};
-ghost use Rattle.drawing.specs.Number.{lineNumber};
+ghost use Rattle.drawing.specs.Figure.{lineFigure, outlineFigure, triangleFigure, circleFigure};
+ghost use Rattle.drawing.specs.Number.{lineNumber, triangleNumber, circleNumber};
 use framebuffer::Drawn;
 use framebuffer::Frame;
 use framebuffer::Pane;
@@ -51,5 +51,53 @@ pub fn draw_line(buf: &mut [u8], frame: Frame, start: Point, end: Point, colour:
         return Drawn { number };
     }
     draw_edge(buf, frame, frame.pane(), start, end, colour);
+    Drawn { number: 0 }
+}
+
+// The number that drawing a triangle or its outline answers.
+fn triangle_number(frame: Frame, len: usize, v1: Point, v2: Point, v3: Point, colour: u32) -> u32
+    ensures { λ r. ⌜ r ≡ triangleNumber frame len v1 v2 v3 colour ⌝ }
+{
+    let number = framebuffer::draw_refusal(frame, len, colour);
+    if number != 0 {
+        return number;
+    }
+    triangle::refusal(v1, v2, v3)
+}
+
+// The three edges of an accepted outline, as far as the rectangle holds them.
+fn draw_edges(
+    buf: &mut [u8],
+    frame: Frame,
+    pane: Pane,
+    v1: Point,
+    v2: Point,
+    v3: Point,
+    colour: u32,
+)
+    requires { ⌜ (drawNumber frame (length (now buf)) colour 0 ≡ 0) × Within pane frame × (Bounded v1 × Bounded v2 × Bounded v3) ⌝ }
+    ensures { λ r. ⌜ now (buf .exit) ≡ painted (raster frame) (inside pane (outlineFigure v1 v2 v3)) colour (now (buf .entry)) ⌝ }
+{
+    draw_edge(buf, frame, pane, v1, v2, colour);
+    draw_edge(buf, frame, pane, v2, v3, colour);
+    draw_edge(buf, frame, pane, v3, v1, colour);
+}
+
+// Draws the outline of a triangle: its edges from each vertex to the next, in the order in which they are given.
+pub fn draw_outline(
+    buf: &mut [u8],
+    frame: Frame,
+    v1: Point,
+    v2: Point,
+    v3: Point,
+    colour: u32,
+) -> Drawn
+    ensures { λ r. ⌜ (r ≡ drawn (triangleNumber frame (length (now (buf .entry))) v1 v2 v3 colour)) × (now (buf .exit) ≡ afterDraw frame (r .number) (outlineFigure v1 v2 v3) colour (now (buf .entry))) ⌝ }
+{
+    let number = triangle_number(frame, buf.len(), v1, v2, v3, colour);
+    if number != 0 {
+        return Drawn { number };
+    }
+    draw_edges(buf, frame, frame.pane(), v1, v2, v3, colour);
     Drawn { number: 0 }
 }

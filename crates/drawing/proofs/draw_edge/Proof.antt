@@ -9,13 +9,12 @@ use Rattle.geometry.specs.declared.Point.{Point}
 use Rattle.line.specs.Line.{points, pointAt}
 use Rattle.line.specs.Walk.{WalkerAt, Walking}
 use Rattle.line.proofs.Lengths.{major-size}
-use Rattle.layout.specs.Raster.{Sound, painted}
+use Rattle.layout.specs.Raster.{painted}
 use Rattle.layout.specs.Figure.{single}
 use Rattle.layout.proofs.Painted.{painted-length}
-use Rattle.framebuffer.specs.declared.Frame.{Frame}
 use Rattle.framebuffer.specs.Description.{raster, drawNumber}
 use Rattle.framebuffer.specs.Rectangle.{inside}
-use Rattle.framebuffer.proofs.Refusals.{is-drawable, sound}
+use Rattle.drawing.proofs.Calls.{sound-at}
 use Rattle.drawing.proofs.Figures.{steps, steps-start, steps-more, steps-end}
 use Rattle.drawing.proofs.draw_edge.Statement.{statement}
 use Rattle.drawing.proofs.draw_edge.Tie as tie
@@ -37,10 +36,6 @@ last-step-requires c κs = search needs
 
 add-count : tie.Need-add-count Inv-loop μ-loop
 add-count c = let s = c .before .before .before in omega (arith, c .last-step .ensures, major-size (s .pre .2 .0) (s .pre .2 .1))
-
--- an accepted frame is sound
-sound-at : (f : Frame) (len colour : ℕ) → drawNumber f len colour 0 ≡ 0 → Sound (raster f)
-sound-at f len colour ok = sound f (is-drawable f len colour ok .accepted .described)
 
 loop-holds : tie.Need-loop-holds Inv-loop μ-loop
 loop-holds c =

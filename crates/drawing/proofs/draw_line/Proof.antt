@@ -22,7 +22,7 @@ returns c =
     call-refused (a .frame) (lineFigure (a .start) (a .end)) (a .colour) (a .buf .now) _ (c .before .line-number .ensures) (c .if1 .taken)
 
 -- the call is accepted
-zero : (c : tie.Else1) → lineNumber (c .before .before .before .args .frame) (length (c .before .before .before .args .buf .now)) (c .before .before .before .args .start) (c .before .before .before .args .end) (c .before .before .before .args .colour) ≡ 0
+zero : (c : tie.Else1) → (let a = c .before .before .before .args in lineNumber (a .frame) (length (a .buf .now)) (a .start) (a .end) (a .colour) ≡ 0)
 zero c = sym (c .before .line-number .ensures) ∙ c .if1 .left
 
 pane-requires : tie.Need-pane-requires

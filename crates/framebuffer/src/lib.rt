@@ -2,7 +2,7 @@
 // through put_point, paint_span and read_point, which do not check the frame again.
 ghost use mathlib.Core.Path.{_≡_};
 ghost use mathlib.Core.Bool.{true, _&&_};
-ghost use Prim.Native.Nat.{ℕ, _+_, _*_, _-_, _/_, _%_, _^_, _≤_, _<_};
+ghost use Prim.Native.Nat.{ℕ, _+_, _*_, _-_, _/_, _%_, _^_, _≤_, _<_, min};
 ghost use lib.Bits.{bitAnd, bitOr};
 ghost use lib.IntN.{pos};
 ghost use lib.ListN.{length, getD};
@@ -373,4 +373,63 @@ pub fn pixel(buf: &[u8], frame: Frame, p: geometry::Point) -> Read
         number: 0,
         colour: read_point(buf, frame, x, y),
     }
+}
+
+// ---- runs of bytes
+
+// Every byte of a part of the buffer set to v: one plain store a turn.
+fn set_all(part: &mut [u8], v: u8)
+    ensures { λ r. ⌜ now (part .exit) ≡ setRun 0 (length (now (part .entry))) (λ j. v) (now (part .entry)) ⌝ }
+{
+    let mut i = 0usize;
+    while i < part.len() {
+        part[i] = v;
+        i += 1;
+    }
+}
+
+// From byte `lag` on, each byte takes what stands `lag` bytes before it.
+fn repeat(part: &mut [u8], lag: usize)
+    requires { ⌜ 0 < lag ⌝ }
+    ensures { λ r. ⌜ ((j : ℕ) → j < length (now (part .entry)) → getD (now (part .exit)) j 0 ≡ getD (now (part .entry)) (j % lag) 0) ⌝ }
+{
+    let mut i = lag;
+    while i < part.len() {
+        part[i] = part[i - lag];
+        i += 1;
+    }
+}
+
+// As many of n bytes as are repeated.
+fn head_of(n: usize) -> usize
+    ensures { λ r. ⌜ r ≡ min n 48 ⌝ }
+{
+    if n < 48 {
+        return n;
+    }
+    48
+}
+
+// A part of the buffer filled with the bytes of a pixel, again and again. The first pixel is written, then repeated within the first 48 bytes, which
+// hold whole pixels at every depth; these are repeated to the end at a distance that the processor takes in large pieces.
+fn repeat_pixel(part: &mut [u8], parts: usize, big: bool, colour: u32)
+    requires { ⌜ (0 < parts) × (parts ≤ 4) × (parts ≤ length (now part)) ⌝ }
+    ensures { λ r. ⌜ ((j : ℕ) → j < length (now (part .entry)) → getD (now (part .exit)) j 0 ≡ digit 256 (turned big parts (j % parts)) colour) ⌝ }
+{
+    let head = head_of(part.len());
+    store(&mut part[..parts], big, colour);
+    repeat(&mut part[..head], parts);
+    repeat(part, 48);
+}
+
+// A part of the buffer that holds whole pixels, all of them in the colour.
+fn fill_part(part: &mut [u8], depth: u32, big: bool, colour: u32)
+    requires { ⌜ (goodDepth depth ≡ true) × (colour < 2 ^ depth) × (parts depth ≤ length (now part)) ⌝ }
+    ensures { λ r. ⌜ now (part .exit) ≡ setRun 0 (length (now (part .entry))) (fullByte depth big colour) (now (part .entry)) ⌝ }
+{
+    if depth <= 8 {
+        set_all(part, pattern(depth, colour));
+        return;
+    }
+    repeat_pixel(part, (depth / 8) as usize, big, colour);
 }

@@ -3,7 +3,7 @@
 use mathlib.Core.Path.{_≡_, refl, sym, ap, _∙_}
 use mathlib.Core.Bool.{Bool, true, false, cond, not, _||_, true≢false}
 use Prim.Native.Nat.{ℕ, zero, suc, _+_, _*_, _/_, _%_, _^_, _≤_, _<_}
-use native.Mathlib.Nat.{mul-le-mul, le-refl, mod-eq-of-lt}
+use native.Mathlib.Nat.{mul-le-mul, mul-zero, le-refl, mod-eq-of-lt}
 use native.Mathlib.Omega.{arith}
 use lib.Dec.{ltb, leb, eqb}
 use lib.IntN.{ℤ}
@@ -84,7 +84,7 @@ pub record Described (f : Frame) : Type 0 where
   pub width : f .width ≤ 2048
   pub height : f .height ≤ 2048
 
-or-false : (a b : Bool) → a || b ≡ false → (a ≡ false) × (b ≡ false)
+pub or-false : (a b : Bool) → a || b ≡ false → (a ≡ false) × (b ≡ false)
 or-false true b e = absurd (true≢false e)
 or-false false b e = (refl, e)
 
@@ -149,6 +149,28 @@ module _ (f : Frame) (len x y : ℕ) (A : Accepted f len) (hx : x < f .width) (h
 
   pub pixel-small : (x ≤ 2048) × (y ≤ 2048)
   pixel-small = let w = A .described .width in let h = A .described .height in (omega arith, omega arith)
+
+-- a frame that takes bytes takes those of a pixel
+pub one-pixel : (f : Frame) → Described f → 0 < size f → parts (f .depth) ≤ size f
+unfolding size rowBytes parts
+one-pixel f D h = go (f .width) (f .height) h
+  where
+    go : (w t : ℕ) → 0 < (w * f .depth + 7) / 8 * t → (f .depth + 7) / 8 ≤ (w * f .depth + 7) / 8 * t
+    go w zero l = absurd (let z : (w * f .depth + 7) / 8 * 0 ≡ 0 = mul-zero ((w * f .depth + 7) / 8) in omega arith)
+    go zero (suc t) l = absurd (let z : (0 * f .depth + 7) / 8 ≡ 0 = omega arith in let e : (0 * f .depth + 7) / 8 * suc t ≡ 0 * suc t = ap (λ (k : ℕ). k * suc t) z in omega arith)
+    go (suc w) (suc t) l =
+        let a : f .depth ≤ suc w * f .depth = omega arith in
+        let b : (f .depth + 7) / 8 * 1 ≤ (suc w * f .depth + 7) / 8 * suc t = mul-le-mul (omega arith) (omega arith) in
+        omega arith
+
+-- rows with padding have pixels
+pub padded : (f : Frame) → (rowBytes (f .width) (f .depth) * 8 ≡ f .width * f .depth → ⊥) → 0 < f .width
+unfolding rowBytes
+padded f h = go (f .width) h
+  where
+    go : (w : ℕ) → ((w * f .depth + 7) / 8 * 8 ≡ w * f .depth → ⊥) → 0 < w
+    go zero h = absurd (h (omega arith))
+    go (suc w) h = omega arith
 
 -- a power of two, as the machine makes it
 pub one-shifted : (d : ℕ) → d ≤ 32 → (1 * 2 ^ d) % 18446744073709551616 ≡ 2 ^ d

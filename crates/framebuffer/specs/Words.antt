@@ -1,8 +1,10 @@
 -- The numbers that the code works out on its way to the bytes.
 use mathlib.Core.Bool.{cond}
+use mathlib.Core.List.{List}
 use Prim.Native.Nat.{ℕ, _+_, _-_, _*_, _^_}
 use lib.Bits.{bitAnd, bitOr}
 use lib.IntN.{ℤ, pos, negsuc, natAbs}
+use lib.ListN.{getD, set}
 use lib.Signed.{ltZ}
 use Rattle.layout.specs.Raster.{field, slotOf}
 
@@ -25,3 +27,7 @@ onwardMask depth x = 2 ^ (field depth * (slotOf depth x + 1)) - 1
 -- the byte p where the mask m has ones, and else v
 abbrev pub merged : ℕ → ℕ → ℕ → ℕ
 merged v p m = bitOr (bitAnd v (255 - m)) (bitAnd p m)
+
+-- the byte at a place so changed
+abbrev pub mergedAt : ℕ → ℕ → ℕ → List ℕ → List ℕ
+mergedAt at p m b = set b at (merged (getD b at 0) p m)

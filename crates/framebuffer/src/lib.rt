@@ -2,7 +2,7 @@
 // through put_point, paint_span and read_point, which do not check the frame again.
 ghost use mathlib.Core.Path.{_≡_};
 ghost use mathlib.Core.Bool.{true, _&&_};
-ghost use Prim.Native.Nat.{ℕ, _+_, _*_, _-_, _/_, _%_, _^_, _≤_, _<_};
+ghost use Prim.Native.Nat.{ℕ, _+_, _*_, _-_, _/_, _%_, _^_, _≤_, _<_, min};
 ghost use lib.Bits.{bitAnd, bitOr};
 ghost use lib.IntN.{pos};
 ghost use lib.ListN.{length, getD};
@@ -12,7 +12,7 @@ ghost use Rattle.layout.specs.Raster.{goodDepth, rowBytes, field, parts, per, t
 ghost use Rattle.framebuffer.specs.Answer.{sized, drawn, read};
 ghost use Rattle.framebuffer.specs.Description.{raster, size, described, descriptionRefusal, bufferRefusal, sizeNumber, drawNumber, readNumber, colourAt, afterDraw};
 ghost use Rattle.framebuffer.specs.Rectangle.{Within, inPane, inside, ownPane};
-ghost use Rattle.framebuffer.specs.Words.{columnOf, clipped, pixelMask, onwardMask, merged};
+ghost use Rattle.framebuffer.specs.Words.{columnOf, clipped, pixelMask, onwardMask, merged, mergedAt};
 
 // A frame as its owner describes it. It is made by Frame::new and by nothing else outside this crate.
 pub struct Frame {
@@ -373,4 +373,202 @@ pub fn pixel(buf: &[u8], frame: Frame, p: geometry::Point) -> Read
         number: 0,
         colour: read_point(buf, frame, x, y),
     }
+}
+
+// ---- runs of bytes
+
+// Every byte of a part of the buffer set to v: one plain store a turn.
+fn set_all(part: &mut [u8], v: u8)
+    ensures { λ r. ⌜ now (part .exit) ≡ setRun 0 (length (now (part .entry))) (λ j. v) (now (part .entry)) ⌝ }
+{
+    let mut i = 0usize;
+    while i < part.len() {
+        part[i] = v;
+        i += 1;
+    }
+}
+
+// From byte `lag` on, each byte takes what stands `lag` bytes before it.
+fn repeat(part: &mut [u8], lag: usize)
+    requires { ⌜ 0 < lag ⌝ }
+    ensures { λ r. ⌜ ((j : ℕ) → j < length (now (part .entry)) → getD (now (part .exit)) j 0 ≡ getD (now (part .entry)) (j % lag) 0) ⌝ }
+{
+    let mut i = lag;
+    while i < part.len() {
+        part[i] = part[i - lag];
+        i += 1;
+    }
+}
+
+// As many of n bytes as are repeated.
+fn head_of(n: usize) -> usize
+    ensures { λ r. ⌜ r ≡ min n 48 ⌝ }
+{
+    if n < 48 {
+        return n;
+    }
+    48
+}
+
+// A part of the buffer filled with the bytes of a pixel, again and again. The first pixel is written, then repeated within the first 48 bytes, which
+// hold whole pixels at every depth; these are repeated to the end at a distance that the processor takes in large pieces.
+fn repeat_pixel(part: &mut [u8], parts: usize, big: bool, colour: u32)
+    requires { ⌜ (0 < parts) × (parts ≤ 4) × (parts ≤ length (now part)) ⌝ }
+    ensures { λ r. ⌜ ((j : ℕ) → j < length (now (part .entry)) → getD (now (part .exit)) j 0 ≡ digit 256 (turned big parts (j % parts)) colour) ⌝ }
+{
+    let head = head_of(part.len());
+    store(&mut part[..parts], big, colour);
+    repeat(&mut part[..head], parts);
+    repeat(part, 48);
+}
+
+// A part of the buffer that holds whole pixels, all of them in the colour.
+fn fill_part(part: &mut [u8], depth: u32, big: bool, colour: u32)
+    requires { ⌜ (goodDepth depth ≡ true) × (colour < 2 ^ depth) × (parts depth ≤ length (now part)) ⌝ }
+    ensures { λ r. ⌜ now (part .exit) ≡ setRun 0 (length (now (part .entry))) (fullByte depth big colour) (now (part .entry)) ⌝ }
+{
+    if depth <= 8 {
+        set_all(part, pattern(depth, colour));
+        return;
+    }
+    repeat_pixel(part, (depth / 8) as usize, big, colour);
+}
+
+// ---- spans
+
+// In the byte of pixel (x, y), the pixels that the mask has take the colour, at depths 1, 2 and 4.
+fn paint_byte(buf: &mut [u8], frame: Frame, x: u32, y: u32, colour: u32, m: u8)
+    requires { ⌜ (drawNumber frame (length (now buf)) colour 0 ≡ 0) × (frame .depth < 8) × (x ≤ frame .width) × (y < frame .height) × (y * rowBytes (frame .width) (frame .depth) + x * frame .depth / 8 < length (now buf)) ⌝ }
+    ensures { λ r. ⌜ now (buf .exit) ≡ mergedAt (y * rowBytes (frame .width) (frame .depth) + x * frame .depth / 8) (value (2 ^ field (frame .depth)) (per (frame .depth)) (λ k. colour)) m (now (buf .entry)) ⌝ }
+{
+    let at = byte_of(frame, x, y);
+    buf[at] = merge(buf[at], pattern(frame.depth, colour), m);
+}
+
+// Whole bytes of row y, from group `first` to one before `last`. A group is the pixels of a byte, or a pixel of several bytes.
+fn paint_groups(buf: &mut [u8], frame: Frame, y: u32, first: u32, last: u32, colour: u32)
+    requires { ⌜ (drawNumber frame (length (now buf)) colour 0 ≡ 0) × (y < frame .height) × (last * per (frame .depth) ≤ frame .width) ⌝ }
+    ensures { λ r. ⌜ now (buf .exit) ≡ painted (raster frame) (rowSpan (pos y) (pos (first * per (frame .depth))) (pos (last * per (frame .depth)))) colour (now (buf .entry)) ⌝ }
+{
+    if last <= first {
+        return;
+    }
+    let depth = frame.depth;
+    let bytes = (depth + 7) / 8;
+    let row = y * row_distance(frame);
+    let start = (row + first * bytes) as usize;
+    let end = (row + last * bytes) as usize;
+    fill_part(&mut buf[start..end], depth, frame.big, colour);
+}
+
+// Columns of row y at depths 1, 2 and 4: the rest of the first byte, whole bytes, and the start of the last.
+fn paint_fields(buf: &mut [u8], frame: Frame, y: u32, from: u32, past: u32, colour: u32)
+    requires { ⌜ (drawNumber frame (length (now buf)) colour 0 ≡ 0) × (frame .depth < 8) × (y < frame .height) × (from < past) × (past ≤ frame .width) ⌝ }
+    ensures { λ r. ⌜ now (buf .exit) ≡ painted (raster frame) (rowSpan (pos y) (pos from) (pos past)) colour (now (buf .entry)) ⌝ }
+{
+    let depth = frame.depth;
+    let first = from * depth / 8;
+    let last = past * depth / 8;
+    let head = onward(depth, from);
+    let tail = !onward(depth, past);
+    if first == last {
+        paint_byte(buf, frame, from, y, colour, head & tail);
+        return;
+    }
+    paint_byte(buf, frame, from, y, colour, head);
+    paint_groups(buf, frame, y, first + 1, last, colour);
+    if past * depth % 8 != 0 {
+        paint_byte(buf, frame, past, y, colour, tail);
+    }
+}
+
+fn paint_columns(buf: &mut [u8], frame: Frame, y: u32, from: u32, past: u32, colour: u32)
+    requires { ⌜ (drawNumber frame (length (now buf)) colour 0 ≡ 0) × (y < frame .height) × (from < past) × (past ≤ frame .width) ⌝ }
+    ensures { λ r. ⌜ now (buf .exit) ≡ painted (raster frame) (rowSpan (pos y) (pos from) (pos past)) colour (now (buf .entry)) ⌝ }
+{
+    if frame.depth < 8 {
+        paint_fields(buf, frame, y, from, past, colour);
+        return;
+    }
+    paint_groups(buf, frame, y, from, past, colour);
+}
+
+// The nearest number of low to high.
+fn clip(x: i32, low: u32, high: u32) -> u32
+    requires { ⌜ (low ≤ high) × (high ≤ 2048) ⌝ }
+    ensures { λ r. ⌜ r ≡ clipped x low high ⌝ }
+{
+    if x < low as i32 {
+        return low;
+    }
+    if x > high as i32 {
+        return high;
+    }
+    x as u32
+}
+
+// Inside the library: row y's columns from `start` to one before `end` get the colour, as far as the rectangle holds them.
+pub fn paint_span(
+    buf: &mut [u8],
+    frame: Frame,
+    pane: Pane,
+    y: i32,
+    start: i32,
+    end: i32,
+    colour: u32,
+)
+    requires { ⌜ (drawNumber frame (length (now buf)) colour 0 ≡ 0) × Within pane frame ⌝ }
+    ensures { λ r. ⌜ now (buf .exit) ≡ painted (raster frame) (inside pane (rowSpan y start end)) colour (now (buf .entry)) ⌝ }
+{
+    let row = column(y);
+    if (row < pane.top) | (pane.bottom <= row) {
+        return;
+    }
+    let from = clip(start, pane.left, pane.right);
+    let past = clip(end, pane.left, pane.right);
+    if from < past {
+        paint_columns(buf, frame, row, from, past, colour);
+    }
+}
+
+// ---- the whole frame
+
+// Rows without padding follow one another, and are one run.
+fn fill_run(buf: &mut [u8], frame: Frame, colour: u32)
+    requires { ⌜ (drawNumber frame (length (now buf)) colour 0 ≡ 0) × (rowBytes (frame .width) (frame .depth) * 8 ≡ frame .width * frame .depth) ⌝ }
+    ensures { λ r. ⌜ now (buf .exit) ≡ painted (raster frame) everywhere colour (now (buf .entry)) ⌝ }
+{
+    let end = frame_bytes(frame) as usize;
+    if 0 < end {
+        fill_part(&mut buf[..end], frame.depth, frame.big, colour);
+    }
+}
+
+fn fill_rows(buf: &mut [u8], frame: Frame, colour: u32)
+    requires { ⌜ (drawNumber frame (length (now buf)) colour 0 ≡ 0) × (0 < frame .width) ⌝ }
+    ensures { λ r. ⌜ now (buf .exit) ≡ painted (raster frame) everywhere colour (now (buf .entry)) ⌝ }
+{
+    let width = frame.width;
+    let height = frame.height;
+    let mut y = 0u32;
+    while y < height {
+        paint_columns(buf, frame, y, 0, width, colour);
+        y += 1;
+    }
+}
+
+// Every pixel of the frame gets the colour.
+pub fn fill(buf: &mut [u8], frame: Frame, colour: u32) -> Drawn
+    ensures { λ r. ⌜ (r ≡ drawn (drawNumber frame (length (now (buf .entry))) colour 0)) × (now (buf .exit) ≡ afterDraw frame (r .number) everywhere colour (now (buf .entry))) ⌝ }
+{
+    let number = draw_refusal(frame, buf.len(), colour);
+    if number != 0 {
+        return Drawn { number };
+    }
+    if row_distance(frame) * 8 == frame.width * frame.depth {
+        fill_run(buf, frame, colour);
+    } else {
+        fill_rows(buf, frame, colour);
+    }
+    Drawn { number: 0 }
 }

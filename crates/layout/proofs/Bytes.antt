@@ -5,7 +5,7 @@ use mathlib.Core.Logic.{⊎-elim, _⊎_, inl, inr}
 use mathlib.Core.Bool.{Bool, true, false, cond, not, _&&_, true≢false}
 use mathlib.Core.List.{List, _++_}
 use Prim.Native.Nat.{ℕ, zero, suc, _+_, _-_, _*_, _/_, _%_, _^_, _≤_, _<_}
-use native.Mathlib.Nat.{mod-lt, mod-eq-of-lt, div-add-mod', div-one, mul-one, mul-comm, add-zero, mul-le-mul-right, le-refl, not-suc-le-zero}
+use native.Mathlib.Nat.{mod-lt, mod-eq-of-lt, div-add-mod', div-one, mul-div-cancel, mul-one, mul-comm, add-zero, mul-le-mul-right, le-refl, not-suc-le-zero}
 use native.Mathlib.Omega.{arith}
 use lib.Arith.{digits-div, digits-mod, digits-lt}
 use lib.Bits.{bitAnd, bitOr}
@@ -21,11 +21,11 @@ use Rattle.layout.specs.Figure.{everywhere}
 use Rattle.layout.specs.Raster.{Raster, Sound, goodDepth, rowBytes, field, parts, per, turned, byteOf, slotOf, putPixel, getPixel, painted, fullByte}
 use Rattle.layout.proofs.Tests.{eq-or-not, lt-or-ge, same-test, and-true, true-and}
 use Rattle.layout.proofs.Cells.{digit-lt, value-cong, value-digits, puts-len}
-use Rattle.layout.proofs.Places.{Depth, depth-of, column, per-pos, parts-pos, turned-below, turned-twice}
+use Rattle.layout.proofs.Places.{Depth, depth-of, column, per-pos, parts-pos, depth-pos, turned-below, turned-twice}
 use Rattle.layout.proofs.Fields.{replaced-mod, replaced-value, pow-mul, value-lt, mask, mask-not, mask-and, low-fields, merge}
 use Rattle.layout.proofs.Runs.{run-length, run-out, run-in, run-cong, run-bytes, run-then, run-part}
 use Rattle.layout.proofs.Spans.{columns, span-one}
-use Rattle.layout.proofs.Painted.{painted-cong, put-single, span-start, span-put, span-then, rows-start, rows-then, rows-end}
+use Rattle.layout.proofs.Painted.{painted-cong, put-single, span-empty, span-put, span-then, rows-start, rows-then, rows-end}
 
 -- what a slice of bytes is known to hold
 abbrev pub Bytes : List ℕ → Type 0
@@ -100,7 +100,7 @@ module _ (r : Raster) (S : Sound r) (c : ℕ) where
         ∙ ap (set b at) (replaced-mod B (slotOf d x) c (getD b at 0))
 
     -- the same, by the byte's number in its row and the pixel's in its byte
-    byte-at : (x : ℕ) → x * d / 8 ≡ x / n
+    pub byte-at : (x : ℕ) → x * d / 8 ≡ x / n
     byte-at x = column d D x ∙ ap (λ (k : ℕ). x / n * k) small ∙ mul-one (x / n)
 
     pixel-byte : (y q a : ℕ) (b : List ℕ) → a < n
@@ -166,7 +166,7 @@ module _ (r : Raster) (S : Sound r) (c : ℕ) where
             → painted r (columns y (q * n + a) (q * n + e)) c b ≡ set b (y * row + q) (partly a e (getD b (y * row + q) 0))
         go e zero f l w =
             let g : e ≡ a = omega arith in
-            ap (λ (e : ℕ). painted r (columns y (q * n + a) (q * n + e)) c b) g ∙ span-start r S c b y (q * n + a)
+            ap (λ (e : ℕ). painted r (columns y (q * n + a) (q * n + e)) c b) g ∙ span-empty r S c b y (q * n + a) (q * n + a) (le-refl (q * n + a))
             ∙ sym (ap (λ (e : ℕ). set b (y * row + q) (partly a e (getD b (y * row + q) 0))) g ∙ ap (set b (y * row + q)) start ∙ set-getD b (y * row + q) 0)
         go zero (suc k) f l w = absurd (omega arith)
         go (suc e) (suc k) f l w =
@@ -211,9 +211,16 @@ module _ (r : Raster) (S : Sound r) (c : ℕ) where
     abbrev pub merged : ℕ → ℕ → ℕ
     merged v k = bitOr (bitAnd v (255 - k)) (bitAnd (value B n (λ j. c)) k)
 
-    module _ (y x : ℕ) (b : List ℕ) (hy : y < r .height) (i : y * row + x / n < length b) (v : Bytes b) where
+    module _ (y x : ℕ) (b : List ℕ) (hy : y < r .height) (l₀ : y * row + x * d / 8 < length b) (v : Bytes b) where
+      i : y * row + x / n < length b
+      i = subst (λ (k : ℕ). y * row + k < length b) (byte-at x) l₀
+
+      -- its byte, as the layout numbers it
+      here : (k : ℕ) → set b (y * row + x / n) (merged (getD b (y * row + x / n) 0) k) ≡ set b (y * row + x * d / 8) (merged (getD b (y * row + x * d / 8) 0) k)
+      here k = ap (λ (j : ℕ). set b (y * row + j) (merged (getD b (y * row + j) 0) k)) (sym (byte-at x))
+
       -- from x to the end of its byte
-      pub head : (x / n + 1) * n ≤ r .width → painted r (columns y x ((x / n + 1) * n)) c b ≡ set b (y * row + x / n) (merged (getD b (y * row + x / n) 0) (onward x))
+      pub head : (x / n + 1) * n ≤ r .width → painted r (columns y x ((x / n + 1) * n)) c b ≡ set b (y * row + x * d / 8) (merged (getD b (y * row + x * d / 8) 0) (onward x))
       head w =
           let h = mod-lt x (per-pos d D) in
           let e : x / n * n + x % n ≡ x = div-add-mod' x n in
@@ -222,12 +229,13 @@ module _ (r : Raster) (S : Sound r) (c : ℕ) where
           ∙ some-pixels y (x / n) (x % n) n b (omega arith) (le-refl n) (omega arith) hy i (v (y * row + x / n))
           ∙ ap (set b (y * row + x / n)) (sym (ap (merged (getD b (y * row + x / n) 0)) (onward-is x)
           ∙ merged-is (x % n) n (getD b (y * row + x / n) 0) (λ k. ltb k (n - x % n)) (v (y * row + x / n)) (λ k l. sym (all k))))
+          ∙ here (onward x)
         where
           all : (k : ℕ) → picks n (x % n) n k ≡ ltb k (n - x % n)
           all k = ap (λ (t : Bool). t && ltb k (n - x % n)) (le-leb (n - n) k (omega arith))
 
       -- from the start of its byte to one before x
-      pub tail : x ≤ r .width → painted r (columns y (x / n * n) x) c b ≡ set b (y * row + x / n) (merged (getD b (y * row + x / n) 0) (255 - onward x))
+      pub tail : x ≤ r .width → painted r (columns y (x / n * n) x) c b ≡ set b (y * row + x * d / 8) (merged (getD b (y * row + x * d / 8) 0) (255 - onward x))
       tail w =
           let h = mod-lt x (per-pos d D) in
           let e : x / n * n + x % n ≡ x = div-add-mod' x n in
@@ -235,13 +243,14 @@ module _ (r : Raster) (S : Sound r) (c : ℕ) where
           ∙ some-pixels y (x / n) 0 (x % n) b (omega arith) (omega arith) (omega arith) hy i (v (y * row + x / n))
           ∙ ap (set b (y * row + x / n)) (sym (ap (merged (getD b (y * row + x / n) 0)) (before-is x)
           ∙ merged-is 0 (x % n) (getD b (y * row + x / n) 0) (λ k. not (ltb k (n - x % n))) (v (y * row + x / n)) (λ k l. sym (all k l))))
+          ∙ here (255 - onward x)
         where
           all : (k : ℕ) → k < n → picks n 0 (x % n) k ≡ not (ltb k (n - x % n))
           all k l = ap (λ (t : Bool). leb (n - x % n) k && t) (lt-ltb k (n - 0) (omega arith)) ∙ at-least (n - x % n) k
 
       -- from x to one before z, in one byte
       pub inner : (z : ℕ) → x ≤ z → z ≤ r .width → x / n ≡ z / n
-          → painted r (columns y x z) c b ≡ set b (y * row + x / n) (merged (getD b (y * row + x / n) 0) (bitAnd (onward x) (255 - onward z)))
+          → painted r (columns y x z) c b ≡ set b (y * row + x * d / 8) (merged (getD b (y * row + x * d / 8) 0) (bitAnd (onward x) (255 - onward z)))
       inner z l w q =
           let e : x / n * n + x % n ≡ x = div-add-mod' x n in
           let g : z / n * n + z % n ≡ z = div-add-mod' z n in
@@ -252,6 +261,7 @@ module _ (r : Raster) (S : Sound r) (c : ℕ) where
           ∙ ap (set b (y * row + x / n)) (sym (ap (merged (getD b (y * row + x / n) 0))
           (ap₂ bitAnd (onward-is x) (before-is z) ∙ mask-and (field d) n (λ k. ltb k (n - x % n)) (λ k. not (ltb k (n - z % n))))
           ∙ merged-is (x % n) (z % n) (getD b (y * row + x / n) 0) (λ k. ltb k (n - x % n) && not (ltb k (n - z % n))) (v (y * row + x / n)) (λ k t. all k)))
+          ∙ here (bitAnd (onward x) (255 - onward z))
         where
           and-swap : (s t : Bool) → s && t ≡ t && s
           and-swap true true = refl
@@ -440,7 +450,7 @@ module _ (r : Raster) (S : Sound r) (c : ℕ) where
     pub whole-bytes : (y q k : ℕ) (b : List ℕ) → (q + k) * n ≤ r .width → y < r .height → y * row + (q + k) * m ≤ length b → Bytes b
         → painted r (columns y (q * n) ((q + k) * n)) c b ≡ setRun (y * row + q * m) (k * m) (fullByte d (r .big) c) b
     whole-bytes y q zero b w hy l v =
-        ap (λ (x : ℕ). painted r (columns y (q * n) (x * n)) c b) (add-zero q) ∙ span-start r S c b y (q * n)
+        ap (λ (x : ℕ). painted r (columns y (q * n) (x * n)) c b) (add-zero q) ∙ span-empty r S c b y (q * n) (q * n) (le-refl (q * n))
         ∙ ap (λ (x : ℕ). setRun (y * row + q * m) x (fullByte d (r .big) c) b) none
       where
         none : 0 ≡ 0 * m
@@ -460,8 +470,22 @@ module _ (r : Raster) (S : Sound r) (c : ℕ) where
         ∙ run-then (y * row + q * m) (k * m) m g b
         ∙ ap (λ (x : ℕ). setRun (y * row + q * m) x g b) p
 
+    -- the same, through a part of the buffer
+    pub groups-filled : (y first last : ℕ) (b s s′ : List ℕ) (a k : ℕ) → first ≤ last → last * n ≤ r .width → y < r .height → a ≡ y * row + first * m → a + k ≡ y * row + last * m
+        → a + k ≤ length b → Bytes b → s ≡ take k (drop a b) → s′ ≡ setRun 0 (length s) (fullByte d (r .big) c) s
+        → take a b ++ (s′ ++ drop k (drop a b)) ≡ painted r (columns y (first * n) (last * n)) c b
+    groups-filled y first last b s s′ a k h w hy ea ek l v e e′ =
+        let t : first + (last - first) ≡ last = omega arith in
+        let j : first * m + (last - first) * m ≡ last * m = (let z : first * m + (last - first) * m ≡ (first + (last - first)) * m = omega arith in z) ∙ ap (λ (i : ℕ). i * m) t in
+        let n′ : length s ≡ (last - first) * m =
+        ap length e ∙ length-take-le k (drop a b) (subst (λ (i : ℕ). k ≤ i) (sym (length-drop a b)) (omega arith)) ∙ omega arith in
+        run-part a k (length s) b s s′ _ l e (le-refl (length s)) e′
+        ∙ ap₂ (λ (i j : ℕ). setRun i j (fullByte d (r .big) c) b) ea n′
+        ∙ sym (whole-bytes y first (last - first) b (subst (λ (i : ℕ). i * n ≤ r .width) (sym t) w) hy (subst (λ (i : ℕ). y * row + i * m ≤ length b) (sym t) (omega arith)) v)
+        ∙ ap (λ (i : ℕ). painted r (columns y (first * n) (i * n)) c b) t
+
     -- rows without padding, all in one run
-    pub all-rows : (k : ℕ) (b : List ℕ) → r .width ≡ k * n → row ≡ k * m → row * r .height ≤ length b → Bytes b
+    all-rows : (k : ℕ) (b : List ℕ) → r .width ≡ k * n → row ≡ k * m → row * r .height ≤ length b → Bytes b
         → painted r everywhere c b ≡ setRun 0 (row * r .height) (fullByte d (r .big) c) b
     all-rows k b w e l v =
         sym (rows-end r S c b (r .height) (le-refl (r .height))) ∙ go (r .height) (le-refl (r .height)) ∙ ap (λ (x : ℕ). setRun 0 x (fullByte d (r .big) c) b) (mul-comm (r .height) row)
@@ -493,3 +517,29 @@ module _ (r : Raster) (S : Sound r) (c : ℕ) where
           where
             assoc : (y k : ℕ) → y * (k * m) ≡ y * k * m
             assoc y k = omega arith
+
+    -- a row has no padding where its bits fill its bytes
+    pub one-run : (b : List ℕ) → row * 8 ≡ r .width * d → row * r .height ≤ length b → Bytes b
+        → painted r everywhere c b ≡ setRun 0 (row * r .height) (fullByte d (r .big) c) b
+    one-run b e l v = ⊎-elim thick thin (D .alone)
+      where
+        thick : n ≡ 1 → painted r everywhere c b ≡ setRun 0 (row * r .height) (fullByte d (r .big) c) b
+        thick f =
+            let g = eight f in
+            let h : field d * m ≡ 8 * m = ap (λ (k : ℕ). k * m) g in
+            let i = D .bits in
+            let j : r .width * (8 * m) ≡ r .width * d = ap (λ (k : ℕ). r .width * k) (sym h ∙ i) in
+            let q : r .width * n ≡ r .width = ap (λ (k : ℕ). r .width * k) f ∙ mul-one (r .width) in
+            all-rows (r .width) b (sym q) (omega arith) l v
+
+        cancel : (a z : ℕ) → 0 < d → a * d ≡ z * d → a ≡ z
+        cancel a z p h = sym (mul-div-cancel a p) ∙ ap (λ (k : ℕ). k / d) h ∙ mul-div-cancel z p
+
+        thin : m ≡ 1 → painted r everywhere c b ≡ setRun 0 (row * r .height) (fullByte d (r .big) c) b
+        thin f =
+            let g : field d ≡ d = sym (mul-one (field d)) ∙ ap (λ (k : ℕ). field d * k) (sym f) ∙ D .bits in
+            let h : d * n ≡ 8 = ap (λ (k : ℕ). k * n) (sym g) ∙ D .whole in
+            let i : row * (d * n) ≡ row * 8 = ap (λ (k : ℕ). row * k) h in
+            let j : row * n * d ≡ r .width * d = omega arith in
+            let q : row * m ≡ row = ap (λ (k : ℕ). row * k) f ∙ mul-one row in
+            all-rows row b (sym (cancel (row * n) (r .width) (depth-pos d (S .depth)) j)) (sym q) l v

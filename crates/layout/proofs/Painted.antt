@@ -91,8 +91,8 @@ module _ (r : Raster) (S : Sound r) (c : ℕ) (b : List ℕ) where
       ap (putPixel r x y c) (sym (painted-none (λ u v. false) (λ u v hu hv. refl))) ∙ put-painted (λ u v. false) x y hx hy
 
   -- ---- spans, from left to right
-  pub span-start : (y x : ℕ) → painted r (columns y x x) c b ≡ b
-  span-start y x = painted-none (columns y x x) (λ u v hu hv. span-none y x u v)
+  pub span-empty : (y x0 x1 : ℕ) → x1 ≤ x0 → painted r (columns y x0 x1) c b ≡ b
+  span-empty y x0 x1 h = painted-none (columns y x0 x1) (λ u v hu hv. span-none y x0 x1 u v h)
 
   pub span-put : (y x0 x : ℕ) → x0 ≤ x → x < r .width → y < r .height
       → putPixel r x y c (painted r (columns y x0 x) c b) ≡ painted r (columns y x0 (x + 1)) c b

@@ -1,7 +1,7 @@
 -- Figures made of spans: which tests agree, on the pixels of a frame. Assumes nothing.
 use mathlib.Core.Path.{_≡_, refl, sym, ap, ap₂, _∙_}
 use mathlib.Core.Logic.{inl, inr, ⊎-elim}
-use mathlib.Core.Bool.{Bool, true, false, _||_, _&&_, true≢false}
+use mathlib.Core.Bool.{Bool, true, false, _||_, _&&_}
 use Prim.Native.Nat.{ℕ, _+_, _≤_, _<_}
 use native.Mathlib.Omega.{arith}
 use lib.Dec.{ltb, leb, eqb}
@@ -9,7 +9,7 @@ use lib.IntN.{ℤ, pos}
 use lib.Signed.{ltZ}
 use borrow.Author.Tests.{ltb-true, leb-true, eqb-true, lt-ltb, le-leb, eq-eqb}
 use Rattle.layout.specs.Figure.{rowSpan, single}
-use Rattle.layout.proofs.Tests.{lt-or-ge, same-test, and-true, true-and, or-true, true-or}
+use Rattle.layout.proofs.Tests.{lt-or-ge, same-test, fails, and-true, true-and, or-true, true-or}
 
 -- a span of columns of the frame
 abbrev pub columns : ℕ → ℕ → ℕ → ℤ → ℤ → Bool
@@ -25,11 +25,11 @@ in-span y x0 x1 u v e =
 pub span-in : (y x0 x1 u v : ℕ) → x0 ≤ u → u < x1 → v ≡ y → columns y x0 x1 (pos u) (pos v) ≡ true
 span-in y x0 x1 u v a b e = true-and (true-and (le-leb x0 u a) (lt-ltb u x1 b)) (eq-eqb v y e)
 
--- the empty span
-pub span-none : (y x u v : ℕ) → columns y x x (pos u) (pos v) ≡ false
-span-none y x u v = same-test _ _ (λ e. let s = in-span y x x u v e in absurd (no (s .0) (s .1))) (λ e. absurd (true≢false (sym e)))
+-- an empty span
+pub span-none : (y x0 x1 u v : ℕ) → x1 ≤ x0 → columns y x0 x1 (pos u) (pos v) ≡ false
+span-none y x0 x1 u v h = fails _ (λ e. let s = in-span y x0 x1 u v e in no (s .0) (s .1))
   where
-    no : x ≤ u → u < x → ⊥
+    no : x0 ≤ u → u < x1 → ⊥
     no a b = omega arith
 
 -- a span and what joins it on the right

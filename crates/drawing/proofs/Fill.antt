@@ -3,14 +3,17 @@
 use mathlib.Core.Path.{_≡_, refl, sym, ap, subst, _∙_}
 use mathlib.Core.Bool.{Bool, true, false, cond, not, _&&_}
 use mathlib.Core.Logic.{_⊎_, inl, inr, ⊎-elim}
-use Prim.Native.Nat.{ℕ, _+_, _≤_, _<_}
+use Prim.Native.Nat.{ℕ, _+_, _-_, _≤_, _<_}
 use native.Mathlib.Nat.{le-refl}
 use native.Mathlib.Omega.{arith}
 use lib.IntN.{ℤ, pos, negsuc, _+ℤ_}
 use lib.Signed.{leZ, ltZ, _≤ℤ_, _<ℤ_}
 use Rattle.whole.specs.Decides.{Decides}
 use Rattle.whole.proofs.Decides.{decides-one, decides-map, decides-and, decides-le, decides-lt, decides-no}
-use Rattle.whole.proofs.Difference.{le-nat, lt-nat, eq-nat, nat-le}
+use mir.Syntax.{w32}
+use mir.Val.{SFits}
+use Rattle.whole.proofs.Difference.{up, dn, as-mk, mks, le-nat, lt-nat, eq-nat, nat-le, sum-nat}
+use Rattle.whole.proofs.Machine.{mk-fits}
 use Rattle.whole.proofs.Order.{le-of, le-trans, le-lt-more, more-lt-le}
 use Rattle.geometry.specs.declared.Point.{Point}
 use Rattle.geometry.specs.Bound.{Coord, Bounded}
@@ -19,8 +22,9 @@ use Rattle.triangle.specs.Between.{EdgePoint}
 use Rattle.triangle.proofs.Edge.{edge-left, edge-right, edge-rows}
 use Rattle.triangle.proofs.Triangle.{p1, p2, p3, flat, upper, lower, contained-decides}
 use Rattle.edges.specs.declared.Row.{Row}
+use Rattle.edges.specs.declared.Walk.{Walk}
 use Rattle.edges.specs.Side.{OnEdge}
-use Rattle.edges.specs.Shape.{Shape, On, Between, Rowed}
+use Rattle.edges.specs.Shape.{Shape, On, Between, WalkAt, Rowed, Begun}
 use Rattle.drawing.specs.Figure.{triangleFigure}
 
 -- ---- a walked point of an edge is a point of it
@@ -136,3 +140,33 @@ module _ (v1 v2 v3 : Point) where
       decides-map (contained-decides v1 v2 v3 (x, y))
       (λ h. record { first = h .first; last = h .last; from = h .from; to = h .to; at-first = walked (flat v1 v2 v3) (h .first) y (h .at-first); at-last = walked (flat v1 v2 v3) (h .last) y (h .at-last) })
       (λ h. record { first = h .first; last = h .last; from = h .from; to = h .to; at-first = edge-point (flat v1 v2 v3) (h .first) y (h .at-first); at-last = edge-point (flat v1 v2 v3) (h .last) y (h .at-last) })
+
+-- ---- the numbers of the row loop
+pub inside-of : {t : Shape} {y : ℤ} {w : Walk} → WalkAt t y w → Inside t
+inside-of at = record { first = at .a .here .at .stands .start; second = at .a .here .at .stands .end; third = at .c .here .at .stands .end }
+
+-- one more than a number near the coordinates fits 32 bits
+next-fits : (z : ℤ) → dn z ≤ up z + 131073 → up z ≤ dn z + 131072 → SFits w32 (z +ℤ pos 1)
+next-fits z h k = rw (as-mk z) (simp mks (mk-fits w32 _ _ (omega arith) (omega arith)))
+
+pub past-fits : {t : Shape} {y : ℤ} (r : Row) → Rowed t y r → Inside t → SFits w32 (r .high +ℤ pos 1)
+past-fits r done h =
+    ⊎-elim (λ z. next-fits (r .high) (omega (arith, eq-nat z)) (omega (arith, eq-nat z)))
+    (λ o. let c = on-coord h o in next-fits (r .high) (omega (arith, le-nat (c .low))) (omega (arith, le-nat (c .high))))
+    (done .high-is)
+
+module _ {t : Shape} {top bottom : ℤ} {w : Walk} (b : Begun t top bottom w) where
+  pub begun-at : {top′ bottom′ : ℤ} → top′ ≡ top → bottom′ ≡ bottom → Begun t top′ bottom′ w
+  begun-at p q = record { at = subst (λ (y : ℤ). WalkAt t y w) (sym p) (b .at); first = b .first ∙ sym p; last = b .last ∙ sym q; few = b .few }
+
+  pub row-fits : (y : ℤ) → top ≤ℤ y → y ≤ℤ bottom → SFits w32 (y +ℤ pos 1)
+  row-fits y h k =
+      let i = inside-of (b .at) in
+      next-fits y (omega (arith, le-nat h, eq-nat (b .first), le-nat (i .first .y .low))) (omega (arith, le-nat k, eq-nat (b .last), le-nat (i .third .y .high)))
+
+-- the loop ends: bottom + 1 - y falls
+pub nearer : (y bottom : ℤ) → y ≤ℤ bottom → (up bottom + dn (y +ℤ pos 1) + 1) - (up (y +ℤ pos 1) + dn bottom) < (up bottom + dn y + 1) - (up y + dn bottom)
+nearer y bottom h = omega (arith, le-nat h, sum-nat (y +ℤ pos 1) y 1 refl)
+
+pub still-below : {top y : ℤ} → top ≤ℤ y → top ≤ℤ (y +ℤ pos 1)
+still-below {top} {y} h = nat-le (omega (arith, le-nat h, sum-nat (y +ℤ pos 1) y 1 refl))

@@ -3,8 +3,13 @@
 ghost use mathlib.Core.Path.{_≡_};
 ghost use Prim.Native.Nat.{_≤_};
 ghost use lib.ListN.{length};
+ghost use mathlib.Core.Bool.{Bool};
+ghost use lib.IntN.{ℤ};
+ghost use Rattle.whole.specs.Decides.{Decides};
 ghost use Rattle.geometry.specs.Bound.{Bounded};
 ghost use Rattle.layout.specs.Raster.{painted};
+ghost use Rattle.circle.specs.Refusal.{refusalOf};
+ghost use Rattle.edges.specs.Shape.{Shape, Between, Begun, Ready};
 ghost use Rattle.framebuffer.specs.Answer.{drawn};
 ghost use Rattle.framebuffer.specs.Description.{raster, drawNumber, afterDraw};
 ghost use Rattle.framebuffer.specs.Rectangle.{Within, inside};
@@ -100,4 +105,72 @@ pub fn draw_outline(
     }
     draw_edges(buf, frame, frame.pane(), v1, v2, v3, colour);
     Drawn { number: 0 }
+}
+
+// The rows of an accepted circle, as far as the rectangle holds them.
+fn fill_circle(buf: &mut [u8], frame: Frame, pane: Pane, topleft: Point, diameter: u32, colour: u32)
+    requires { ⌜ (drawNumber frame (length (now buf)) colour 0 ≡ 0) × Within pane frame × (refusalOf topleft diameter ≡ 0) ⌝ }
+    ensures { λ r. ⌜ now (buf .exit) ≡ painted (raster frame) (inside pane (circleFigure topleft diameter)) colour (now (buf .entry)) ⌝ }
+{
+    let top = topleft.1;
+    let mut k = 0u32;
+    while k < diameter {
+        let y = top + (k as i32);
+        let row = circle::accepted_row_span(topleft, diameter, y);
+        framebuffer::paint_span(buf, frame, pane, y, row.start, row.end, colour);
+        k += 1;
+    }
+}
+
+// The number that drawing a circle answers.
+fn circle_number(frame: Frame, len: usize, topleft: Point, diameter: u32, colour: u32) -> u32
+    ensures { λ r. ⌜ r ≡ circleNumber frame len topleft diameter colour ⌝ }
+{
+    let number = framebuffer::draw_refusal(frame, len, colour);
+    if number != 0 {
+        return number;
+    }
+    circle::refusal(topleft, diameter)
+}
+
+// Draws a filled circle.
+pub fn draw_circle(
+    buf: &mut [u8],
+    frame: Frame,
+    topleft: Point,
+    diameter: u32,
+    colour: u32,
+) -> Drawn
+    ensures { λ r. ⌜ (r ≡ drawn (circleNumber frame (length (now (buf .entry))) topleft diameter colour)) × (now (buf .exit) ≡ afterDraw frame (r .number) (circleFigure topleft diameter) colour (now (buf .entry))) ⌝ }
+{
+    let number = circle_number(frame, buf.len(), topleft, diameter, colour);
+    if number != 0 {
+        return Drawn { number };
+    }
+    fill_circle(buf, frame, frame.pane(), topleft, diameter, colour);
+    Drawn { number: 0 }
+}
+
+// The rows of a triangle from top to bottom, from walks that stand at its top, as far as the rectangle holds them.
+fn fill_rows(
+    buf: &mut [u8],
+    frame: Frame,
+    pane: Pane,
+    walk: edges::Walk,
+    top: i32,
+    bottom: i32,
+    colour: u32,
+)
+    requires { ⌜ (drawNumber frame (length (now buf)) colour 0 ≡ 0) × Within pane frame × Ready top bottom walk ⌝ }
+    ensures { λ r. ⌜ ((t : Shape) (figure : ℤ → ℤ → Bool) → Begun t top bottom walk → ((x y : ℤ) → Decides (figure x y) (Between t x y)) → now (buf .exit) ≡ painted (raster frame) (inside pane figure) colour (now (buf .entry))) ⌝ }
+{
+    let mut w = walk;
+    let mut y = top;
+    while y <= bottom {
+        let row = w.row(y);
+        let end = row.high + 1;
+        framebuffer::paint_span(buf, frame, pane, y, row.low, end, colour);
+        w = row.walk;
+        y += 1;
+    }
 }

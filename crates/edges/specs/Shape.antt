@@ -69,3 +69,8 @@ pub record Begun (t : Shape) (top bottom : ℤ) (w : Walk) : Type 0 where
   pub first : t .p1 .1 ≡ top
   pub last : t .p3 .1 ≡ bottom
   pub few : total t ≤ 786432
+
+-- the walks of some such triangle
+pub record Ready (top bottom : ℤ) (w : Walk) : Type 0 where
+  pub t : Shape
+  pub begun : Begun t top bottom w

@@ -9,7 +9,8 @@ use lib.Dec.{leb, ltb, le→leb}
 use lib.IntN.{ℤ, pos, negsuc}
 use lib.Signed.{leZ, ltZ, _≤ℤ_}
 use borrow.Author.Tests.{ltb-true, ltb-false, leb-true, leb-false, lt-ltb, le-ltb, le-leb, lt-leb}
-use Rattle.layout.specs.Figure.{rowSpan, eqZ}
+use Rattle.layout.specs.Figure.{rowSpan}
+use Rattle.whole.specs.Equal.{eqZ}
 use Rattle.layout.specs.Raster.{painted}
 use Rattle.layout.proofs.Tests.{lt-or-ge, same-test, fails, and-true, true-and, eqZ-true, eqZ-refl}
 use Rattle.layout.proofs.Spans.{columns, in-span, span-in}

@@ -14,17 +14,23 @@ use mir.Syntax.{w32}
 use mir.Val.{SFits}
 use Rattle.whole.proofs.Difference.{up, dn, as-mk, mks, le-nat, lt-nat, eq-nat, nat-le, sum-nat}
 use Rattle.whole.proofs.Machine.{mk-fits}
-use Rattle.whole.proofs.Order.{le-of, le-trans, le-lt-more, more-lt-le}
+use Rattle.whole.proofs.Order.{le-self, le-of, le-trans, le-lt-more, more-lt-le}
 use Rattle.geometry.specs.declared.Point.{Point}
 use Rattle.geometry.specs.Bound.{Coord, Bounded}
+use Rattle.line.specs.declared.Walker.{Walker}
 use Rattle.line.specs.Line.{points, pointAt, HasPoint}
+use Rattle.line.specs.Walk.{WalkerAt}
+use Rattle.line.proofs.Lengths.{points-most}
+use Rattle.line.proofs.Points.{starts, rows-down}
 use Rattle.triangle.specs.Between.{EdgePoint}
+use Rattle.triangle.specs.Order.{sorted}
 use Rattle.triangle.proofs.Edge.{edge-left, edge-right, edge-rows}
+use Rattle.triangle.proofs.Order.{All}
 use Rattle.triangle.proofs.Triangle.{p1, p2, p3, flat, upper, lower, contained-decides}
 use Rattle.edges.specs.declared.Row.{Row}
 use Rattle.edges.specs.declared.Walk.{Walk}
-use Rattle.edges.specs.Side.{OnEdge}
-use Rattle.edges.specs.Shape.{Shape, On, Between, WalkAt, Rowed, Begun}
+use Rattle.edges.specs.Side.{OnEdge, EdgeAt}
+use Rattle.edges.specs.Shape.{Shape, On, Between, Fresh, WalkAt, Rowed, Begun}
 use Rattle.drawing.specs.Figure.{triangleFigure}
 
 -- ---- a walked point of an edge is a point of it
@@ -170,3 +176,28 @@ nearer y bottom h = omega (arith, le-nat h, sum-nat (y +ℤ pos 1) y 1 refl)
 
 pub still-below : {top y : ℤ} → top ≤ℤ y → top ≤ℤ (y +ℤ pos 1)
 still-below {top} {y} h = nat-le (omega (arith, le-nat h, sum-nat (y +ℤ pos 1) y 1 refl))
+
+-- ---- walks that have handed out no point stand at the triangle's top
+edge-fresh : {s e : Point} {n left : ℕ} {w : Walker} → s .1 ≤ℤ e .1 → WalkerAt s e 0 w → left ≡ n → n ≤ points s e → (y : ℤ) → y ≤ℤ s .1 → EdgeAt s e n y w left
+edge-fresh {s} {e} d at sum few y h =
+    record {
+      k = 0;
+      here = record { at = at; sum = omega arith; few = few };
+      done = λ i l. absurd (omega arith);
+      ahead = λ i a b. le-trans h (le-trans (le-of (ap (λ (p : Point). p .1) (sym (starts s e)))) (rows-down s e d 0 i (omega arith)));
+    }
+
+pub begun-fresh : (v1 v2 v3 : Point) → All Bounded (sorted v1 v2 v3) → (w : Walk) → Fresh (p1 v1 v2 v3) (p2 v1 v2 v3) (p3 v1 v2 v3) (not (flat v1 v2 v3)) w → Begun (shape v1 v2 v3) (p1 v1 v2 v3 .1) (p3 v1 v2 v3 .1) w
+begun-fresh v1 v2 v3 all w f =
+    let t = shape v1 v2 v3 in
+    record {
+      at = record {
+        a = edge-fresh (t .upper) (f .a) (f .left-a) (t .few-a) (t .p1 .1) (le-self (t .p1 .1));
+        b = edge-fresh (t .whole) (f .b) (f .left-b) (t .few-b) (t .p1 .1) (le-self (t .p1 .1));
+        c = edge-fresh (t .lower) (f .c) (f .left-c) (t .few-c) (t .p1 .1) (t .upper);
+        count = omega (arith, f .left-a, f .left-b, f .left-c, f .count);
+      };
+      first = refl;
+      last = refl;
+      few = omega (arith, t .few-a, t .few-b, t .few-c, points-most (all .first) (all .second), points-most (all .first) (all .third), points-most (all .second) (all .third));
+    }

@@ -3,11 +3,12 @@
 ghost use mathlib.Core.Path.{_≡_};
 ghost use Prim.Native.Nat.{_≤_};
 ghost use lib.ListN.{length};
-ghost use mathlib.Core.Bool.{Bool};
+ghost use mathlib.Core.Bool.{Bool, not};
 ghost use lib.IntN.{ℤ};
 ghost use Rattle.whole.specs.Decides.{Decides};
 ghost use Rattle.geometry.specs.Bound.{Bounded};
 ghost use Rattle.layout.specs.Raster.{painted};
+ghost use Rattle.triangle.specs.Triangle.{isFlat};
 ghost use Rattle.circle.specs.Refusal.{refusalOf};
 ghost use Rattle.edges.specs.Shape.{Shape, Between, Begun, Ready};
 ghost use Rattle.framebuffer.specs.Answer.{drawn};
@@ -173,4 +174,52 @@ fn fill_rows(
         w = row.walk;
         y += 1;
     }
+}
+
+// Whether an accepted triangle has an area.
+fn is_solid(v1: Point, v2: Point, v3: Point) -> bool
+    requires { ⌜ Bounded v1 × Bounded v2 × Bounded v3 ⌝ }
+    ensures { λ r. ⌜ r ≡ not (isFlat v1 v2 v3) ⌝ }
+{
+    triangle::area_doubled(v1, v2, v3) != 0
+}
+
+// The rows of an accepted triangle, as far as the rectangle holds them.
+fn fill_triangle(
+    buf: &mut [u8],
+    frame: Frame,
+    pane: Pane,
+    v1: Point,
+    v2: Point,
+    v3: Point,
+    colour: u32,
+)
+    requires { ⌜ (drawNumber frame (length (now buf)) colour 0 ≡ 0) × Within pane frame × (Bounded v1 × Bounded v2 × Bounded v3) ⌝ }
+    ensures { λ r. ⌜ now (buf .exit) ≡ painted (raster frame) (inside pane (triangleFigure v1 v2 v3)) colour (now (buf .entry)) ⌝ }
+{
+    let t = triangle::sorted_yx(v1, v2, v3);
+    let p1 = t.p1;
+    let p2 = t.p2;
+    let p3 = t.p3;
+    let walk = edges::Walk::new(p1, p2, p3, is_solid(v1, v2, v3));
+    fill_rows(buf, frame, pane, walk, p1.1, p3.1, colour);
+}
+
+// Draws a filled triangle.
+pub fn draw_triangle(
+    buf: &mut [u8],
+    frame: Frame,
+    v1: Point,
+    v2: Point,
+    v3: Point,
+    colour: u32,
+) -> Drawn
+    ensures { λ r. ⌜ (r ≡ drawn (triangleNumber frame (length (now (buf .entry))) v1 v2 v3 colour)) × (now (buf .exit) ≡ afterDraw frame (r .number) (triangleFigure v1 v2 v3) colour (now (buf .entry))) ⌝ }
+{
+    let number = triangle_number(frame, buf.len(), v1, v2, v3, colour);
+    if number != 0 {
+        return Drawn { number };
+    }
+    fill_triangle(buf, frame, frame.pane(), v1, v2, v3, colour);
+    Drawn { number: 0 }
 }

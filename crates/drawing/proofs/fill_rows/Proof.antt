@@ -32,9 +32,9 @@ abbrev Inv-loop : tie.InvT-loop
 Inv-loop buf₀ frame pane top bottom colour w₀ y₀ buf w y =
     (length buf ≡ length buf₀) × (toZ w32 top ≤ℤ toZ w32 y)
     × ((t : Shape) → Begun t (toZ w32 top) (toZ w32 bottom) w₀
-       → WalkAt t (toZ w32 y) w
-       × ((figure : ℤ → ℤ → Bool) → drawNumber frame (length buf₀) colour 0 ≡ 0 → ((x v : ℤ) → Decides (figure x v) (Between t x v))
-          → buf ≡ painted (raster frame) (inside pane (above figure (toZ w32 y))) colour buf₀))
+    → WalkAt t (toZ w32 y) w
+    × ((figure : ℤ → ℤ → Bool) → drawNumber frame (length buf₀) colour 0 ≡ 0 → ((x v : ℤ) → Decides (figure x v) (Between t x v))
+    → buf ≡ painted (raster frame) (inside pane (above figure (toZ w32 y))) colour buf₀))
 
 abbrev μ-loop : tie.MeasureT-loop
 μ-loop buf₀ frame pane top bottom colour w₀ y₀ buf w y = (up (toZ w32 bottom) + dn (toZ w32 y) + 1) - (up (toZ w32 y) + dn (toZ w32 bottom))
@@ -45,12 +45,16 @@ begun s b = begun-at b (toZ-ofZ (s .fits .top)) (toZ-ofZ (s .fits .bottom))
 
 loop-holds : tie.Need-loop-holds Inv-loop μ-loop
 loop-holds c =
-    let a = c .before .args in
-    (refl, le-self _,
-    λ t b. (b .at,
-    λ figure ok says.
-        sym (rows-start (raster (a .frame)) (sound-at (a .frame) (length (a .buf .now)) (a .colour) ok) (a .pane) (a .colour) (a .buf .now) figure (toZ w32 (ofZ w32 (a .top)))
-        (λ u v l. none-above t figure says u v (subst (λ (z : ℤ). pos v <ℤ z) (sym (b .first)) l)))))
+    let a = c .before .args in (
+      refl,
+      le-self _,
+      λ t b. (
+        b .at,
+        λ figure ok says.
+            sym (rows-start (raster (a .frame)) (sound-at (a .frame) (length (a .buf .now)) (a .colour) ok) (a .pane) (a .colour) (a .buf .now) figure (toZ w32 (ofZ w32 (a .top)))
+            (λ u v l. none-above t figure says u v (subst (λ (z : ℤ). pos v <ℤ z) (sym (b .first)) l))),
+      ),
+    )
 
 -- in a turn
 module _ (c : tie.In-loop Inv-loop μ-loop) where
@@ -122,23 +126,24 @@ loop-again c =
     let a = s .args in
     let r = row told in
     let l = h .before .loop in
-    let low-back = field-back w32 (r .low) (paint .before .struct-told2 .given .1 .0 .1) in
-    (paint .paint-span .kept .0 ∙ l .inv .0,
-    subst (λ (v : ℤ). toZ w32 (ofZ w32 (a .top)) ≤ℤ v) (sym (next-back h)) (still-below (l .inv .1)),
-    λ t b.
-        let done = taken told t b in
-        subst
-        (λ (v : ℤ). WalkAt t v (r .walk)
-            × ((figure : ℤ → ℤ → Bool) → drawNumber (a .frame) (length (a .buf .now)) (a .colour) 0 ≡ 0 → ((x z : ℤ) → Decides (figure x z) (Between t x z))
-               → paint .paint-span .last .0 ≡ painted (raster (a .frame)) (inside (a .pane) (above figure v)) (a .colour) (a .buf .now)))
-        (sym (next-back h)) (
-          done .walk,
-          λ figure ok says.
-              paint .paint-span .ensures
-              ∙ (λ i. painted (raster (a .frame)) (inside (a .pane) (rowSpan (y h) (low-back i) (end-is told i))) (a .colour) (l .inv .2 t b .1 figure ok says i))
-              ∙ rows-turn (raster (a .frame)) (sound-at (a .frame) (length (a .buf .now)) (a .colour) ok) (a .pane) (a .colour) (a .buf .now) figure (y h) (r .low) (r .high +ℤ pos 1)
-              (λ u v hu hv e. row-columns t figure says (y h) r done u v (omega (arith, is-drawable (a .frame) (length (a .buf .now)) (a .colour) ok .accepted .described .width)) e),
-        ))
+    let low-back = field-back w32 (r .low) (paint .before .struct-told2 .given .1 .0 .1) in (
+      paint .paint-span .kept .0 ∙ l .inv .0,
+      subst (λ (v : ℤ). toZ w32 (ofZ w32 (a .top)) ≤ℤ v) (sym (next-back h)) (still-below (l .inv .1)),
+      λ t b.
+          let done = taken told t b in
+          subst
+          (λ (v : ℤ). WalkAt t v (r .walk)
+          × ((figure : ℤ → ℤ → Bool) → drawNumber (a .frame) (length (a .buf .now)) (a .colour) 0 ≡ 0 → ((x z : ℤ) → Decides (figure x z) (Between t x z))
+          → paint .paint-span .last .0 ≡ painted (raster (a .frame)) (inside (a .pane) (above figure v)) (a .colour) (a .buf .now)))
+          (sym (next-back h)) (
+            done .walk,
+            λ figure ok says.
+                paint .paint-span .ensures
+                ∙ (λ i. painted (raster (a .frame)) (inside (a .pane) (rowSpan (y h) (low-back i) (end-is told i))) (a .colour) (l .inv .2 t b .1 figure ok says i))
+                ∙ rows-turn (raster (a .frame)) (sound-at (a .frame) (length (a .buf .now)) (a .colour) ok) (a .pane) (a .colour) (a .buf .now) figure (y h) (r .low) (r .high +ℤ pos 1)
+                (λ u v hu hv e. row-columns t figure says (y h) r done u v (omega (arith, is-drawable (a .frame) (length (a .buf .now)) (a .colour) ok .accepted .described .width)) e),
+          ),
+    )
 
 same-length : tie.Need-same-length Inv-loop μ-loop
 same-length c = c .before .loop .inv .0

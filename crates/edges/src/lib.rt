@@ -10,7 +10,7 @@ ghost use Rattle.geometry.specs.Bound.{Bounded};
 ghost use Rattle.line.specs.Line.{points};
 ghost use Rattle.line.specs.Walk.{WalkerAt};
 ghost use Rattle.edges.specs.Side.{Lesser, Greater, Going, WalkedTo, EdgeAt, Taken, Ran};
-ghost use Rattle.edges.specs.Shape.{Shape, WalkAt, Rowing, Rowed};
+ghost use Rattle.edges.specs.Shape.{Shape, Fresh, WalkAt, Rowing, Rowed};
 use geometry::Point;
 
 // An edge's walker, and the points that it has still to hand out.
@@ -156,6 +156,20 @@ impl Side {
 }
 
 impl Walk {
+    // Inside the library: the walks of an accepted triangle of sorted vertices, at its top: along all its edges, or with zero area along p1 to
+    // p3 alone.
+    pub fn new(p1: Point, p2: Point, p3: Point, solid: bool) -> Self
+        requires { ⌜ Bounded p1 × Bounded p2 × Bounded p3 ⌝ }
+        ensures { λ r. ⌜ Fresh p1 p2 p3 solid r ⌝ }
+    {
+        Walk {
+            a: Side::new(p1, p2, solid),
+            b: Side::new(p1, p3, true),
+            c: Side::new(p2, p3, solid),
+            count: 0,
+        }
+    }
+
     // Inside the library: the points of the three edges on row y, the rows above having been taken.
     pub fn row(self, y: i32) -> Row
         requires { ⌜ Rowing self ⌝ }

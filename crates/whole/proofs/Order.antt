@@ -2,7 +2,6 @@
 use mathlib.Core.Path.{_≡_, refl, sym, subst}
 use mathlib.Core.Logic.{_⊎_, inl, inr}
 use Prim.Native.Nat.{ℕ, zero, suc, _+_, _*_, _≤_, _<_}
-use native.Mathlib.Decide.{decLt}
 use native.Mathlib.Nat.{mul-pos}
 use native.Mathlib.Omega.{arith}
 use lib.IntN.{ℤ, pos, negsuc, negℤ, _+ℤ_, _-ℤ_, _*ℤ_}
@@ -25,19 +24,27 @@ le-of {a} {b} h = nat-le (omega (arith, eq-nat h))
 pub lt-le : {a b : ℤ} → a <ℤ b → a ≤ℤ b
 lt-le {a} {b} h = nat-le (omega (arith, lt-nat h))
 
+-- one of the two orders, unless the other holds
+pub le-unless : {a b : ℤ} → (b <ℤ a → ⊥) → a ≤ℤ b
+le-unless {a} {b} n = let m : ¬ (up b + dn a < up a + dn b) = λ k. n (nat-lt k) in nat-le (omega arith)
+
+pub lt-unless : {a b : ℤ} → (b ≤ℤ a → ⊥) → a <ℤ b
+lt-unless {a} {b} n = let m : ¬ (up b + dn a ≤ up a + dn b) = λ k. n (nat-le k) in nat-lt (omega arith)
+
 pub lt-apart : {a b : ℤ} → a <ℤ b → a ≡ b → ⊥
 lt-apart {a} {b} h k = omega (arith, lt-nat h, eq-nat k)
 
 pub lt-of : {a b : ℤ} → a ≤ℤ b → (a ≡ b → ⊥) → a <ℤ b
-lt-of {a} {b} h k = go (decLt (up a + dn b) (up b + dn a))
-  where
-    go : Dec (up a + dn b < up b + dn a) → a <ℤ b
-    go (yes l) = nat-lt l
-    go (no l) = absurd (k (nat-eq (omega (arith, le-nat h))))
+lt-of h k = lt-unless (λ g. k (le-antisym h g))
 
 -- one more
 pub le-lt-more : {a b : ℤ} → a ≤ℤ b → a <ℤ (b +ℤ pos 1)
 le-lt-more {a} {b} h = rw (as-mk a, as-mk b) (simp mks (mk-lt _ _ _ _ (omega (arith, le-nat h))))
+
+pub more-lt-le : {a b : ℤ} → a <ℤ (b +ℤ pos 1) → a ≤ℤ b
+more-lt-le {a} {b} h =
+    let g = lt-mk _ _ _ _ (simp mks at (rw (as-mk a, as-mk b) at h)) in
+    nat-le (omega arith)
 
 pub lt-more-le : {a b : ℤ} → a <ℤ b → (a +ℤ pos 1) ≤ℤ b
 lt-more-le {a} {b} h = rw (as-mk a, as-mk b) (simp mks (mk-le _ _ _ _ (omega (arith, lt-nat h))))
@@ -53,6 +60,9 @@ sub-le a b h =
 
 pub lt-sub : (a b : ℤ) → a <ℤ b → (a -ℤ b) <ℤ pos 0
 lt-sub a b h = rw (as-mk a, as-mk b) (simp mks (mk-lt _ _ _ _ (omega (arith, lt-nat h))))
+
+pub lt-sub-pos : (a b : ℤ) → a <ℤ b → pos 0 <ℤ (b -ℤ a)
+lt-sub-pos a b h = rw (as-mk a, as-mk b) (simp mks (mk-lt _ _ _ _ (omega (arith, lt-nat h))))
 
 pub nonneg-add : (a b : ℤ) → pos 0 ≤ℤ a → pos 0 ≤ℤ b → pos 0 ≤ℤ (a +ℤ b)
 nonneg-add a b h k = rw (as-mk a, as-mk b) (simp mks (mk-le _ _ _ _ (omega (arith, le-nat h, le-nat k))))

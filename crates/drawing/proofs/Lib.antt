@@ -1,0 +1,5 @@
+pub mod Figures
+pub mod Calls
+pub mod Rows
+pub mod Fill
+pub mod Circles

@@ -1,0 +1,11 @@
+pub mod Area
+pub mod Offsets
+pub mod Run
+pub mod Edge
+pub mod Order
+pub mod Sides
+pub mod Agree
+pub mod Spans
+pub mod Triangle
+pub mod Box
+pub mod Refusals

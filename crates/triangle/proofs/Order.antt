@@ -1,0 +1,183 @@
+-- Laws of the order by y, then x, and of sorting: the sorted vertices are in order, what does not mind the order of the vertices is the same of the
+-- sorted ones, and any order of the vertices sorts to the same. Assumes nothing.
+use mathlib.Core.Path.{_≡_, refl, sym, ap, ap₂, subst, _∙_}
+use mathlib.Core.Bool.{Bool, true, false, cond, true≢false, false≢true}
+use mathlib.Core.Logic.{_⊎_, inl, inr, ⊎-elim}
+use Prim.Native.Nat.{ℕ, _+_, _≤_, _<_}
+use native.Mathlib.Omega.{arith}
+use lib.IntN.{ℤ}
+use lib.Signed.{_≤ℤ_, _<ℤ_, leZ, ltZ, ≤ℤ-refl}
+use Rattle.whole.specs.Decides.{Decides}
+use Rattle.whole.specs.Equal.{eqZ}
+use Rattle.whole.proofs.Decides.{decides-eq, decides-le, decides-lt, decides-yes}
+use Rattle.whole.proofs.Difference.{le-nat, lt-nat, eq-nat, nat-le, nat-lt}
+use Rattle.whole.proofs.Machine.{lt-no, le-no}
+use Rattle.whole.proofs.Order.{le-antisym, lt-le, lt-unless}
+use Rattle.geometry.specs.declared.Point.{Point}
+use Rattle.triangle.specs.declared.Sorted.{Sorted}
+use Rattle.triangle.specs.Order.{before, three, placed, sorted}
+
+-- ---- the order
+-- a on an earlier row, or on the same row and no further right
+abbrev pub Before : Point → Point → Type 0
+Before a b = (a .1 <ℤ b .1) ⊎ ((a .1 ≡ b .1) × (a .0 ≤ℤ b .0))
+
+pub before-decides : (a b : Point) → Decides (before a b) (Before a b)
+unfolding before
+before-decides a b = by (eqZ (a .1) (b .1)) (decides-eq (a .1) (b .1))
+  where
+    by : (t : Bool) → Decides t (a .1 ≡ b .1) → Decides (cond t (leZ (a .0) (b .0)) (ltZ (a .1) (b .1))) (Before a b)
+    by true d =
+        let e = d .yes refl in
+        let x = decides-le (a .0) (b .0) in
+        record { yes = λ t. inr (e, x .yes t); no = λ t. ⊎-elim (λ l. absurd (omega (arith, lt-nat l, eq-nat e))) (λ h. x .no t (h .1)) }
+    by false d =
+        let y = decides-lt (a .1) (b .1) in
+        record { yes = λ t. inl (y .yes t); no = λ t. ⊎-elim (y .no t) (λ h. d .no refl (h .0)) }
+
+-- the rows of two places in order
+pub before-rows : (a b : Point) → Before a b → a .1 ≤ℤ b .1
+before-rows a b (inl l) = lt-le l
+before-rows a b (inr h) = nat-le (omega (arith, eq-nat (h .0)))
+
+before-refl : (a : Point) → Before a a
+before-refl a = inr (refl, ≤ℤ-refl (a .0))
+
+before-trans : (a b c : Point) → Before a b → Before b c → Before a c
+before-trans a b c (inl l) h = inl (nat-lt (omega (arith, lt-nat l, le-nat (before-rows b c h))))
+before-trans a b c (inr h) (inl l) = inl (nat-lt (omega (arith, lt-nat l, eq-nat (h .0))))
+before-trans a b c (inr h) (inr k) = inr (h .0 ∙ k .0, nat-le (omega (arith, le-nat (h .1), le-nat (k .1))))
+
+before-antisym : (a b : Point) → Before a b → Before b a → a ≡ b
+before-antisym a b (inl l) h = absurd (omega (arith, lt-nat l, le-nat (before-rows b a h)))
+before-antisym a b (inr h) (inl l) = absurd (omega (arith, lt-nat l, eq-nat (h .0)))
+before-antisym a b (inr h) (inr k) = λ i. (le-antisym (h .1) (k .1) i, h .0 i)
+
+-- one of two places is before the other
+before-yes : (a b : Point) → before a b ≡ true → Before a b
+before-yes a b = before-decides a b .yes
+
+before-no : (a b : Point) → before a b ≡ false → Before b a
+unfolding before
+before-no a b = by (eqZ (a .1) (b .1)) (decides-eq (a .1) (b .1))
+  where
+    by : (t : Bool) → Decides t (a .1 ≡ b .1) → cond t (leZ (a .0) (b .0)) (ltZ (a .1) (b .1)) ≡ false → Before b a
+    by true d h = inr (sym (d .yes refl), lt-le (le-no h))
+    by false d h = inl (lt-unless (λ k. d .no refl (le-antisym k (lt-no h))))
+
+-- ---- the sorted vertices: p1 before p2 before p3
+pub record Ordered (t : Sorted) : Type 0 where
+  pub upper : Before (t .p1) (t .p2)
+  pub lower : Before (t .p2) (t .p3)
+
+placed-ordered : (a b c : Point) → Before a b → Ordered (placed a b c)
+placed-ordered a b c s = by (before c a) (before c b) (before-yes c a) (before-no c a) (before-yes c b) (before-no c b)
+  where
+    by : (p q : Bool) → (p ≡ true → Before c a) → (p ≡ false → Before a c) → (q ≡ true → Before c b) → (q ≡ false → Before b c) → Ordered (cond p (three c a b) (cond q (three a c b) (three a b c)))
+    by true q f g h k = record { upper = f refl; lower = s }
+    by false true f g h k = record { upper = g refl; lower = h refl }
+    by false false f g h k = record { upper = s; lower = k refl }
+
+pub sorted-ordered : (a b c : Point) → Ordered (sorted a b c)
+unfolding sorted
+sorted-ordered a b c = by (before a b) (before-yes a b) (before-no a b)
+  where
+    by : (p : Bool) → (p ≡ true → Before a b) → (p ≡ false → Before b a) → Ordered (cond p (placed a b c) (placed b a c))
+    by true f g = placed-ordered a b c (f refl)
+    by false f g = placed-ordered b a c (g refl)
+
+-- ---- what does not mind the order of the vertices is the same of the sorted ones
+module _ {X : Type 0} (q : Point → Point → Point → X) (swap : (a b c : Point) → q b a c ≡ q a b c) (turn : (a b c : Point) → q b c a ≡ q a b c) where
+  placed-same : (a b c : Point) → q (placed a b c .p1) (placed a b c .p2) (placed a b c .p3) ≡ q a b c
+  placed-same a b c = by (before c a) (before c b)
+    where
+      by : (s t : Bool) → (let r : Sorted = cond s (three c a b) (cond t (three a c b) (three a b c)) in q (r .p1) (r .p2) (r .p3)) ≡ q a b c
+      by true t = turn b c a ∙ turn a b c
+      by false true = sym (swap a c b) ∙ turn b c a ∙ turn a b c
+      by false false = refl
+
+  pub sorted-same : (a b c : Point) → q (sorted a b c .p1) (sorted a b c .p2) (sorted a b c .p3) ≡ q a b c
+  unfolding sorted
+  sorted-same a b c = by (before a b)
+    where
+      by : (s : Bool) → (let r : Sorted = cond s (placed a b c) (placed b a c) in q (r .p1) (r .p2) (r .p3)) ≡ q a b c
+      by true = placed-same a b c
+      by false = placed-same b a c ∙ swap a b c
+
+-- what holds of all three vertices holds of the sorted ones
+pub record All (P : Point → Type 0) (t : Sorted) : Type 0 where
+  pub first : P (t .p1)
+  pub second : P (t .p2)
+  pub third : P (t .p3)
+
+module _ (P : Point → Type 0) where
+  placed-all : (a b c : Point) → P a → P b → P c → All P (placed a b c)
+  placed-all a b c pa pb pc = by (before c a) (before c b)
+    where
+      by : (s t : Bool) → All P (cond s (three c a b) (cond t (three a c b) (three a b c)))
+      by true t = record { first = pc; second = pa; third = pb }
+      by false true = record { first = pa; second = pc; third = pb }
+      by false false = record { first = pa; second = pb; third = pc }
+
+  pub sorted-all : (a b c : Point) → P a → P b → P c → All P (sorted a b c)
+  unfolding sorted
+  sorted-all a b c pa pb pc = by (before a b)
+    where
+      by : (s : Bool) → All P (cond s (placed a b c) (placed b a c))
+      by true = placed-all a b c pa pb pc
+      by false = placed-all b a c pb pa pc
+
+-- ---- any order of the vertices sorts to the same: how many of them are before z fixes each place
+bit : Bool → ℕ
+bit b = cond b 1 0
+
+count : Point → Point → Point → Point → ℕ
+count z a b c = bit (before a z) + bit (before b z) + bit (before c z)
+
+count-swap : (z a b c : Point) → count z b a c ≡ count z a b c
+unfolding count
+count-swap z a b c = omega arith
+
+count-turn : (z a b c : Point) → count z b c a ≡ count z a b c
+unfolding count
+count-turn z a b c = omega arith
+
+-- a later place is before z only if an earlier one is
+bits : (a b z : Point) → Before a b → (bit (before b z) ≤ bit (before a z)) × (bit (before a z) ≤ 1)
+unfolding bit
+bits a b z h = by (before a z) (before b z) (λ e. before-decides a z .no e) (before-yes b z)
+  where
+    by : (s t : Bool) → (s ≡ false → Before a z → ⊥) → (t ≡ true → Before b z) → (cond t 1 0 ≤ cond s 1 0) × (cond s 1 0 ≤ 1)
+    by true true f g = (omega arith, omega arith)
+    by true false f g = (omega arith, omega arith)
+    by false true f g = absurd (f refl (before-trans a b z h (g refl)))
+    by false false f g = (omega arith, omega arith)
+
+bit-yes : (s : Bool) → bit s ≡ 1 → s ≡ true
+unfolding bit
+bit-yes true e = refl
+bit-yes false e = absurd (omega arith)
+
+same-place : (a b : Point) → ((z : Point) → bit (before a z) ≡ bit (before b z)) → a ≡ b
+unfolding bit
+same-place a b h = before-antisym a b (before-too a b (h b)) (before-too b a (sym (h a)))
+  where
+    before-too : (a b : Point) → bit (before a b) ≡ bit (before b b) → Before a b
+    before-too a b e = before-yes a b (bit-yes (before a b) (e ∙ ap bit (decides-yes (before-decides b b) (before-refl b))))
+
+one-order : (s t : Sorted) → Ordered s → Ordered t → ((z : Point) → count z (s .p1) (s .p2) (s .p3) ≡ count z (t .p1) (t .p2) (t .p3)) → s ≡ t
+unfolding count
+one-order s t os ot h =
+    let eq1 : s .p1 ≡ t .p1 = same-place (s .p1) (t .p1) (λ z. omega (arith, h z, bits _ _ z (os .upper), bits _ _ z (os .lower), bits _ _ z (ot .upper), bits _ _ z (ot .lower))) in
+    let eq2 : s .p2 ≡ t .p2 = same-place (s .p2) (t .p2) (λ z. omega (arith, h z, bits _ _ z (os .upper), bits _ _ z (os .lower), bits _ _ z (ot .upper), bits _ _ z (ot .lower))) in
+    let eq3 : s .p3 ≡ t .p3 = same-place (s .p3) (t .p3) (λ z. omega (arith, h z, bits _ _ z (os .upper), bits _ _ z (os .lower), bits _ _ z (ot .upper), bits _ _ z (ot .lower))) in
+    λ i. three (eq1 i) (eq2 i) (eq3 i)
+
+same-count : (z a b c : Point) → count z (sorted a b c .p1) (sorted a b c .p2) (sorted a b c .p3) ≡ count z a b c
+same-count z = sorted-same (count z) (count-swap z) (count-turn z)
+
+pub sorted-swap : (a b c : Point) → sorted b a c ≡ sorted a b c
+sorted-swap a b c = one-order (sorted b a c) (sorted a b c) (sorted-ordered b a c) (sorted-ordered a b c) (λ z. same-count z b a c ∙ count-swap z a b c ∙ sym (same-count z a b c))
+
+pub sorted-turn : (a b c : Point) → sorted b c a ≡ sorted a b c
+sorted-turn a b c = one-order (sorted b c a) (sorted a b c) (sorted-ordered b c a) (sorted-ordered a b c) (λ z. same-count z b c a ∙ count-turn z a b c ∙ sym (same-count z a b c))

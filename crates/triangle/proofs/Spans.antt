@@ -1,0 +1,184 @@
+-- Laws of spans: a span of columns runs from the smallest to one past the largest, or is 0 to 0 where there are none; there is one such span; the span of
+-- two sets of columns is that of both joined; and a row's span, as it is defined, is the span of the edge points on the row. Assumes nothing.
+use mathlib.Core.Path.{_≡_, refl, sym, ap, subst, _∙_}
+use mathlib.Core.Bool.{Bool, true, false, cond, _&&_}
+use mathlib.Core.List.{List, [], _∷_, _++_, List·Memᴰ, List·Memᴰ·head, List·Memᴰ·tail, List·Memᴰ·not-nil, List·Memᴰ·cases-cons, List·Memᴰ·append-cases, Memᴰ·append-left, Memᴰ·append-right}
+use mathlib.Core.Logic.{_⊎_, inl, inr, ⊎-elim, _↔_}
+use Prim.Native.Nat.{ℕ, zero, suc, _+_, _≤_, _<_}
+use native.Mathlib.Decide.{decLt}
+use native.Mathlib.Omega.{arith}
+use lib.IntN.{ℤ, pos, _+ℤ_}
+use lib.Signed.{_≤ℤ_, _<ℤ_, leZ, ltZ, ≤ℤ-refl}
+use Rattle.whole.specs.Decides.{Decides}
+use Rattle.whole.specs.Equal.{eqZ}
+use Rattle.whole.proofs.Decides.{decides-map, decides-and, decides-le, decides-lt, decides-eq, decides-yes, decides-no}
+use Rattle.whole.proofs.Difference.{le-nat, lt-nat, eq-nat, nat-le, nat-lt, sum-nat}
+use Rattle.whole.proofs.Machine.{le-yes, le-no}
+use Rattle.whole.proofs.Order.{le-trans, le-antisym, lt-le}
+use Rattle.geometry.specs.declared.Point.{Point}
+use Rattle.line.specs.Line.{pointAt, points, major, HasPoint}
+use Rattle.triangle.specs.declared.Columns.{Columns}
+use Rattle.triangle.specs.Row.{joined, spanOf, inSpan, columnsTo, columns}
+
+-- ---- the span of the columns E
+pub record Bounds (E : ℤ → Type 0) (s : Columns) : Type 0 where
+  pub last : ℤ
+  pub past : s .1 ≡ last +ℤ pos 1
+  pub at-first : E (s .0)
+  pub at-last : E last
+  pub least : (x : ℤ) → E x → s .0 ≤ℤ x
+  pub largest : (x : ℤ) → E x → x ≤ℤ last
+
+abbrev pub Spans : (ℤ → Type 0) → Columns → Type 0
+Spans E s = Bounds E s ⊎ ((s ≡ (pos 0, pos 0)) × ((x : ℤ) → E x → ⊥))
+
+-- there is one
+pub span-one : (E : ℤ → Type 0) (s t : Columns) → Spans E s → Spans E t → s ≡ t
+span-one E s t (inl a) (inl b) =
+    let first : s .0 ≡ t .0 = le-antisym (a .least (t .0) (b .at-first)) (b .least (s .0) (a .at-first)) in
+    let last : a .last ≡ b .last = le-antisym (b .largest (a .last) (a .at-last)) (a .largest (b .last) (b .at-last)) in
+    let past : s .1 ≡ t .1 = a .past ∙ ap (λ (x : ℤ). x +ℤ pos 1) last ∙ sym (b .past) in
+    λ i. (first i, past i)
+span-one E s t (inl a) (inr b) = absurd (b .1 (s .0) (a .at-first))
+span-one E s t (inr a) (inl b) = absurd (a .1 (t .0) (b .at-first))
+span-one E s t (inr a) (inr b) = a .0 ∙ sym (b .0)
+
+-- of the same columns
+pub span-map : (E F : ℤ → Type 0) (s : Columns) → ((x : ℤ) → E x → F x) → ((x : ℤ) → F x → E x) → Spans E s → Spans F s
+span-map E F s f g (inl b) =
+    inl (record { last = b .last; past = b .past; at-first = f (s .0) (b .at-first); at-last = f (b .last) (b .at-last); least = λ x q. b .least x (g x q); largest = λ x q. b .largest x (g x q) })
+span-map E F s f g (inr n) = inr (n .0, λ x q. n .1 x (g x q))
+
+-- a column is in the span exactly if it lies between two of E
+pub record Hull (E : ℤ → Type 0) (x : ℤ) : Type 0 where
+  pub first : ℤ
+  pub last : ℤ
+  pub from : first ≤ℤ x
+  pub to : x ≤ℤ last
+  pub at-first : E first
+  pub at-last : E last
+
+before-past : (x z y : ℤ) → z ≡ y +ℤ pos 1 → x ≤ℤ y → x <ℤ z
+before-past x z y e h = nat-lt (omega (arith, le-nat h, sum-nat z y 1 e))
+
+past-before : (x z y : ℤ) → z ≡ y +ℤ pos 1 → x <ℤ z → x ≤ℤ y
+past-before x z y e h = nat-le (omega (arith, lt-nat h, sum-nat z y 1 e))
+
+pub hull-decides : (E : ℤ → Type 0) (s : Columns) (x : ℤ) → Spans E s → Decides (inSpan s x) (Hull E x)
+hull-decides E s x b = decides-map (decides-and (leZ (s .0) x) (ltZ x (s .1)) (decides-le (s .0) x) (decides-lt x (s .1))) (to b) (from b)
+  where
+    to : Spans E s → (s .0 ≤ℤ x) × (x <ℤ s .1) → Hull E x
+    to (inl b) h = record { first = s .0; last = b .last; from = h .0; to = past-before x (s .1) (b .last) (b .past) (h .1); at-first = b .at-first; at-last = b .at-last }
+    to (inr n) h = absurd (omega (arith, le-nat (h .0), lt-nat (h .1), eq-nat (ap (λ (c : Columns). c .0) (n .0)), eq-nat (ap (λ (c : Columns). c .1) (n .0))))
+
+    from : Spans E s → Hull E x → (s .0 ≤ℤ x) × (x <ℤ s .1)
+    from (inl b) h = (le-trans (b .least (h .first) (h .at-first)) (h .from), before-past x (s .1) (b .last) (b .past) (le-trans (h .to) (b .largest (h .last) (h .at-last))))
+    from (inr n) h = absurd (n .1 (h .first) (h .at-first))
+
+-- ---- two spans joined
+-- the smaller of two least, and the larger of two largest
+record Least (E : ℤ → Type 0) (a : ℤ) : Type 0 where
+  at : E a
+  least : (x : ℤ) → E x → a ≤ℤ x
+
+record Past (E : ℤ → Type 0) (b : ℤ) : Type 0 where
+  last : ℤ
+  past : b ≡ last +ℤ pos 1
+  at : E last
+  largest : (x : ℤ) → E x → x ≤ℤ last
+
+full : (E : ℤ → Type 0) (s : Columns) → Bounds E s → eqZ (s .0) (s .1) ≡ false
+full E s b = decides-no (decides-eq (s .0) (s .1)) (λ e. omega (arith, eq-nat e, lt-nat (before-past (s .0) (s .1) (b .last) (b .past) (b .least (b .last) (b .at-last)))))
+
+empty : (s : Columns) → s ≡ (pos 0, pos 0) → eqZ (s .0) (s .1) ≡ true
+empty s e = ap (λ (c : Columns). eqZ (c .0) (c .1)) e
+
+module _ (E F : ℤ → Type 0) (s t : Columns) where
+  abbrev Both : ℤ → Type 0
+  Both x = E x ⊎ F x
+
+  module _ (a : Bounds E s) (b : Bounds F t) where
+    join-first : (p : Bool) → (p ≡ true → s .0 ≤ℤ t .0) → (p ≡ false → t .0 <ℤ s .0) → Least Both (cond p (s .0) (t .0))
+    join-first true f g = record { at = inl (a .at-first); least = λ x. ⊎-elim (a .least x) (λ q. le-trans (f refl) (b .least x q)) }
+    join-first false f g = record { at = inr (b .at-first); least = λ x. ⊎-elim (λ q. le-trans (lt-le (g refl)) (a .least x q)) (b .least x) }
+
+    join-last : (p : Bool) → (p ≡ true → s .1 ≤ℤ t .1) → (p ≡ false → t .1 <ℤ s .1) → Past Both (cond p (t .1) (s .1))
+    join-last true f g =
+        let l : a .last ≤ℤ b .last = nat-le (omega (arith, le-nat (f refl), sum-nat (s .1) (a .last) 1 (a .past), sum-nat (t .1) (b .last) 1 (b .past))) in
+        record { last = b .last; past = b .past; at = inr (b .at-last); largest = λ x. ⊎-elim (λ q. le-trans (a .largest x q) l) (b .largest x) }
+    join-last false f g =
+        let l : b .last ≤ℤ a .last = nat-le (omega (arith, lt-nat (g refl), sum-nat (s .1) (a .last) 1 (a .past), sum-nat (t .1) (b .last) 1 (b .past))) in
+        record { last = a .last; past = a .past; at = inl (a .at-last); largest = λ x. ⊎-elim (a .largest x) (λ q. le-trans (b .largest x q) l) }
+
+    join-both : Bounds Both (cond (leZ (s .0) (t .0)) (s .0) (t .0), cond (leZ (s .1) (t .1)) (t .1) (s .1))
+    join-both =
+        let f = join-first (leZ (s .0) (t .0)) le-yes le-no in
+        let l = join-last (leZ (s .1) (t .1)) le-yes le-no in
+        record { last = l .last; past = l .past; at-first = f .at; at-last = l .at; least = f .least; largest = l .largest }
+
+  pub join-spans : Spans E s → Spans F t → Spans Both (joined s t)
+  join-spans (inl a) (inl b) = rw (full E s a, full F t b) (inl (join-both a b))
+  join-spans (inl a) (inr m) = rw (full E s a, empty t (m .0)) (span-map E Both s (λ x. inl) (λ x. ⊎-elim (λ q. q) (λ q. absurd (m .1 x q))) (inl a))
+  join-spans (inr n) b = rw (empty s (n .0)) (span-map F Both t (λ x. inr) (λ x. ⊎-elim (λ q. absurd (n .1 x q)) (λ q. q)) b)
+
+-- ---- the span of a list of columns
+pub list-spans : (xs : List ℤ) → Spans (λ x. List·Memᴰ x xs) (spanOf xs)
+unfolding spanOf
+list-spans [] = inr (refl, λ x. List·Memᴰ·not-nil)
+list-spans (c ∷ xs) =
+    span-map (λ x. (x ≡ c) ⊎ List·Memᴰ x xs) (λ x. List·Memᴰ x (c ∷ xs)) (joined (c, c +ℤ pos 1) (spanOf xs)) (λ x. ⊎-elim List·Memᴰ·head List·Memᴰ·tail) (λ x. List·Memᴰ·cases-cons)
+    (join-spans (λ x. x ≡ c) (λ x. List·Memᴰ x xs) (c, c +ℤ pos 1) (spanOf xs)
+    (inl (record { last = c; past = refl; at-first = refl; at-last = refl; least = λ x e. nat-le (omega (arith, eq-nat e)); largest = λ x e. nat-le (omega (arith, eq-nat e)) }))
+    (list-spans xs))
+
+-- one list after another
+pub span-append : (xs ys : List ℤ) → joined (spanOf xs) (spanOf ys) ≡ spanOf (xs ++ ys)
+span-append xs ys =
+    span-one (λ x. List·Memᴰ x (xs ++ ys)) _ _
+    (span-map (λ x. List·Memᴰ x xs ⊎ List·Memᴰ x ys) (λ x. List·Memᴰ x (xs ++ ys)) _ (λ x. ⊎-elim (Memᴰ·append-left ys) (Memᴰ·append-right xs)) (λ x. List·Memᴰ·append-cases xs)
+    (join-spans (λ x. List·Memᴰ x xs) (λ x. List·Memᴰ x ys) (spanOf xs) (spanOf ys) (list-spans xs) (list-spans ys)))
+    (list-spans (xs ++ ys))
+
+-- ---- the columns of a line's points on a row
+record Step (f : ℕ → Point) (x y : ℤ) (n : ℕ) : Type 0 where
+  k : ℕ
+  below : k < n
+  here : (x, y) ≡ f k
+
+module _ (f : ℕ → Point) (x y : ℤ) where
+  listed : (n : ℕ) → List·Memᴰ x (columnsTo f y n) → Step f x y n
+  listed zero m = absurd (List·Memᴰ·not-nil m)
+  listed (suc n) m = by (eqZ (f n .1) y) (decides-eq (f n .1) y) (λ (k : List·Memᴰ x (columnsTo f y n)). listed n k) m
+    where
+      more : Step f x y n → Step f x y (suc n)
+      more q = record { k = q .k; below = omega (arith, q .below); here = q .here }
+
+      by : (t : Bool) → Decides t (f n .1 ≡ y) → (List·Memᴰ x (columnsTo f y n) → Step f x y n) → List·Memᴰ x (cond t (f n .0 ∷ columnsTo f y n) (columnsTo f y n)) → Step f x y (suc n)
+      by true d fewer m = ⊎-elim (λ e. record { k = n; below = omega arith; here = λ i. (e i, sym (d .yes refl) i) }) (λ q. more (fewer q)) (List·Memᴰ·cases-cons m)
+      by false d fewer m = more (fewer m)
+
+  lists : (n : ℕ) → Step f x y n → List·Memᴰ x (columnsTo f y n)
+  lists zero q = absurd (omega (arith, q .below))
+  lists (suc n) q = by (eqZ (f n .1) y) (decides-eq (f n .1) y) (λ (l : q .k < n). lists n (record { k = q .k; below = l; here = q .here })) (decLt (q .k) n)
+    where
+      here : ¬ (q .k < n) → (x, y) ≡ f n
+      here l = q .here ∙ ap f (omega (arith, q .below))
+
+      by : (t : Bool) → Decides t (f n .1 ≡ y) → (q .k < n → List·Memᴰ x (columnsTo f y n)) → Dec (q .k < n) → List·Memᴰ x (cond t (f n .0 ∷ columnsTo f y n) (columnsTo f y n))
+      by true d fewer (yes l) = List·Memᴰ·tail (fewer l)
+      by true d fewer (no l) = List·Memᴰ·head (ap (λ (p : Point). p .0) (here l))
+      by false d fewer (yes l) = fewer l
+      by false d fewer (no l) = absurd (d .no refl (ap (λ (p : Point). p .1) (sym (here l))))
+
+module _ (s e : Point) (x y : ℤ) where
+  pub column-has : List·Memᴰ x (columns s e y) → HasPoint s e (x, y)
+  unfolding columns
+  column-has m = let q = listed (pointAt s e) x y (points s e) m in record { step = q .k; walked = omega (arith, q .below); here = q .here }
+
+  pub has-column : HasPoint s e (x, y) → List·Memᴰ x (columns s e y)
+  unfolding columns
+  has-column h = lists (pointAt s e) x y (points s e) (record { k = h .step; below = omega (arith, h .walked); here = h .here })
+
+-- the span of a line's points on a row
+pub line-spans : (s e : Point) (y : ℤ) → Spans (λ x. HasPoint s e (x, y)) (spanOf (columns s e y))
+line-spans s e y = span-map (λ x. List·Memᴰ x (columns s e y)) (λ x. HasPoint s e (x, y)) _ (λ x. column-has s e x y) (λ x. has-column s e x y) (list-spans (columns s e y))

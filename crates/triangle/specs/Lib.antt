@@ -1,0 +1,7 @@
+pub mod Order
+pub mod Triangle
+pub mod Between
+pub mod Row
+pub mod Offsets
+pub mod Box
+pub mod Answer

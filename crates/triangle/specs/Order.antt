@@ -1,0 +1,20 @@
+-- The vertices sorted by y, then x, to p1, p2, p3 (01, "Triangles").
+use mathlib.Core.Bool.{Bool, cond}
+use lib.Signed.{leZ, ltZ}
+use Rattle.whole.specs.Equal.{eqZ}
+use Rattle.geometry.specs.declared.Point.{Point}
+use Rattle.triangle.specs.declared.Sorted.{Sorted}
+
+-- a stands before b, or they are the same place
+unfoldable pub before : Point → Point → Bool
+before a b = cond (eqZ (a .1) (b .1)) (leZ (a .0) (b .0)) (ltZ (a .1) (b .1))
+
+abbrev pub three : Point → Point → Point → Sorted
+three a b c = record { p1 = a; p2 = b; p3 = c }
+
+-- c put into its place among a and b, which are sorted
+abbrev pub placed : Point → Point → Point → Sorted
+placed a b c = cond (before c a) (three c a b) (cond (before c b) (three a c b) (three a b c))
+
+unfoldable pub sorted : Point → Point → Point → Sorted
+sorted a b c = cond (before a b) (placed a b c) (placed b a c)

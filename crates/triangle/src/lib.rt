@@ -1,0 +1,220 @@
+// Triangles: whether a pixel is contained, the columns of a row, and the rows. Vertices may come in any order, lie on one line or coincide.
+ghost use mathlib.Core.Path.{_≡_};
+ghost use Prim.Native.Nat.{_+_, _*_, _<_, _≤_};
+ghost use lib.Signed.{_≤ℤ_};
+ghost use Rattle.geometry.specs.Bound.{Bounded};
+ghost use Rattle.geometry.specs.Answer.{verdict, span};
+ghost use Rattle.triangle.specs.Order.{before, placed, sorted};
+ghost use Rattle.triangle.specs.Triangle.{areaDoubled, noneBelow, noneAbove, onEdge, isFlat, contained};
+ghost use Rattle.triangle.specs.Offsets.{reach, start, firstOffset, lastOffset};
+ghost use Rattle.triangle.specs.Row.{joined, spanOf, columns, edgeColumns, rowSpan, firstRow, rowCount};
+ghost use Rattle.triangle.specs.Box.{isBeyond, isOutside};
+ghost use Rattle.triangle.specs.Answer.{vertexRefusal, rowsAnswer};
+use geometry::Point;
+use geometry::Span;
+use geometry::Verdict;
+
+// The vertices by y, then x.
+pub struct Sorted {
+    pub p1: Point,
+    pub p2: Point,
+    pub p3: Point,
+}
+
+// A span of columns: the first, and one past the last; empty if they are the same.
+pub struct Columns(pub i32, pub i32);
+
+// The rows of a triangle: the first, and how many. With a refusal its number, and 0 and 0.
+#[repr(C)]
+pub struct RowRange {
+    pub number: u32,
+    pub first: i32,
+    pub count: u32,
+}
+
+// Inside the library: 5 where a vertex is out of bounds, else 0.
+pub fn refusal(v1: Point, v2: Point, v3: Point) -> u32
+    ensures { λ r. ⌜ r ≡ vertexRefusal v1 v2 v3 ⌝ }
+{
+    if !geometry::in_bounds(v1) {
+        return 5;
+    }
+    if !geometry::in_bounds(v2) {
+        return 5;
+    }
+    if !geometry::in_bounds(v3) {
+        return 5;
+    }
+    0
+}
+
+// Inside the library: twice the signed area of p, a, b. Every product has a factor no longer than the edge from a to b, so that a pixel p may be anywhere.
+pub fn area_doubled(p: Point, a: Point, b: Point) -> i64
+    requires { ⌜ Bounded a × Bounded b ⌝ }
+    ensures { λ r. ⌜ r ≡ areaDoubled p a b ⌝ }
+{
+    let x = a.0 as i64;
+    let y = a.1 as i64;
+    let across = b.0 as i64 - x;
+    let down = b.1 as i64 - y;
+    across * (p.1 as i64 - y) - down * (p.0 as i64 - x)
+}
+
+// Whether a stands before b by y, then x, or in the same place.
+fn in_order(a: Point, b: Point) -> bool
+    ensures { λ r. ⌜ r ≡ before a b ⌝ }
+{
+    if a.1 == b.1 {
+        return a.0 <= b.0;
+    }
+    a.1 < b.1
+}
+
+// c put into its place among a and b, which are sorted.
+fn place(a: Point, b: Point, c: Point) -> Sorted
+    ensures { λ r. ⌜ r ≡ placed a b c ⌝ }
+{
+    if in_order(c, a) {
+        return Sorted {
+            p1: c,
+            p2: a,
+            p3: b,
+        };
+    }
+    if in_order(c, b) {
+        return Sorted {
+            p1: a,
+            p2: c,
+            p3: b,
+        };
+    }
+    Sorted {
+        p1: a,
+        p2: b,
+        p3: c,
+    }
+}
+
+// Inside the library: the vertices sorted by y, then x.
+pub fn sorted_yx(v1: Point, v2: Point, v3: Point) -> Sorted
+    ensures { λ r. ⌜ r ≡ sorted v1 v2 v3 ⌝ }
+{
+    if in_order(v1, v2) {
+        return place(v1, v2, v3);
+    }
+    place(v2, v1, v3)
+}
+
+// Whether x lies beyond a, b and c, on one side of all three.
+fn beyond(x: i32, a: i32, b: i32, c: i32) -> bool
+    ensures { λ r. ⌜ r ≡ isBeyond x a b c ⌝ }
+{
+    if x < a {
+        return x < b && x < c;
+    }
+    if a < x {
+        return b < x && c < x;
+    }
+    false
+}
+
+// Whether p lies outside the bounding box of the vertices.
+fn outside(v1: Point, v2: Point, v3: Point, p: Point) -> bool
+    ensures { λ r. ⌜ r ≡ isOutside v1 v2 v3 p ⌝ }
+{
+    beyond(p.0, v1.0, v2.0, v3.0) || beyond(p.1, v1.1, v2.1, v3.1)
+}
+
+// Whether a, b, c are all at least 0.
+fn none_below(a: i64, b: i64, c: i64) -> bool
+    ensures { λ r. ⌜ r ≡ noneBelow a b c ⌝ }
+{
+    if 0 <= a {
+        return 0 <= b && 0 <= c;
+    }
+    false
+}
+
+// Whether a, b, c are all at most 0.
+fn none_above(a: i64, b: i64, c: i64) -> bool
+    ensures { λ r. ⌜ r ≡ noneAbove a b c ⌝ }
+{
+    if a <= 0 {
+        return b <= 0 && c <= 0;
+    }
+    false
+}
+
+// Whether p is a point of one of the three edges.
+fn on_edge(t: Sorted, p: Point) -> bool
+    requires { ⌜ Bounded (t .p1) × Bounded (t .p2) × Bounded (t .p3) ⌝ }
+    ensures { λ r. ⌜ r ≡ onEdge (t .p1) (t .p2) (t .p3) p ⌝ }
+{
+    if line::meets(t.p1, t.p2, p) {
+        return true;
+    }
+    if line::meets(t.p1, t.p3, p) {
+        return true;
+    }
+    line::meets(t.p2, t.p3, p)
+}
+
+// Whether an accepted triangle contains p. Most pixels are answered by the box or by the three areas, whose sum is the whole area.
+fn holds(v1: Point, v2: Point, v3: Point, p: Point) -> bool
+    requires { ⌜ Bounded v1 × Bounded v2 × Bounded v3 ⌝ }
+    ensures { λ r. ⌜ r ≡ contained v1 v2 v3 p ⌝ }
+{
+    if outside(v1, v2, v3, p) {
+        return false;
+    }
+    let a = area_doubled(p, v1, v2);
+    let b = area_doubled(p, v2, v3);
+    let c = area_doubled(p, v3, v1);
+    if a + b + c == 0 {
+        let t = sorted_yx(v1, v2, v3);
+        return line::meets(t.p1, t.p3, p);
+    }
+    if none_below(a, b, c) {
+        return true;
+    }
+    if none_above(a, b, c) {
+        return true;
+    }
+    on_edge(sorted_yx(v1, v2, v3), p)
+}
+
+// Whether the triangle contains p: any pixel may be asked.
+pub fn contains(v1: Point, v2: Point, v3: Point, p: Point) -> Verdict
+    ensures { λ r. ⌜ r ≡ verdict (vertexRefusal v1 v2 v3) (contained v1 v2 v3 p) ⌝ }
+{
+    let number = refusal(v1, v2, v3);
+    if number != 0 {
+        return Verdict { number, yes: false };
+    }
+    Verdict {
+        number: 0,
+        yes: holds(v1, v2, v3, p),
+    }
+}
+
+// The first row of a triangle, and how many it has.
+pub fn rows(v1: Point, v2: Point, v3: Point) -> RowRange
+    ensures { λ r. ⌜ r ≡ rowsAnswer (vertexRefusal v1 v2 v3) (firstRow v1 v2 v3) (rowCount v1 v2 v3) ⌝ }
+{
+    let number = refusal(v1, v2, v3);
+    if number != 0 {
+        return RowRange {
+            number,
+            first: 0,
+            count: 0,
+        };
+    }
+    let t = sorted_yx(v1, v2, v3);
+    let top = t.p1;
+    let bottom = t.p3;
+    RowRange {
+        number: 0,
+        first: top.1,
+        count: (bottom.1 - top.1) as u32 + 1,
+    }
+}

@@ -36,7 +36,7 @@ colourRefusal f colour next = cond (leb (2 ^ (f .depth)) colour) 4 next
 
 -- 8: the pixel is outside the frame
 abbrev pub outsideRefusal : Frame → Point → ℕ → ℕ
-outsideRefusal f p next = cond (inPane (ownPane f) (p .0) (p .1)) next 8
+outsideRefusal f p next = cond (not (inPane (ownPane f) (p .0) (p .1))) 8 next
 
 -- "Size of a frame: 1, 2"
 abbrev pub sizeNumber : Frame → ℕ

@@ -1,7 +1,6 @@
 // Sets, reads and fills frames of all depths, both orders and many widths, over a buffer preset to 0xA5 with a tail, and writes what it finds as
 // lines of hexadecimal numbers.
 ghost use Prim.Native.Nat.{_<_, _≤_};
-
 use framebuffer::Frame;
 use geometry::Point;
 use libc::STDOUT_FILENO;
@@ -69,7 +68,12 @@ fn set_row(buf: &mut [u8], frame: Frame, y: u32)
     let width = frame.width;
     let mut x = 0u32;
     while x < width {
-        framebuffer::set_pixel(buf, frame, Point(x as i32, y as i32), colour_of(depth, x, y));
+        framebuffer::set_pixel(
+            buf,
+            frame,
+            Point(x as i32, y as i32),
+            colour_of(depth, x, y),
+        );
         x += 1;
     }
 }

@@ -3,14 +3,14 @@ use mathlib.Core.Path.{_≡_, refl, sym, ap, ap₂, _∙_, subst}
 use mathlib.Core.Bool.{Bool, true, false, cond}
 use mathlib.Core.List.{List}
 use Prim.Native.Nat.{ℕ, zero, suc, _+_, _*_, _/_, _%_, _^_, _≤_, _<_}
-use native.Mathlib.Nat.{le-refl, one-le-pow, zero-mod, zero-div}
+use native.Mathlib.Nat.{le-refl, zero-mod, zero-div}
 use native.Mathlib.Omega.{arith}
 use lib.Arith.{digits-div, digits-mod, digits-lt}
 use lib.IntN.{ℤ, pos}
 use lib.ListN.{length, getD, replicate}
 use lib.Pow.{pow-pos}
 use lib.Seq.{getD-set-other}
-use Rattle.layout.specs.Digits.{digit, replaced, value, cell, putDigits}
+use Rattle.layout.specs.Digits.{digit, replaced, cell, putDigits}
 use Rattle.layout.specs.Paint.{putIf, paint}
 use Rattle.layout.specs.Raster.{Raster, Sound, field, parts, byteOf, slotOf, putPixel, getPixel, putNo, getNo, painted}
 use Rattle.layout.proofs.Screen.{get-paint}

@@ -23,19 +23,19 @@ good c = sym (c .before .depth-ok .ensures) ∙ not-false _ (c .if1 .left)
 
 returns-2 : tie.Need-returns-2
 returns-2 c =
-    let w : ltb 2048 (c .before .before .before .before .args .frame .width) ≡ true = lt-ltb _ _ (omega arith) in
+    let w : ltb 2048 (c .before .before .before .before .args .frame .width) ≡ true = lt-ltb 2048 (c .before .before .before .before .args .frame .width) (omega arith) in
     simp (good (c .before .before), w)
 
 returns-3 : tie.Need-returns-3
 returns-3 c =
-    let w : ltb 2048 (c .before .before .before .before .before .before .args .frame .width) ≡ false = le-ltb _ _ (omega arith) in
-    let h : ltb 2048 (c .before .before .before .before .before .before .args .frame .height) ≡ true = lt-ltb _ _ (omega arith) in
+    let w : ltb 2048 (c .before .before .before .before .before .before .args .frame .width) ≡ false = le-ltb 2048 (c .before .before .before .before .before .before .args .frame .width) (omega arith) in
+    let h : ltb 2048 (c .before .before .before .before .before .before .args .frame .height) ≡ true = lt-ltb 2048 (c .before .before .before .before .before .before .args .frame .height) (omega arith) in
     simp (good (c .before .before .before .before), w, h)
 
 returns-4 : tie.Need-returns-4
 returns-4 c =
-    let w : ltb 2048 (c .before .before .before .before .before .before .args .frame .width) ≡ false = le-ltb _ _ (omega arith) in
-    let h : ltb 2048 (c .before .before .before .before .before .before .args .frame .height) ≡ false = le-ltb _ _ (omega arith) in
+    let w : ltb 2048 (c .before .before .before .before .before .before .args .frame .width) ≡ false = le-ltb 2048 (c .before .before .before .before .before .before .args .frame .width) (omega arith) in
+    let h : ltb 2048 (c .before .before .before .before .before .before .args .frame .height) ≡ false = le-ltb 2048 (c .before .before .before .before .before .before .args .frame .height) (omega arith) in
     simp (good (c .before .before .before .before), w, h)
 
 pub description-refusal-spec : {M : Type 1} → statement M

@@ -1,5 +1,5 @@
 -- Spans at depths 1, 2 and 4: the byte of a pixel, the pixels that a mask picks of it, and the bytes between. Assumes nothing.
-use mathlib.Core.Path.{_≡_, refl, sym, ap, ap₂, _∙_, subst}
+use mathlib.Core.Path.{_≡_, sym, ap, _∙_, subst}
 use mathlib.Core.List.{List}
 use Prim.Native.Nat.{ℕ, _+_, _-_, _*_, _/_, _%_, _^_, _≤_, _<_}
 use native.Mathlib.Nat.{mod-lt, div-add-mod', mul-le-mul-right, mul-div-cancel}
@@ -10,12 +10,12 @@ use Rattle.layout.specs.Digits.{value}
 use Rattle.layout.specs.Raster.{rowBytes, field, parts, per, painted}
 use Rattle.layout.proofs.Places.{small, depth-pos, depth-of, per-pos}
 use Rattle.layout.proofs.Spans.{columns}
-use Rattle.layout.proofs.Painted.{span-empty, span-then}
+use Rattle.layout.proofs.Painted.{span-then}
 use Rattle.layout.proofs.Bytes.{Bytes, byte-at, head, tail, inner}
 use Rattle.framebuffer.specs.declared.Frame.{Frame}
 use Rattle.framebuffer.specs.Description.{raster, size}
 use Rattle.framebuffer.specs.Words.{onwardMask, mergedAt}
-use Rattle.framebuffer.proofs.Refusals.{Drawable, sound, pixel-room}
+use Rattle.framebuffer.proofs.Refusals.{Drawable, sound}
 
 module _ (f : Frame) (len colour : ℕ) (A : Drawable f len colour) (s : f .depth < 8) where
   abbrev d : ℕ

@@ -4,3 +4,6 @@ pub mod Parts
 pub mod Panes
 pub mod Edges
 pub mod Clips
+pub mod Determined
+pub mod Exactly
+pub mod Known

@@ -1,18 +1,18 @@
 -- Places and rectangles: a coordinate as the code reads it, and a pixel of a rectangle as a figure. Assumes nothing.
-use mathlib.Core.Path.{_≡_, refl, sym, ap, ap₂, _∙_, subst}
+use mathlib.Core.Path.{_≡_, refl, sym, ap, ap₂, _∙_}
 use mathlib.Core.Bool.{Bool, true, false, _&&_, true≢false}
 use mathlib.Core.List.{List}
-use Prim.Native.Nat.{ℕ, _≤_, _<_, _^_}
+use Prim.Native.Nat.{ℕ, _≤_, _<_}
 use native.Mathlib.Nat.{le-refl}
 use native.Mathlib.Omega.{arith}
-use lib.Dec.{T, leb, ltb}
+use lib.Dec.{leb, ltb}
 use lib.IntN.{ℤ, pos, negsuc, natAbs}
-use lib.Signed.{nonNeg, ltZ, leZ, mag}
+use lib.Signed.{ltZ}
 use borrow.Author.Tests.{ltb-true, leb-true, lt-ltb, le-leb, le-ltb}
 use Rattle.layout.specs.Figure.{single}
 use Rattle.whole.specs.Equal.{eqZ}
 use Rattle.layout.specs.Raster.{putPixel, painted}
-use Rattle.layout.proofs.Tests.{same-test, fails, and-true, true-and, eqZ-true, eqZ-refl}
+use Rattle.layout.proofs.Tests.{same-test, fails, and-true, true-and, eqZ-true}
 use Rattle.layout.proofs.Painted.{painted-cong, painted-none, put-single}
 use Rattle.framebuffer.specs.declared.Frame.{Frame}
 use Rattle.framebuffer.specs.declared.Pane.{Pane}

@@ -4,7 +4,7 @@ use mathlib.Core.Bool.{Bool, true, false}
 use mathlib.Core.List.{List, _++_}
 use mathlib.Core.Logic.{_⊎_, inl, inr}
 use Prim.Native.Nat.{ℕ, zero, suc, _+_, _-_, _*_, _/_, _%_, _^_, _≤_, _<_, min}
-use native.Mathlib.Nat.{mod-lt, mod-eq-of-lt, div-add-mod', mul-zero, mul-suc, mul-comm, div-one, div-div-eq-div-mul, not-suc-le-zero, mul-lt-mul-of-pos-right, mul-le-mul-left, pow-suc}
+use native.Mathlib.Nat.{mod-lt, mod-eq-of-lt, div-add-mod', mul-zero, mul-suc, mul-comm, div-one, div-div-eq-div-mul, not-suc-le-zero, mul-lt-mul-of-pos-right, pow-suc}
 use native.Mathlib.Omega.{arith}
 use lib.Arith.{digits-mod}
 use lib.Bits.{bitAnd, bitOr, and-mask, or-shifted}

@@ -102,7 +102,7 @@ pub record Accepted (f : Frame) (len : ℕ) : Type 0 where
 pub is-accepted : (f : Frame) (len : ℕ) → descriptionRefusal f (bufferRefusal f len 0) ≡ 0 → Accepted f len
 is-accepted f len z =
     let p = both-pass (description-nest f) (buffer-nest f len) z in
-    record { described = is-described f (p .0); room = ltb-false _ _ (test-passed _ 2 (p .1)) }
+    record { described = is-described f (p .0); room = ltb-false len (size f) (test-passed _ 2 (p .1)) }
 
 -- a frame that a colour may be drawn on
 pub record Drawable (f : Frame) (len colour : ℕ) : Type 0 where

@@ -2,7 +2,7 @@
 -- drawing call leaves. A refusal takes as `next` what the tests after it answer, so that the lowest number wins.
 use mathlib.Core.Bool.{Bool, cond, not, _||_}
 use mathlib.Core.List.{List}
-use Prim.Native.Nat.{ℕ, _*_, _^_}
+use Prim.Native.Nat.{ℕ, _+_, _*_, _^_}
 use lib.Dec.{eqb, leb, ltb}
 use lib.IntN.{ℤ, natAbs}
 use Rattle.geometry.specs.declared.Point.{Point}
@@ -36,7 +36,7 @@ colourRefusal f colour next = cond (leb (2 ^ (f .depth)) colour) 4 next
 
 -- 8: the pixel is outside the frame
 abbrev pub outsideRefusal : Frame → Point → ℕ → ℕ
-outsideRefusal f p next = cond (inPane (ownPane f) (p .0) (p .1)) next 8
+outsideRefusal f p next = cond (not (inPane (ownPane f) (p .0) (p .1))) 8 next
 
 -- "Size of a frame: 1, 2"
 abbrev pub sizeNumber : Frame → ℕ

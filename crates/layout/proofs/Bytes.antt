@@ -7,7 +7,7 @@ use mathlib.Core.List.{List, _++_}
 use Prim.Native.Nat.{ℕ, zero, suc, _+_, _-_, _*_, _/_, _%_, _^_, _≤_, _<_}
 use native.Mathlib.Nat.{mod-lt, mod-eq-of-lt, div-add-mod', div-one, mul-div-cancel, mul-one, mul-comm, add-zero, mul-le-mul-right, le-refl, not-suc-le-zero}
 use native.Mathlib.Omega.{arith}
-use lib.Arith.{digits-div, digits-mod, digits-lt}
+use lib.Arith.{digits-div, digits-mod}
 use lib.Bits.{bitAnd, bitOr}
 use lib.Dec.{eqb, leb, ltb}
 use lib.IntN.{pos}
@@ -15,10 +15,10 @@ use lib.Signed.{ltZ}
 use lib.Pow.{pow-pos}
 use lib.ListN.{length, getD, set, take, drop, length-drop}
 use lib.Seq.{set-set, getD-set-same, getD-set-other, set-getD, ext-getD, getD-take, getD-drop, length-take-le}
-use borrow.Author.Tests.{eq-eqb, ne-eqb, leb-true, ltb-true, le-leb, lt-ltb, le-ltb, ltb-false, lt-leb}
+use borrow.Author.Tests.{eq-eqb, ne-eqb, leb-true, ltb-true, le-leb, lt-ltb, le-ltb, lt-leb}
 use Rattle.layout.specs.Digits.{digit, replaced, value, setCell, putDigits, setRun}
 use Rattle.layout.specs.Figure.{everywhere}
-use Rattle.layout.specs.Raster.{Raster, Sound, goodDepth, rowBytes, field, parts, per, turned, byteOf, slotOf, putPixel, getPixel, painted, fullByte}
+use Rattle.layout.specs.Raster.{Raster, Sound, field, parts, per, turned, byteOf, slotOf, putPixel, getPixel, painted, fullByte}
 use Rattle.layout.proofs.Tests.{eq-or-not, lt-or-ge, same-test, and-true, true-and}
 use Rattle.layout.proofs.Cells.{digit-lt, value-cong, value-digits, puts-len}
 use Rattle.layout.proofs.Places.{Depth, depth-of, column, per-pos, parts-pos, depth-pos, turned-below, turned-twice}

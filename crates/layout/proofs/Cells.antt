@@ -1,10 +1,10 @@
 -- Laws of digits, of one number and of the bytes of a buffer; and that a layout which puts no two digits of pixels at one place has the laws of
 -- `Screen`. Assumes nothing.
 use mathlib.Core.Path.{_≡_, refl, sym, ap, ap₂, _∙_, subst}
-use mathlib.Core.Logic.{⊎-elim, _⊎_, inl, inr}
+use mathlib.Core.Logic.{_⊎_, inl, inr}
 use mathlib.Core.List.{List}
 use Prim.Native.Nat.{ℕ, zero, suc, _+_, _*_, _/_, _%_, _^_, _≤_, _<_}
-use native.Mathlib.Nat.{le-refl, lt-irrefl, not-suc-le-zero, mod-lt, mod-mod, div-add-mod', div-lt-iff-lt-mul, pow-suc, pow-zero, mod-eq-of-lt}
+use native.Mathlib.Nat.{le-refl, not-suc-le-zero, mod-lt, mod-mod, div-add-mod', div-lt-iff-lt-mul, pow-suc, pow-zero, mod-eq-of-lt}
 use native.Mathlib.Omega.{arith}
 use lib.Arith.{digits-div, digits-mod, lt-one}
 use lib.ListN.{length, getD, set, length-set}

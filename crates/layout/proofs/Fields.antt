@@ -3,16 +3,16 @@ use mathlib.Core.Path.{_≡_, refl, sym, ap, ap₂, _∙_, subst}
 use mathlib.Core.Logic.{⊎-elim, _⊎_, inl, inr}
 use mathlib.Core.Bool.{Bool, true, false, cond, not, _&&_}
 use Prim.Native.Nat.{ℕ, zero, suc, _+_, _-_, _*_, _/_, _%_, _^_, _≤_, _<_}
-use native.Mathlib.Nat.{mod-eq-of-lt, mod-mod, mul-zero, mul-suc, mul-assoc, mul-comm, mul-one, pow-suc, pow-zero, mul-div-cancel, not-suc-le-zero, add-zero, le-refl}
+use native.Mathlib.Nat.{mod-eq-of-lt, mod-mod, mul-zero, mul-suc, mul-assoc, pow-suc, pow-zero, mul-div-cancel, not-suc-le-zero, add-zero}
 use native.Mathlib.Omega.{arith}
 use lib.Arith.{digits-lt, digits-div, digits-mod, mul-pred}
 use lib.Dec.{eqb, ltb}
-use lib.Bits.{bitAnd, bitOr, and-block, or-block, and-mask, and-zero-r, or-zero-r, or-zero-l, and-lt}
+use lib.Bits.{bitAnd, bitOr, and-block, or-block, and-mask, and-zero-r, or-zero-r, and-lt}
 use lib.Pow.{pow-pos, pow-add}
 use borrow.Author.Tests.{eq-eqb, ne-eqb, lt-ltb, le-ltb}
 use Rattle.layout.specs.Digits.{digit, replaced, value}
 use Rattle.layout.proofs.Tests.{eq-or-not, lt-or-ge}
-use Rattle.layout.proofs.Cells.{digit-lt, digit-value, value-cong, value-digits}
+use Rattle.layout.proofs.Cells.{digit-lt, value-cong, value-digits}
 
 -- ---- powers
 pub pow-mul : (n k : ℕ) → (2 ^ n) ^ k ≡ 2 ^ (n * k)

@@ -8,3 +8,4 @@ pub mod Spans
 pub mod Runs
 pub mod Fields
 pub mod Bytes
+pub mod Kept

@@ -1,5 +1,5 @@
 -- `framebuffer::buffer_size_bpp` answers the refusal of the description, or the bytes. Assumes nothing.
-use mathlib.Core.Path.{_≡_, sym, ap, ap₂, _∙_}
+use mathlib.Core.Path.{sym, ap, ap₂, _∙_}
 use Prim.Native.Nat.{ℕ}
 use borrow.Author.Needs.{needs}
 use Rattle.framebuffer.specs.Answer.{sized}

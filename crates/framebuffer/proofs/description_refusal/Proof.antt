@@ -1,6 +1,7 @@
 -- `framebuffer::description_refusal` makes the tests of 1 and 2 in their order. Assumes nothing.
 use mathlib.Core.Path.{_≡_, sym, _∙_}
 use mathlib.Core.Bool.{true, false}
+use native.Mathlib.Omega.{arith}
 use lib.Dec.{ltb}
 use borrow.Author.Needs.{needs}
 use borrow.Author.Tests.{lt-ltb, le-ltb, not-true, not-false}
@@ -22,19 +23,19 @@ good c = sym (c .before .depth-ok .ensures) ∙ not-false _ (c .if1 .left)
 
 returns-2 : tie.Need-returns-2
 returns-2 c =
-    let w : ltb 2048 (c .before .before .before .before .args .frame .width) ≡ true = lt-ltb _ _ (c .if2 .taken) in
+    let w : ltb 2048 (c .before .before .before .before .args .frame .width) ≡ true = lt-ltb 2048 (c .before .before .before .before .args .frame .width) (omega arith) in
     simp (good (c .before .before), w)
 
 returns-3 : tie.Need-returns-3
 returns-3 c =
-    let w : ltb 2048 (c .before .before .before .before .before .before .args .frame .width) ≡ false = le-ltb _ _ (c .before .before .if2 .left) in
-    let h : ltb 2048 (c .before .before .before .before .before .before .args .frame .height) ≡ true = lt-ltb _ _ (c .if3 .taken) in
+    let w : ltb 2048 (c .before .before .before .before .before .before .args .frame .width) ≡ false = le-ltb 2048 (c .before .before .before .before .before .before .args .frame .width) (omega arith) in
+    let h : ltb 2048 (c .before .before .before .before .before .before .args .frame .height) ≡ true = lt-ltb 2048 (c .before .before .before .before .before .before .args .frame .height) (omega arith) in
     simp (good (c .before .before .before .before), w, h)
 
 returns-4 : tie.Need-returns-4
 returns-4 c =
-    let w : ltb 2048 (c .before .before .before .before .before .before .args .frame .width) ≡ false = le-ltb _ _ (c .before .before .if2 .left) in
-    let h : ltb 2048 (c .before .before .before .before .before .before .args .frame .height) ≡ false = le-ltb _ _ (c .if3 .left) in
+    let w : ltb 2048 (c .before .before .before .before .before .before .args .frame .width) ≡ false = le-ltb 2048 (c .before .before .before .before .before .before .args .frame .width) (omega arith) in
+    let h : ltb 2048 (c .before .before .before .before .before .before .args .frame .height) ≡ false = le-ltb 2048 (c .before .before .before .before .before .before .args .frame .height) (omega arith) in
     simp (good (c .before .before .before .before), w, h)
 
 pub description-refusal-spec : {M : Type 1} → statement M

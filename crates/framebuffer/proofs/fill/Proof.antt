@@ -37,7 +37,10 @@ mul-if2-2 c =
     record { fits = omega (arith, product (a .frame) (is-drawable (a .frame) _ (a .colour) (zero (c .before .before)) .accepted .described)) }
 
 fill-run-requires : tie.Need-fill-run-requires
-fill-run-requires c κs = (zero (c .before .before .before .before), ap (λ (n : ℕ). n * 8) (sym (c .before .before .before .row-distance .ensures .0)) ∙ c .before .if2 .taken)
+fill-run-requires c κs =
+    let e = c .before .before .before .row-distance .ensures .0 in
+    let t = c .before .if2 .taken in
+    (zero (c .before .before .before .before), omega arith)
 
 fill-rows-requires : tie.Need-fill-rows-requires
 fill-rows-requires c κs =

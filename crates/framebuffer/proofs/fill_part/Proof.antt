@@ -1,5 +1,5 @@
 -- `framebuffer::fill_part` stores one byte throughout, or repeats the bytes of a pixel. Assumes nothing.
-use mathlib.Core.Path.{_≡_, refl, sym, _∙_}
+use mathlib.Core.Path.{refl, sym, _∙_}
 use native.Mathlib.Nat.{le-of-lt}
 use native.Mathlib.Omega.{arith}
 use lib.ListN.{length}

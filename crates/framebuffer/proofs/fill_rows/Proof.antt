@@ -58,7 +58,7 @@ returns : tie.Need-returns Inv-loop μ-loop
 returns c =
     let s = c .before .before .before in
     let l = c .before .loop in
-    l .inv .2 ∙ rows-end (raster (s .args .frame)) (ok s) (s .args .colour) (s .args .buf .now) (l .y) (c .loop-test .left)
+    l .inv .2 ∙ rows-end (raster (s .args .frame)) (ok s) (s .args .colour) (s .args .buf .now) (l .y) (omega arith)
 
 pub fill-rows-spec : {M : Type 1} → statement M
 fill-rows-spec =

@@ -71,7 +71,7 @@ paint-columns-requires c κs =
     let e = row (c .before .before .before .before .before .before .before) in
     let p = past (c .before .before) in
     let h = clip-bounds (a .end) (a .pane .left) (a .pane .right) (s .pre .1 .order) .1 in
-    (s .pre .0, omega arith, c .before .if2 .taken, omega arith)
+    (s .pre .0, omega arith, omega arith, omega arith)
 
 same-length : tie.Need-same-length
 same-length c = search needs

@@ -1,6 +1,6 @@
 -- `framebuffer::pixel` answers the frame's refusal, 8 outside the frame, or what it reads. Assumes nothing.
 use mathlib.Core.Path.{_≡_, sym, ap, ap₂, subst, _∙_}
-use mathlib.Core.Bool.{Bool, cond}
+use mathlib.Core.Bool.{Bool, cond, not}
 use Prim.Native.Nat.{ℕ, _<_}
 use lib.IntN.{pos, natAbs}
 use lib.ListN.{length}
@@ -70,7 +70,7 @@ returns-2 c =
     let a = c .before .before .before .before .before .before .before .before .before .before .args in
     let e : readNumber (a .frame) (length (a .buf .now)) (a .p) ≡ 8 =
     passed (frame-nest (a .frame) (length (a .buf .now))) (outsideRefusal (a .frame) (a .p) 0) (zero (c .before .before .before .before .before .before .before))
-    ∙ ap (λ (t : Bool). cond t 0 8) (told (c .before) ∙ not-true _ (c .if2 .taken)) in
+    ∙ ap (λ (t : Bool). cond (not t) 8 0) (told (c .before) ∙ not-true _ (c .if2 .taken)) in
     sym (ap (λ (n : ℕ). read n (colourAt (a .frame) (a .p) (a .buf .now))) e)
 
 -- the place is in the frame
@@ -90,7 +90,7 @@ returns-3 c =
     let t = told (c .before .before) ∙ not-false _ (c .before .if2 .left) in
     let z = pane-place (ownPane (a .frame)) (a .p .0) (a .p .1) t in
     let e : readNumber (a .frame) (length (a .buf .now)) (a .p) ≡ 0 =
-    passed (frame-nest (a .frame) (length (a .buf .now))) (outsideRefusal (a .frame) (a .p) 0) (zero (c .before .before .before .before .before .before .before .before)) ∙ ap (λ (t : Bool). cond t 0 8) t in
+    passed (frame-nest (a .frame) (length (a .buf .now))) (outsideRefusal (a .frame) (a .p) 0) (zero (c .before .before .before .before .before .before .before .before)) ∙ ap (λ (t : Bool). cond (not t) 8 0) t in
     ap₂ read (sym e)
     (c .read-point .ensures
     ∙ ap₂ (λ (x y : ℕ). getPixel (raster (a .frame)) x y (a .buf .now)) (across (c .before .before .before .before .before) ∙ sym (ap natAbs (z .0))) (down (c .before .before .before .before) ∙ sym (ap natAbs (z .1))))

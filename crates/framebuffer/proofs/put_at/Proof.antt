@@ -10,7 +10,7 @@ use Rattle.layout.specs.Raster.{goodDepth, field, parts, per, slotOf}
 use Rattle.layout.proofs.Places.{small, large, depth-pos, depth-le}
 use Rattle.layout.proofs.Bytes.{pixel-set, pixel-stored}
 use Rattle.framebuffer.specs.Description.{raster}
-use Rattle.framebuffer.proofs.Refusals.{Accepted, is-accepted, Drawable, is-drawable, frame-passed, description-passed, sound, pixel-room, pixel-small}
+use Rattle.framebuffer.proofs.Refusals.{Drawable, is-drawable, frame-passed, description-passed, sound, pixel-room, pixel-small}
 use Rattle.framebuffer.proofs.put_at.Statement.{statement}
 use Rattle.framebuffer.proofs.put_at.Tie as tie
 

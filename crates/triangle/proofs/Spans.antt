@@ -117,6 +117,7 @@ module _ (E F : ℤ → Type 0) (s t : Columns) where
         record { last = l .last; past = l .past; at-first = f .at; at-last = l .at; least = f .least; largest = l .largest }
 
   pub join-spans : Spans E s → Spans F t → Spans Both (joined s t)
+  unfolding joined
   join-spans (inl a) (inl b) = rw (full E s a, full F t b) (inl (join-both a b))
   join-spans (inl a) (inr m) = rw (full E s a, empty t (m .0)) (span-map E Both s (λ x. inl) (λ x. ⊎-elim (λ q. q) (λ q. absurd (m .1 x q))) (inl a))
   join-spans (inr n) b = rw (empty s (n .0)) (span-map F Both t (λ x. inr) (λ x. ⊎-elim (λ q. absurd (n .1 x q)) (λ q. q)) b)

@@ -18,6 +18,7 @@ use Rattle.whole.proofs.Order.{le-trans, le-antisym, lt-le}
 use Rattle.geometry.specs.declared.Point.{Point}
 use Rattle.line.specs.Line.{pointAt, points, major, HasPoint}
 use Rattle.triangle.specs.declared.Columns.{Columns}
+use Rattle.triangle.proofs.Run.{Run}
 use Rattle.triangle.specs.Row.{joined, spanOf, inSpan, columnsTo, columns}
 
 -- ---- the span of the columns E
@@ -183,3 +184,12 @@ module _ (s e : Point) (x y : ℤ) where
 -- the span of a line's points on a row
 pub line-spans : (s e : Point) (y : ℤ) → Spans (λ x. HasPoint s e (x, y)) (spanOf (columns s e y))
 line-spans s e y = span-map (λ x. List·Memᴰ x (columns s e y)) (λ x. HasPoint s e (x, y)) _ (λ x. column-has s e x y) (λ x. has-column s e x y) (list-spans (columns s e y))
+
+-- it is the run, or there is none
+pub run-span : (s e : Point) (y lo hi : ℤ) → Run s e y lo hi → spanOf (columns s e y) ≡ (lo, hi +ℤ pos 1)
+run-span s e y lo hi r =
+    span-one (λ x. HasPoint s e (x, y)) _ _ (line-spans s e y)
+    (inl (record { last = hi; past = refl; at-first = r .on lo (≤ℤ-refl lo) (r .some); at-last = r .on hi (r .some) (≤ℤ-refl hi); least = λ x q. r .has x q .0; largest = λ x q. r .has x q .1 }))
+
+pub no-span : (s e : Point) (y : ℤ) → ((x : ℤ) → HasPoint s e (x, y) → ⊥) → spanOf (columns s e y) ≡ (pos 0, pos 0)
+no-span s e y n = span-one (λ x. HasPoint s e (x, y)) _ _ (line-spans s e y) (inr (refl, n))

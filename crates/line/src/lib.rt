@@ -50,8 +50,8 @@ pub struct Step {
     pub point: Point,
 }
 
-// How far b is from a.
-fn distance(a: i32, b: i32) -> i32
+// Inside the library: how far b is from a.
+pub fn distance(a: i32, b: i32) -> i32
     requires { ⌜ Coord a × Coord b ⌝ }
     ensures { λ r. ⌜ r ≡ pos (natAbs (b -ℤ a)) ⌝ }
 {
@@ -166,8 +166,8 @@ impl Walker {
     }
 }
 
-// The moves along the minor axis at step k, by the rule. The minor length comes doubled, as a course has it.
-fn moves_at(major: u32, up: u32, k: u32) -> u32
+// Inside the library: the moves along the minor axis at step k, by the rule. The minor length comes doubled, as a course has it.
+pub fn moves_at(major: u32, up: u32, k: u32) -> u32
     requires { ⌜ (k ≤ major) × (major ≤ 262144) × (up ≤ 2 * major) ⌝ }
     ensures { λ r. ⌜ ((minor : ℕ) → up ≡ 2 * minor → r ≡ moves major minor k) ⌝ }
 {

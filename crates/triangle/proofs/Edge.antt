@@ -81,27 +81,35 @@ pub edge-rows : (s e p : Point) → s .1 ≤ℤ e .1 → HasPoint s e p → (s .
 edge-rows s e p d q = (edge-top s e p q (s .1) (≤ℤ-refl (s .1)) d, edge-bottom s e p q (e .1) d (≤ℤ-refl (e .1)))
 
 -- ---- each row of an edge that runs down has a run of points
+module _ (s e : Point) (y : ℤ) (a : s .1 ≤ℤ y) (b : y ≤ℤ e .1) where
+  -- the row is v below the start
+  abbrev v : ℕ
+  v = natAbs (y -ℤ s .1)
+
+  pub edge-row : v ≤ high s e
+  unfolding high
+  edge-row = omega (arith, le-nat b, sum-nat y (s .1) v (moves-to (s .1) y a), sum-nat (e .1) (s .1) (natAbs (e .1 -ℤ s .1)) (moves-to (s .1) (e .1) (le-trans a b)))
+
+  pub edge-offsets : Offsets (wide s e) (high s e) v (firstOffset (wide s e) (high s e) v) (lastOffset (wide s e) (high s e) v)
+  edge-offsets = offsets (wide s e) (high s e) v edge-row
+
+  pub edge-run-right : leZ (s .0) (e .0) ≡ true → Run s e y (s .0 +ℤ pos (firstOffset (wide s e) (high s e) v)) (s .0 +ℤ pos (lastOffset (wide s e) (high s e) v))
+  edge-run-right h = run-right s e y v _ _ (le-trans a b) (moves-to (s .1) y a) edge-offsets h
+
+  pub edge-run-left : leZ (s .0) (e .0) ≡ false → Run s e y (s .0 -ℤ pos (lastOffset (wide s e) (high s e) v)) (s .0 -ℤ pos (firstOffset (wide s e) (high s e) v))
+  edge-run-left h = run-left s e y v _ _ (le-trans a b) (moves-to (s .1) y a) edge-offsets h
+
 pub record RunOn (s e : Point) (y : ℤ) : Type 0 where
   pub lo : ℤ
   pub hi : ℤ
   pub run : Run s e y lo hi
 
 pub run-on : (s e : Point) (y : ℤ) → s .1 ≤ℤ y → y ≤ℤ e .1 → RunOn s e y
-unfolding high
 run-on s e y a b = by (leZ (s .0) (e .0)) refl
   where
-    d : s .1 ≤ℤ e .1
-    d = le-trans a b
-
-    v : ℕ
-    v = natAbs (y -ℤ s .1)
-
-    o : Offsets (wide s e) (high s e) v (firstOffset (wide s e) (high s e) v) (lastOffset (wide s e) (high s e) v)
-    o = offsets (wide s e) (high s e) v (omega (arith, le-nat b, sum-nat y (s .1) v (moves-to (s .1) y a), sum-nat (e .1) (s .1) (natAbs (e .1 -ℤ s .1)) (moves-to (s .1) (e .1) d)))
-
     by : (t : Bool) → leZ (s .0) (e .0) ≡ t → RunOn s e y
-    by true h = record { lo = _; hi = _; run = run-right s e y v _ _ d (moves-to (s .1) y a) o h }
-    by false h = record { lo = _; hi = _; run = run-left s e y v _ _ d (moves-to (s .1) y a) o h }
+    by true h = record { lo = _; hi = _; run = edge-run-right s e y a b h }
+    by false h = record { lo = _; hi = _; run = edge-run-left s e y a b h }
 
 -- between two points of one row there is no gap
 pub no-gap : (s e : Point) (y a x b : ℤ) → s .1 ≤ℤ e .1 → HasPoint s e (a, y) → HasPoint s e (b, y) → a ≤ℤ x → x ≤ℤ b → HasPoint s e (x, y)
@@ -109,3 +117,16 @@ no-gap s e y a x b d p q l u =
     let r = edge-rows s e (a, y) d p in
     let n = run-on s e y (r .0) (r .1) in
     n .run .on x (le-trans (n .run .has a p .0) l) (le-trans u (n .run .has b q .1))
+
+-- ---- rows along an edge that runs down never go up
+pub row-mono : (s e : Point) → s .1 ≤ℤ e .1 → (j k : ℕ) → j ≤ k → pointAt s e j .1 ≤ℤ pointAt s e k .1
+unfolding pointAt
+row-mono s e d j k h =
+    nat-le (omega (arith, moves-up (steep s e) refl, sum-nat _ (s .1) (yMoves s e j) (rightward (s .1) (e .1) (yMoves s e j) down), sum-nat _ (s .1) (yMoves s e k) (rightward (s .1) (e .1) (yMoves s e k) down)))
+  where
+    down : leZ (s .1) (e .1) ≡ true
+    down = decides-yes (decides-le (s .1) (e .1)) d
+
+    moves-up : (t : Bool) → steep s e ≡ t → yMoves s e j ≤ yMoves s e k
+    moves-up true q = omega (arith, y-by s e true q j, y-by s e true q k)
+    moves-up false q = omega (arith, y-by s e false q j, y-by s e false q k, moves-mono (wide s e) (high s e) j k h)

@@ -7,5 +7,7 @@ pub mod Sides
 pub mod Agree
 pub mod Spans
 pub mod Triangle
+pub mod Moved
 pub mod Box
 pub mod Refusals
+pub mod Determined

@@ -111,6 +111,15 @@ module _ (w h v : ℕ) (p : 0 < h) (s : h < w) (r : v ≤ h) where
         past = λ q t l. low-past t (decLt w t) l;
       }
 
+-- as the code works out the first
+pub start-past : (w h v : ℕ) → 0 < v → reach w h (v - 1) + 1 ≡ start w h v
+unfolding start
+start-past w h zero p = absurd (omega arith)
+start-past w h (suc v) p = ap (λ (n : ℕ). reach w h n + 1) (omega arith)
+
+pub start-wide : (w h v : ℕ) → 0 < h → h < w → v ≤ h → start w h v ≤ w
+start-wide w h v p s r = let o = low w h v p s r in omega (arith, o .some, o .wide)
+
 -- ---- any edge
 pub offsets : (w h v : ℕ) → v ≤ h → Offsets w h v (firstOffset w h v) (lastOffset w h v)
 unfolding firstOffset lastOffset

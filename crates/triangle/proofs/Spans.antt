@@ -18,6 +18,7 @@ use Rattle.whole.proofs.Order.{le-trans, le-antisym, lt-le}
 use Rattle.geometry.specs.declared.Point.{Point}
 use Rattle.line.specs.Line.{pointAt, points, major, HasPoint}
 use Rattle.triangle.specs.declared.Columns.{Columns}
+use Rattle.triangle.proofs.Run.{Run}
 use Rattle.triangle.specs.Row.{joined, spanOf, inSpan, columnsTo, columns}
 
 -- ---- the span of the columns E
@@ -117,6 +118,7 @@ module _ (E F : ℤ → Type 0) (s t : Columns) where
         record { last = l .last; past = l .past; at-first = f .at; at-last = l .at; least = f .least; largest = l .largest }
 
   pub join-spans : Spans E s → Spans F t → Spans Both (joined s t)
+  unfolding joined
   join-spans (inl a) (inl b) = rw (full E s a, full F t b) (inl (join-both a b))
   join-spans (inl a) (inr m) = rw (full E s a, empty t (m .0)) (span-map E Both s (λ x. inl) (λ x. ⊎-elim (λ q. q) (λ q. absurd (m .1 x q))) (inl a))
   join-spans (inr n) b = rw (empty s (n .0)) (span-map F Both t (λ x. inr) (λ x. ⊎-elim (λ q. absurd (n .1 x q)) (λ q. q)) b)
@@ -182,3 +184,12 @@ module _ (s e : Point) (x y : ℤ) where
 -- the span of a line's points on a row
 pub line-spans : (s e : Point) (y : ℤ) → Spans (λ x. HasPoint s e (x, y)) (spanOf (columns s e y))
 line-spans s e y = span-map (λ x. List·Memᴰ x (columns s e y)) (λ x. HasPoint s e (x, y)) _ (λ x. column-has s e x y) (λ x. has-column s e x y) (list-spans (columns s e y))
+
+-- it is the run, or there is none
+pub run-span : (s e : Point) (y lo hi : ℤ) → Run s e y lo hi → spanOf (columns s e y) ≡ (lo, hi +ℤ pos 1)
+run-span s e y lo hi r =
+    span-one (λ x. HasPoint s e (x, y)) _ _ (line-spans s e y)
+    (inl (record { last = hi; past = refl; at-first = r .on lo (≤ℤ-refl lo) (r .some); at-last = r .on hi (r .some) (≤ℤ-refl hi); least = λ x q. r .has x q .0; largest = λ x q. r .has x q .1 }))
+
+pub no-span : (s e : Point) (y : ℤ) → ((x : ℤ) → HasPoint s e (x, y) → ⊥) → spanOf (columns s e y) ≡ (pos 0, pos 0)
+no-span s e y n = span-one (λ x. HasPoint s e (x, y)) _ _ (line-spans s e y) (inr (refl, n))

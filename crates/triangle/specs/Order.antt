@@ -1,6 +1,6 @@
 -- The vertices sorted by y, then x, to p1, p2, p3 (01, "Triangles").
 use mathlib.Core.Bool.{Bool, cond}
-use lib.Signed.{leZ, ltZ}
+use lib.Signed.{leZ, ltZ, _≤ℤ_}
 use Rattle.whole.specs.Equal.{eqZ}
 use Rattle.geometry.specs.declared.Point.{Point}
 use Rattle.triangle.specs.declared.Sorted.{Sorted}
@@ -18,3 +18,8 @@ placed a b c = cond (before c a) (three c a b) (cond (before c b) (three a c b) 
 
 unfoldable pub sorted : Point → Point → Point → Sorted
 sorted a b c = cond (before a b) (placed a b c) (placed b a c)
+
+-- the rows of p1, p2, p3 are in order
+pub record Down (t : Sorted) : Type 0 where
+  pub upper : t .p1 .1 ≤ℤ t .p2 .1
+  pub lower : t .p2 .1 ≤ℤ t .p3 .1

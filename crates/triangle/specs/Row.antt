@@ -12,9 +12,16 @@ use Rattle.triangle.specs.declared.Columns.{Columns}
 use Rattle.triangle.specs.Order.{sorted}
 use Rattle.triangle.specs.Triangle.{isFlat}
 
+-- the smaller and the larger of two columns
+abbrev pub lesser : ℤ → ℤ → ℤ
+lesser a b = cond (leZ a b) a b
+
+abbrev pub greater : ℤ → ℤ → ℤ
+greater a b = cond (leZ a b) b a
+
 -- the span that takes in a and b: a span is its first column and one past its last, and empty if they are the same
-abbrev pub joined : Columns → Columns → Columns
-joined a b = cond (eqZ (a .0) (a .1)) b (cond (eqZ (b .0) (b .1)) a (cond (leZ (a .0) (b .0)) (a .0) (b .0), cond (leZ (a .1) (b .1)) (b .1) (a .1)))
+unfoldable pub joined : Columns → Columns → Columns
+joined a b = cond (eqZ (a .0) (a .1)) b (cond (eqZ (b .0) (b .1)) a (lesser (a .0) (b .0), greater (a .1) (b .1)))
 
 -- from the smallest to one past the largest; none: 0 to 0
 unfoldable pub spanOf : List ℤ → Columns

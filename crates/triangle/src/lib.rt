@@ -1,13 +1,13 @@
 // Triangles: whether a pixel is contained, the columns of a row, and the rows. Vertices may come in any order, lie on one line or coincide.
 ghost use mathlib.Core.Path.{_≡_};
-ghost use Prim.Native.Nat.{_+_, _*_, _<_, _≤_};
+ghost use Prim.Native.Nat.{_<_, _≤_, min};
 ghost use lib.Signed.{_≤ℤ_};
 ghost use Rattle.geometry.specs.Bound.{Bounded};
 ghost use Rattle.geometry.specs.Answer.{verdict, span};
-ghost use Rattle.triangle.specs.Order.{before, placed, sorted};
+ghost use Rattle.triangle.specs.Order.{before, placed, sorted, Down};
 ghost use Rattle.triangle.specs.Triangle.{areaDoubled, noneBelow, noneAbove, onEdge, isFlat, contained};
 ghost use Rattle.triangle.specs.Offsets.{reach, start, firstOffset, lastOffset};
-ghost use Rattle.triangle.specs.Row.{joined, spanOf, columns, edgeColumns, rowSpan, firstRow, rowCount};
+ghost use Rattle.triangle.specs.Row.{lesser, greater, joined, spanOf, columns, edgeColumns, rowSpan, firstRow, rowCount};
 ghost use Rattle.triangle.specs.Box.{isBeyond, isOutside};
 ghost use Rattle.triangle.specs.Answer.{vertexRefusal, rowsAnswer};
 use geometry::Point;
@@ -23,6 +23,12 @@ pub struct Sorted {
 
 // A span of columns: the first, and one past the last; empty if they are the same.
 pub struct Columns(pub i32, pub i32);
+
+// A stretch of columns, counted from an edge's start: the first and the last.
+struct Stretch {
+    first: u32,
+    last: u32,
+}
 
 // The rows of a triangle: the first, and how many. With a refusal its number, and 0 and 0.
 #[repr(C)]
@@ -216,5 +222,154 @@ pub fn rows(v1: Point, v2: Point, v3: Point) -> RowRange
         number: 0,
         first: top.1,
         count: (bottom.1 - top.1) as u32 + 1,
+    }
+}
+
+// The last column on a row of an edge that is wider than high, counted from its start, were the edge to go on.
+fn reach_on(wide: u32, high: u32, row: u32) -> u64
+    requires { ⌜ (wide ≤ 262144) × (row ≤ 262144) × (0 < high) ⌝ }
+    ensures { λ r. ⌜ r ≡ reach wide high row ⌝ }
+{
+    (2 * row as u64 + 1) * wide as u64 / (2 * high as u64)
+}
+
+// The first column on a row of an edge that is wider than high: one past the last of the row above.
+fn first_on(wide: u32, high: u32, row: u32) -> u32
+    requires { ⌜ (wide ≤ 262144) × (high < wide) × (0 < high) × (row ≤ high) ⌝ }
+    ensures { λ r. ⌜ r ≡ start wide high row ⌝ }
+{
+    if row == 0 {
+        return 0;
+    }
+    (reach_on(wide, high, row - 1) + 1) as u32
+}
+
+// The last column on a row of an edge that is wider than high.
+fn last_on(wide: u32, high: u32, row: u32) -> u32
+    requires { ⌜ (wide ≤ 262144) × (high < wide) × (0 < high) × (row ≤ high) ⌝ }
+    ensures { λ r. ⌜ r ≡ min wide (reach wide high row) ⌝ }
+{
+    let last = reach_on(wide, high, row);
+    if last < wide as u64 {
+        return last as u32;
+    }
+    wide
+}
+
+// The columns of an edge's points on one of its rows, in any direction.
+fn stretch_on(wide: u32, high: u32, row: u32) -> Stretch
+    requires { ⌜ (wide ≤ 262144) × (high ≤ 262144) × (row ≤ high) ⌝ }
+    ensures { λ r. ⌜ (r .first ≡ firstOffset wide high row) × (r .last ≡ lastOffset wide high row) ⌝ }
+{
+    if high == 0 {
+        return Stretch {
+            first: 0,
+            last: wide,
+        };
+    }
+    if wide <= high {
+        let moves = line::moves_at(high, 2 * wide, row);
+        return Stretch {
+            first: moves,
+            last: moves,
+        };
+    }
+    Stretch {
+        first: first_on(wide, high, row),
+        last: last_on(wide, high, row),
+    }
+}
+
+// Inside the library: the columns of the points on row y of an edge that runs down.
+pub fn bresenham_intersection(start: Point, end: Point, y: i32) -> Columns
+    requires { ⌜ (Bounded start × Bounded end) × (start .1 ≤ℤ end .1) ⌝ }
+    ensures { λ r. ⌜ r ≡ spanOf (columns start end y) ⌝ }
+{
+    let x = start.0;
+    let top = start.1;
+    let far = end.0;
+    let bottom = end.1;
+    if y < top {
+        return Columns(0, 0);
+    }
+    if bottom < y {
+        return Columns(0, 0);
+    }
+    let wide = line::distance(x, far) as u32;
+    let high = (bottom - top) as u32;
+    let row = (y - top) as u32;
+    let s = stretch_on(wide, high, row);
+    let first = s.first as i32;
+    let last = s.last as i32;
+    if x <= far {
+        return Columns(x + first, x + last + 1);
+    }
+    Columns(x - last, x - first + 1)
+}
+
+fn min_column(a: i32, b: i32) -> i32
+    ensures { λ r. ⌜ r ≡ lesser a b ⌝ }
+{
+    if a <= b {
+        return a;
+    }
+    b
+}
+
+fn max_column(a: i32, b: i32) -> i32
+    ensures { λ r. ⌜ r ≡ greater a b ⌝ }
+{
+    if a <= b {
+        return b;
+    }
+    a
+}
+
+// The span that takes in both; an empty one adds nothing.
+fn extend(a: Columns, b: Columns) -> Columns
+    ensures { λ r. ⌜ r ≡ joined a b ⌝ }
+{
+    if a.0 == a.1 {
+        return b;
+    }
+    if b.0 == b.1 {
+        return a;
+    }
+    let first = min_column(a.0, b.0);
+    let past = max_column(a.1, b.1);
+    Columns(first, past)
+}
+
+// Inside the library: the span of row y, of sorted vertices.
+pub fn scanline_intersection(t: Sorted, y: i32) -> Columns
+    requires { ⌜ (Bounded (t .p1) × Bounded (t .p2) × Bounded (t .p3)) × Down t ⌝ }
+    ensures { λ r. ⌜ r ≡ spanOf (edgeColumns (isFlat (t .p1) (t .p2) (t .p3)) t y) ⌝ }
+{
+    if area_doubled(t.p1, t.p2, t.p3) == 0 {
+        return bresenham_intersection(t.p1, t.p3, y);
+    }
+    let upper = bresenham_intersection(t.p1, t.p2, y);
+    let long = bresenham_intersection(t.p1, t.p3, y);
+    let lower = bresenham_intersection(t.p2, t.p3, y);
+    extend(upper, extend(long, lower))
+}
+
+// The columns of row y of the triangle: any row may be asked.
+pub fn row_span(v1: Point, v2: Point, v3: Point, y: i32) -> Span
+    ensures { λ r. ⌜ r ≡ span (vertexRefusal v1 v2 v3) (rowSpan v1 v2 v3 y .0) (rowSpan v1 v2 v3 y .1) ⌝ }
+{
+    let number = refusal(v1, v2, v3);
+    if number != 0 {
+        return Span {
+            number,
+            start: 0,
+            end: 0,
+        };
+    }
+    let c = scanline_intersection(sorted_yx(v1, v2, v3), y);
+    Span {
+        number: 0,
+        start: c.0,
+        end: c.1,
     }
 }

@@ -6,7 +6,7 @@ use native.Mathlib.Nat.{mul-pos}
 use native.Mathlib.Omega.{arith}
 use lib.IntN.{ℤ, pos, negsuc, negℤ, _+ℤ_, _-ℤ_, _*ℤ_}
 use lib.Signed.{_≤ℤ_, _<ℤ_, ltZ}
-use Rattle.whole.proofs.Difference.{up, dn, as-mk, mks, mk-eq, mk-le, mk-lt, le-mk, lt-mk, le-nat, lt-nat, nat-le, nat-lt, nat-eq, eq-nat}
+use Rattle.whole.proofs.Difference.{up, dn, as-mk, mks, mk-eq, mk-le, mk-lt, le-mk, lt-mk, eq-mk, le-nat, lt-nat, nat-le, nat-lt, nat-eq, eq-nat}
 
 -- ---- what `omega` does through the two parts: transitivity, antisymmetry, and any chain of variables and literals
 pub le-trans : {a b c : ℤ} → a ≤ℤ b → b ≤ℤ c → a ≤ℤ c
@@ -75,6 +75,19 @@ pub move-le : (a b v : ℤ) → (a +ℤ v) ≤ℤ (b +ℤ v) → a ≤ℤ b
 move-le a b v h =
     let g = le-mk _ _ _ _ (simp mks at (rw (as-mk a, as-mk b, as-mk v) at h)) in
     nat-le (omega arith)
+
+pub lt-move : (a b v : ℤ) → a <ℤ b → (a +ℤ v) <ℤ (b +ℤ v)
+lt-move a b v h = rw (as-mk a, as-mk b, as-mk v) (simp mks (mk-lt _ _ _ _ (omega (arith, lt-nat h))))
+
+pub move-lt : (a b v : ℤ) → (a +ℤ v) <ℤ (b +ℤ v) → a <ℤ b
+move-lt a b v h =
+    let g = lt-mk _ _ _ _ (simp mks at (rw (as-mk a, as-mk b, as-mk v) at h)) in
+    nat-lt (omega arith)
+
+pub move-eq : (a b v : ℤ) → a +ℤ v ≡ b +ℤ v → a ≡ b
+move-eq a b v h =
+    let g = eq-mk _ _ _ _ (simp mks at (rw (as-mk a, as-mk b, as-mk v) at h)) in
+    nat-eq (omega arith)
 
 -- ---- products, by the signs
 pub nonneg-mul : (a b : ℤ) → pos 0 ≤ℤ a → pos 0 ≤ℤ b → pos 0 ≤ℤ (a *ℤ b)

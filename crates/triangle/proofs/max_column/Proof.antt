@@ -1,0 +1,22 @@
+-- `triangle::max_column` makes the definition's own test. Assumes nothing.
+use mathlib.Core.Path.{_≡_, sym, ap, _∙_}
+use mathlib.Core.Bool.{Bool, cond}
+use lib.IntN.{ℤ}
+use lib.Signed.{leZ}
+use mir.Facts.{toZ-ofZ}
+use Rattle.whole.proofs.Machine.{le-test}
+use Rattle.triangle.proofs.max_column.Statement.{statement}
+use Rattle.triangle.proofs.max_column.Tie as tie
+
+returns : tie.Need-returns
+returns c =
+    let s = c .before in
+    toZ-ofZ (s .fits .b) ∙ ap (λ (t : Bool). cond t (s .args .b) (s .args .a)) (sym (c .if1 .taken) ∙ le-test (s .fits .a) (s .fits .b))
+
+returns-2 : tie.Need-returns-2
+returns-2 c =
+    let s = c .before in
+    toZ-ofZ (s .fits .a) ∙ ap (λ (t : Bool). cond t (s .args .b) (s .args .a)) (sym (c .if1 .left) ∙ le-test (s .fits .a) (s .fits .b))
+
+pub max-column-spec : {M : Type 1} → statement M
+max-column-spec = tie.close (tie.spec returns returns-2)

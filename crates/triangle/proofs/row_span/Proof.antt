@@ -1,0 +1,58 @@
+-- `triangle::row_span` refuses by 5, and else asks the sorted vertices. Assumes nothing.
+use mathlib.Core.Path.{_≡_, sym, ap, subst, _∙_}
+use mathlib.Core.Bool.{Bool}
+use Prim.Native.Nat.{ℕ}
+use lib.IntN.{ℤ}
+use mir.Syntax.{w32}
+use mir.Facts.{toZ-ofZ}
+use borrow.Author.Needs.{needs}
+use Rattle.whole.proofs.Machine.{field-back}
+use Rattle.geometry.specs.Answer.{span}
+use Rattle.geometry.proofs.Answer.{span-refused}
+use Rattle.triangle.specs.declared.Sorted.{Sorted}
+use Rattle.triangle.specs.declared.Columns.{Columns}
+use Rattle.triangle.specs.Order.{sorted, Down}
+use Rattle.triangle.specs.Triangle.{isFlat}
+use Rattle.triangle.specs.Row.{spanOf, edgeColumns, rowSpan}
+use Rattle.triangle.proofs.Refusals.{is-accepted, sorted-bounded}
+use Rattle.triangle.proofs.Triangle.{upper, lower, flat-sorted}
+use Rattle.triangle.proofs.row_span.Statement.{statement}
+use Rattle.triangle.proofs.row_span.Tie as tie
+
+refusal-requires : tie.Need-refusal-requires
+refusal-requires c κs = search needs
+
+returns : tie.Need-returns
+returns c =
+    let g = c .before .before .args in
+    let s = rowSpan (g .v1) (g .v2) (g .v3) (g .y) in
+    span-refused _ (s .0) (s .1) (c .if1 .taken) ∙ ap (λ (n : ℕ). span n (s .0) (s .1)) (c .before .refusal .ensures)
+
+sorted-yx-requires : tie.Need-sorted-yx-requires
+sorted-yx-requires c κs = search needs
+
+scanline-intersection-requires : tie.Need-scanline-intersection-requires
+scanline-intersection-requires c κs =
+    let g = c .before .before .before .args in
+    let t = c .sorted-yx .result in
+    let e = c .sorted-yx .ensures in
+    let b = sorted-bounded (g .v1) (g .v2) (g .v3) t e (is-accepted (g .v1) (g .v2) (g .v3) (sym (c .before .before .refusal .ensures) ∙ c .before .if1 .left)) in
+    ((b .first, b .second, b .third), subst Down (sym e) (record { upper = upper (g .v1) (g .v2) (g .v3); lower = lower (g .v1) (g .v2) (g .v3) }))
+
+returns-2 : tie.Need-returns-2
+unfolding rowSpan
+returns-2 c =
+    let s = c .before .before .before .before .before in
+    let g = s .args in
+    let r = c .before .scanline-intersection .result in
+    let number = sym (c .before .before .before .if1 .left) ∙ c .before .before .before .before .refusal .ensures in
+    let first = field-back w32 (r .0) (c .struct-told .given .0 .1) in
+    let past = field-back w32 (r .1) (c .struct-told .given .1 .0 .1) in
+    let whole : r ≡ rowSpan (g .v1) (g .v2) (g .v3) (g .y) =
+    c .before .scanline-intersection .ensures ∙ (λ i. spanOf (edgeColumns (isFlat (c .before .before .sorted-yx .ensures i .p1) (c .before .before .sorted-yx .ensures i .p2) (c .before .before .sorted-yx .ensures i .p3)) (c .before .before .sorted-yx .ensures i) (toZ-ofZ (s .fits .y) i)))
+    ∙ (λ i. spanOf (edgeColumns (flat-sorted (g .v1) (g .v2) (g .v3) i) (sorted (g .v1) (g .v2) (g .v3)) (g .y)))
+    in
+    (λ i. record { number = 0; start = first i; end = past i }) ∙ (λ i. span (number i) (whole i .0) (whole i .1))
+
+pub row-span-spec : {M : Type 1} → statement M
+row-span-spec = tie.close (tie.spec refusal-requires returns sorted-yx-requires scanline-intersection-requires returns-2)

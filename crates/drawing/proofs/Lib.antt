@@ -3,3 +3,4 @@ pub mod Calls
 pub mod Rows
 pub mod Fill
 pub mod Circles
+pub mod Determined

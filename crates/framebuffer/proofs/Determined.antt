@@ -1,46 +1,39 @@
--- Each public operation's contract determines its answer and every byte: any two results that it allows are equal. Assumes nothing.
+-- Each public contract determines its answer and every byte of the buffer: any two outcomes that it allows of the same arguments are equal. `Post`
+-- is the contract as the source states it. Assumes nothing.
 use mathlib.Core.Path.{_≡_, sym, ap, _∙_}
 use mathlib.Core.Bool.{Bool}
 use mathlib.Core.List.{List}
 use Prim.Native.Nat.{ℕ}
 use lib.IntN.{ℤ}
-use lib.ListN.{length}
-use Rattle.geometry.specs.declared.Point.{Point}
-use Rattle.layout.specs.Figure.{single, everywhere}
+use denote.Ref.{now}
 use Rattle.framebuffer.specs.declared.Frame.{Frame}
-use Rattle.framebuffer.specs.declared.Size.{Size}
 use Rattle.framebuffer.specs.declared.Drawn.{Drawn}
-use Rattle.framebuffer.specs.declared.Read.{Read}
-use Rattle.framebuffer.specs.Answer.{sized, drawn, read}
-use Rattle.framebuffer.specs.Description.{size, sizeNumber, drawNumber, readNumber, colourAt, afterDraw}
+use Rattle.framebuffer.specs.Answer.{drawn}
+use Rattle.framebuffer.specs.Description.{afterDraw}
+use Rattle.framebuffer.proofs.Frame.new.Reads as new
+use Rattle.framebuffer.proofs.buffer_size_bpp.Reads as buffer-size-bpp
+use Rattle.framebuffer.proofs.set_pixel.Reads as set-pixel
+use Rattle.framebuffer.proofs.pixel.Reads as pixel
+use Rattle.framebuffer.proofs.fill.Reads as fill
 
--- what the contracts say of a result r and the bytes a that are left of b
-abbrev pub Sizes : Frame → Size → Type 0
-Sizes f r = r ≡ sized (sizeNumber f) (size f)
+-- a drawing call that answers N: x and y are the bytes that two outcomes leave of b
+pub draws-one : (f : Frame) (figure : ℤ → ℤ → Bool) (colour N : ℕ) (b x y : List ℕ) (r q : Drawn)
+    → (r ≡ drawn N) × (x ≡ afterDraw f (r .number) figure colour b) → (q ≡ drawn N) × (y ≡ afterDraw f (q .number) figure colour b) → (r ≡ q) × (x ≡ y)
+draws-one f figure colour N b x y r q h k =
+    let e : r ≡ q = h .0 ∙ sym (k .0) in
+    (e, h .1 ∙ ap (λ (d : Drawn). afterDraw f (d .number) figure colour b) e ∙ sym (k .1))
 
-abbrev pub Draws : Frame → (ℤ → ℤ → Bool) → ℕ → List ℕ → Drawn → List ℕ → Type 0
-Draws f figure colour b r a = (r ≡ drawn (drawNumber f (length b) colour 0)) × (a ≡ afterDraw f (r .number) figure colour b)
+pub new-one : (κs : _) (args : _) (r q : _) (s t : _) → new.Post κs args r s → new.Post κs args q t → r ≡ q
+new-one κs args r q s t h k = h ∙ sym k
 
-abbrev pub Reads : Frame → Point → List ℕ → Read → Type 0
-Reads f p b r = r ≡ read (readNumber f (length b) p) (colourAt f p b)
+pub buffer-size-bpp-one : (κs : _) (args : _) (r q : _) (s t : _) → buffer-size-bpp.Post κs args r s → buffer-size-bpp.Post κs args q t → r ≡ q
+buffer-size-bpp-one κs args r q s t h k = h ∙ sym k
 
--- one answer to two
-pub size-determined : (f : Frame) (r r′ : Size) → Sizes f r → Sizes f r′ → r ≡ r′
-size-determined f r r′ e e′ = e ∙ sym e′
+pub set-pixel-one : (κs : _) (args : _) (r q : _) (s t : _) → set-pixel.Post κs args r s → set-pixel.Post κs args q t → (r ≡ q) × (now (s .0) ≡ now (t .0))
+set-pixel-one κs args r q s t h k = draws-one _ _ _ _ _ _ _ _ _ h k
 
-draw-determined : (f : Frame) (figure : ℤ → ℤ → Bool) (colour : ℕ) (b : List ℕ) (r r′ : Drawn) (a a′ : List ℕ)
-    → Draws f figure colour b r a → Draws f figure colour b r′ a′ → (r ≡ r′) × (a ≡ a′)
-draw-determined f figure colour b r r′ a a′ e e′ =
-    let s : r ≡ r′ = e .0 ∙ sym (e′ .0) in
-    (s, e .1 ∙ ap (λ (q : Drawn). afterDraw f (q .number) figure colour b) s ∙ sym (e′ .1))
+pub pixel-one : (κs : _) (args : _) (r q : _) (s t : _) → pixel.Post κs args r s → pixel.Post κs args q t → r ≡ q
+pixel-one κs args r q s t h k = h ∙ sym k
 
-pub set-pixel-determined : (f : Frame) (p : Point) (colour : ℕ) (b : List ℕ) (r r′ : Drawn) (a a′ : List ℕ)
-    → Draws f (single (p .0) (p .1)) colour b r a → Draws f (single (p .0) (p .1)) colour b r′ a′ → (r ≡ r′) × (a ≡ a′)
-set-pixel-determined f p = draw-determined f (single (p .0) (p .1))
-
-pub fill-determined : (f : Frame) (colour : ℕ) (b : List ℕ) (r r′ : Drawn) (a a′ : List ℕ)
-    → Draws f everywhere colour b r a → Draws f everywhere colour b r′ a′ → (r ≡ r′) × (a ≡ a′)
-fill-determined f = draw-determined f everywhere
-
-pub pixel-determined : (f : Frame) (p : Point) (b : List ℕ) (r r′ : Read) → Reads f p b r → Reads f p b r′ → r ≡ r′
-pixel-determined f p b r r′ e e′ = e ∙ sym e′
+pub fill-one : (κs : _) (args : _) (r q : _) (s t : _) → fill.Post κs args r s → fill.Post κs args q t → (r ≡ q) × (now (s .0) ≡ now (t .0))
+fill-one κs args r q s t h k = draws-one _ _ _ _ _ _ _ _ _ h k

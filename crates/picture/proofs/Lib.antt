@@ -1,3 +1,4 @@
 pub mod Blank
 pub mod Picture
 pub mod Known
+pub mod Ties

@@ -2,3 +2,4 @@ pub mod Blank
 pub mod Picture
 pub mod Known
 pub mod Ties
+pub mod Table

@@ -67,7 +67,7 @@ pub description-nest : (f : Frame) → Nest (descriptionRefusal f)
 description-nest f = joined (one-test (not (goodDepth (f .depth))) 0) (one-test (ltb 2048 (f .width) || ltb 2048 (f .height)) 1)
 
 pub buffer-nest : (f : Frame) (len : ℕ) → Nest (bufferRefusal f len)
-buffer-nest f len = one-test _ 2
+buffer-nest f len = one-test (ltb len (size f)) 2
 
 pub colour-nest : (f : Frame) (colour : ℕ) → Nest (colourRefusal f colour)
 colour-nest f colour = one-test (leb (2 ^ (f .depth)) colour) 3

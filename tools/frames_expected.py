@@ -126,6 +126,7 @@ def try_frame(width, height, depth, big):
 
 
 def main():
+    line(frame_bytes(10, 3, 1), frame_bytes(9, 5, 2), frame_bytes(7, 2, 24))
     left = [0] * 16392
     for depth in DEPTHS:
         for big in (False, True):

@@ -2,7 +2,7 @@
 use mathlib.Core.Path.{_≡_, sym, ap, _∙_, subst}
 use mathlib.Core.List.{List}
 use Prim.Native.Nat.{ℕ, _+_, _-_, _*_, _/_, _%_, _^_, _≤_, _<_}
-use native.Mathlib.Nat.{mod-lt, div-add-mod', mul-le-mul-right, mul-div-cancel}
+use native.Mathlib.Nat.{le-of-lt, mod-lt, div-add-mod', mul-le-mul-right, mul-div-cancel}
 use native.Mathlib.Omega.{arith}
 use lib.Bits.{bitAnd}
 use lib.ListN.{length}
@@ -28,7 +28,7 @@ module _ (f : Frame) (len colour : ℕ) (A : Drawable f len colour) (s : f .dept
   row = rowBytes (f .width) (f .depth)
 
   thin : (field d ≡ d) × (parts d ≡ 1)
-  thin = small d s (depth-pos d (A .accepted .described .depth))
+  thin = small d (le-of-lt s) (depth-pos d (A .accepted .described .depth))
 
   low : colour < 2 ^ field d
   low = subst (λ (k : ℕ). colour < 2 ^ k) (sym (thin .0)) (A .below)

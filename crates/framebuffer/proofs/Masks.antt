@@ -2,7 +2,7 @@
 use mathlib.Core.Path.{_≡_, refl, sym, ap, ap₂, _∙_, subst}
 use mathlib.Core.Bool.{true}
 use Prim.Native.Nat.{ℕ, _+_, _-_, _*_, _/_, _%_, _^_, _≤_, _<_}
-use native.Mathlib.Nat.{mod-lt, mod-eq-of-lt, div-add-mod', mul-le-mul-right}
+use native.Mathlib.Nat.{le-of-lt, mod-lt, mod-eq-of-lt, div-add-mod', mul-le-mul-right}
 use native.Mathlib.Omega.{arith}
 use lib.Arith.{digits-div, digits-mod}
 use lib.Bits.{bitAnd, bitOr}
@@ -19,7 +19,7 @@ module _ (d x : ℕ) (g : goodDepth d ≡ true) (s : d < 8) where
   D = depth-of d g
 
   flat : field d ≡ d
-  flat = small d s (depth-pos d g) .0
+  flat = small d (le-of-lt s) (depth-pos d g) .0
 
   eight : per d * d ≡ 8
   eight = let w = D .whole in let e : field d * per d ≡ d * per d = ap (λ (k : ℕ). k * per d) flat in omega arith

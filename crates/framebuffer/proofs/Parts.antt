@@ -1,6 +1,6 @@
 -- A colour in whole bytes, as the machine works its digits out, puts them together again, and repeats them. Assumes nothing.
-use mathlib.Core.Path.{_≡_, refl, sym, ap, ap₂, _∙_, subst}
-use mathlib.Core.Bool.{Bool, true, false}
+use mathlib.Core.Path.{_≡_, sym, ap, ap₂, _∙_, subst}
+use mathlib.Core.Bool.{Bool, true}
 use mathlib.Core.List.{List, _++_}
 use mathlib.Core.Logic.{_⊎_, inl, inr}
 use Prim.Native.Nat.{ℕ, zero, suc, _+_, _-_, _*_, _/_, _%_, _^_, _≤_, _<_, min}
@@ -12,10 +12,10 @@ use lib.Pow.{pow-pos, pow-add, pow-mono}
 use lib.ListN.{length, getD, set, take, drop, length-append, length-drop, List·getD-append}
 use lib.Seq.{getD-set-same, getD-set-other, getD-take, length-take-le}
 use Rattle.layout.specs.Digits.{digit, value, setRun}
-use Rattle.layout.specs.Raster.{goodDepth, field, parts, per, turned, fullByte}
+use Rattle.layout.specs.Raster.{goodDepth, turned, fullByte}
 use Rattle.layout.proofs.Tests.{eq-or-not}
 use Rattle.layout.proofs.Cells.{value-cong}
-use Rattle.layout.proofs.Places.{large, depth-pos}
+use Rattle.layout.proofs.Places.{large}
 use Rattle.layout.proofs.Runs.{run-length, run-in, run-is}
 use Rattle.layout.proofs.Fields.{pow-mul, value-lt}
 
@@ -126,18 +126,3 @@ run-of-pixels d big c n b b′ g h e e′ f =
     let l = large d g h in
     run-is n (fullByte d big c) b b′ e e′
     (λ j k. f j k ∙ sym ((λ z. value (2 ^ (l .0 z)) (l .1 z) (λ i. digit (2 ^ (l .0 z)) (turned big (l .2 z) (j % (l .2 z))) c)) ∙ omega arith))
-
-pub full-thin : (d : ℕ) (big : Bool) (c : ℕ) → goodDepth d ≡ true → d ≤ 8 → c < 2 ^ d → (j : ℕ) → fullByte d big c j ≡ value (2 ^ field d) (per d) (λ k. c)
-unfolding fullByte field parts
-full-thin d big c g h l j =
-    let m : (d + 7) / 8 ≡ 1 = let p = depth-pos d g in omega arith in
-    let z : turned big ((d + 7) / 8) (j % ((d + 7) / 8)) ≡ 0 = ap (λ (k : ℕ). turned big k (j % k)) m ∙ ap (turned big 1) one-mod ∙ first big in
-    ap (λ (i : ℕ). value (2 ^ min d 8) (per d) (λ k. digit (2 ^ min d 8) i c)) z
-    ∙ ap (λ (v : ℕ). value (2 ^ min d 8) (per d) (λ k. v)) (mod-eq-of-lt (subst (λ (k : ℕ). c < 2 ^ k) (omega arith) l))
-  where
-    one-mod : j % 1 ≡ 0
-    one-mod = omega arith
-
-    first : (big : Bool) → turned big 1 0 ≡ 0
-    first true = refl
-    first false = refl

@@ -2,7 +2,7 @@
 -- drawing call leaves. A refusal takes as `next` what the tests after it answer, so that the lowest number wins.
 use mathlib.Core.Bool.{Bool, cond, not, _||_}
 use mathlib.Core.List.{List}
-use Prim.Native.Nat.{ℕ, _+_, _*_, _^_}
+use Prim.Native.Nat.{ℕ, _*_, _^_}
 use lib.Dec.{eqb, leb, ltb}
 use lib.IntN.{ℤ, natAbs}
 use Rattle.geometry.specs.declared.Point.{Point}

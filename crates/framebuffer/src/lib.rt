@@ -1,9 +1,8 @@
 // Packed frames in a lent buffer: the description of a frame and its refusals, setting, reading and filling. All that draws reaches the bytes
 // through put_point, paint_span and read_point, which do not check the frame again.
 ghost use mathlib.Core.Path.{_≡_};
-ghost use mathlib.Core.Bool.{true, _&&_};
-ghost use Prim.Native.Nat.{ℕ, _+_, _*_, _-_, _/_, _%_, _^_, _≤_, _<_, min};
-ghost use lib.Bits.{bitAnd, bitOr};
+ghost use mathlib.Core.Bool.{true};
+ghost use Prim.Native.Nat.{ℕ, _+_, _*_, _/_, _%_, _^_, _≤_, _<_, min};
 ghost use lib.IntN.{pos};
 ghost use lib.ListN.{length, getD};
 ghost use Rattle.layout.specs.Digits.{digit, value, replaced, setRun};

@@ -187,7 +187,16 @@ fn try_refused(buf: &mut [u8], frame: Frame, colour: u32) {
     end_line();
 }
 
+// 01's known sizes: 10 by 3 at depth 1, 9 by 5 at depth 2, 7 by 2 at depth 24.
+fn known_sizes() {
+    show(framebuffer::buffer_size_bpp(Frame::new(10, 3, 1, false)).bytes);
+    show(framebuffer::buffer_size_bpp(Frame::new(9, 5, 2, false)).bytes);
+    show(framebuffer::buffer_size_bpp(Frame::new(7, 2, 24, false)).bytes);
+    end_line();
+}
+
 fn main() {
+    known_sizes();
     let mut buf = [0u8; 16392];
     try_depth(&mut buf, 1);
     try_depth(&mut buf, 2);

@@ -60,6 +60,20 @@ picks-more n a e k h l q f =
         far : (n - suc e ≡ k → ⊥) → n - e ≤ k
         far g = omega arith
 
+-- a pixel of one byte has its one digit first, whatever the order
+pub turn0 : (big : Bool) → turned big 1 0 ≡ 0
+turn0 true = refl
+turn0 false = refl
+
+pub full-one : (d : ℕ) (big : Bool) (c j : ℕ) → parts d ≡ 1 → c < 2 ^ field d → fullByte d big c j ≡ value (2 ^ field d) (per d) (λ k. c)
+unfolding fullByte
+full-one d big c j e h =
+    let z : turned big (parts d) (j % parts d) ≡ 0 = ap (λ (k : ℕ). turned big k (j % k)) e ∙ ap (turned big 1) one-mod ∙ turn0 big in
+    value-cong (2 ^ field d) (pow-pos (field d)) (per d) _ _ (λ k l. ap (λ (i : ℕ). digit (2 ^ field d) i c) z ∙ mod-eq-of-lt h)
+  where
+    one-mod : j % 1 ≡ 0
+    one-mod = omega arith
+
 at-least : (i k : ℕ) → leb i k && true ≡ not (ltb k i)
 at-least i k = ⊎-elim (λ l. ap (λ (t : Bool). t && true) (lt-leb i k l) ∙ sym (ap not (lt-ltb k i l))) (λ l. ap (λ (t : Bool). t && true) (le-leb i k l) ∙ sym (ap not (le-ltb k i l))) (lt-or-ge k i)
 
@@ -84,10 +98,6 @@ module _ (r : Raster) (S : Sound r) (c : ℕ) where
 
   -- ---- pixels of a byte or less
   module _ (small : m ≡ 1) (hc : c < B) where
-    turn0 : (big : Bool) → turned big 1 0 ≡ 0
-    turn0 true = refl
-    turn0 false = refl
-
     -- one pixel, in its byte
     pub pixel-set : (x y : ℕ) (b : List ℕ)
         → putPixel r x y c b ≡ set b (y * row + x * d / 8) (replaced B (slotOf d x) c (getD b (y * row + x * d / 8) 0))
@@ -276,14 +286,8 @@ module _ (r : Raster) (S : Sound r) (c : ℕ) where
           all : (k : ℕ) → ltb k (n - x % n) && not (ltb k (n - z % n)) ≡ picks n (x % n) (z % n) k
           all k = and-swap (ltb k (n - x % n)) (not (ltb k (n - z % n))) ∙ ap (λ (t : Bool). t && ltb k (n - x % n)) (sym (at-least (n - z % n) k) ∙ and-one (leb (n - z % n) k))
 
-    pub full-small : (j : ℕ) → fullByte d (r .big) c j ≡ value B n (λ k. c)
-    unfolding fullByte
-    full-small j =
-        let z : turned (r .big) m (j % m) ≡ 0 = ap (λ (k : ℕ). turned (r .big) k (j % k)) small ∙ ap (turned (r .big) 1) one-mod ∙ turn0 (r .big) in
-        value-cong B (pow-pos (field d)) n _ _ (λ k l. ap (λ (i : ℕ). digit B i c) z ∙ mod-eq-of-lt hc)
-      where
-        one-mod : j % 1 ≡ 0
-        one-mod = omega arith
+    full-small : (j : ℕ) → fullByte d (r .big) c j ≡ value B n (λ k. c)
+    full-small j = full-one d (r .big) c j small hc
 
     group-small : (y q : ℕ) (b : List ℕ) → q * n + n ≤ r .width → y < r .height → y * row + q * m + m ≤ length b → Bytes b
         → painted r (columns y (q * n) (q * n + n)) c b ≡ setRun (y * row + q * m) m (fullByte d (r .big) c) b

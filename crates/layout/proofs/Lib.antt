@@ -9,3 +9,4 @@ pub mod Runs
 pub mod Fields
 pub mod Bytes
 pub mod Kept
+pub mod Order

@@ -58,8 +58,8 @@ pub parts-pos : (d : ℕ) → goodDepth d ≡ true → 0 < parts d
 unfolding parts
 parts-pos = depth-cases (λ d. 0 < parts d) (lit< tt) (lit< tt) (lit< tt) (lit< tt) (lit< tt) (lit< tt) (lit< tt)
 
--- below a byte, and from a byte on
-pub small : (d : ℕ) → d < 8 → 0 < d → (field d ≡ d) × (parts d ≡ 1)
+-- up to a byte, and from a byte on
+pub small : (d : ℕ) → d ≤ 8 → 0 < d → (field d ≡ d) × (parts d ≡ 1)
 unfolding field parts
 small d h p = omega arith
 
@@ -202,15 +202,3 @@ module _ (r : Raster) (S : Sound r) where
       let i = place-inj (p % w) (p / w) k (q % w) (q / w) m (number-in w h p hp .0) (number-in w h q hq .0) hk hm e s in
       (sym (div-add-mod' p w) ∙ ap₂ (λ (a b : ℕ). a * w + b) (i .1) (i .0) ∙ div-add-mod' q w, i .2))
       (r .distance * h) (λ p k hp hk. place-in (p % w) (p / w) k (number-in w h p hp .0) (number-in w h p hp .1) hk)
-
--- "order has no effect at 8 and below": the two placings are one
-pub order-no-effect : (r r′ : Raster) → r .depth ≡ r′ .depth → r .distance ≡ r′ .distance → goodDepth (r .depth) ≡ true → r .depth ≤ 8
-    → (x y k : ℕ) → k < parts (r .depth) → byteOf r x y k ≡ byteOf r′ x y k
-unfolding byteOf parts
-order-no-effect r r′ e f g h x y k l =
-    ap₂ (λ (d i : ℕ). y * d + x * r .depth / 8 + i) f (flat (r .big) ∙ sym (ap (λ (d : ℕ). turned (r′ .big) ((d + 7) / 8) k) (sym e) ∙ flat (r′ .big)))
-    ∙ ap (λ (d : ℕ). y * r′ .distance + x * d / 8 + turned (r′ .big) ((r′ .depth + 7) / 8) k) e
-  where
-    flat : (big : Bool) → turned big ((r .depth + 7) / 8) k ≡ k
-    flat true = omega arith
-    flat false = refl

@@ -1,12 +1,14 @@
 -- `framebuffer::fill_part` stores one byte throughout, or repeats the bytes of a pixel. Assumes nothing.
-use mathlib.Core.Path.{refl, sym, _∙_}
+use mathlib.Core.Path.{refl, sym, subst, _∙_}
+use Prim.Native.Nat.{ℕ, _^_, _<_}
 use native.Mathlib.Nat.{le-of-lt}
 use native.Mathlib.Omega.{arith}
 use lib.ListN.{length}
 use borrow.Author.Needs.{needs}
-use Rattle.layout.proofs.Places.{large, parts-pos, depth-le}
+use Rattle.layout.proofs.Places.{small, large, parts-pos, depth-pos, depth-le}
 use Rattle.layout.proofs.Runs.{run-cong}
-use Rattle.framebuffer.proofs.Parts.{full-thin, run-of-pixels}
+use Rattle.layout.proofs.Bytes.{full-one}
+use Rattle.framebuffer.proofs.Parts.{run-of-pixels}
 use Rattle.framebuffer.proofs.fill_part.Statement.{statement}
 use Rattle.framebuffer.proofs.fill_part.Tie as tie
 
@@ -21,10 +23,12 @@ same-length c = search needs
 
 returns : tie.Need-returns
 returns c =
-    let a = c .before .before .before .before .before .before .before .args in
+    let s = c .before .before .before .before .before .before .before in
+    let a = s .args in
+    let d = small (a .depth) (c .before .before .before .before .before .if1 .taken) (depth-pos (a .depth) (s .pre .0)) in
     c .before .before .set-all .ensures
     ∙ run-cong 0 (length (a .part .now)) _ _ (a .part .now)
-    (λ j h. c .before .before .before .pattern .ensures ∙ sym (full-thin (a .depth) (a .big) (a .colour) (c .before .before .before .before .before .before .before .pre .0) (c .before .before .before .before .before .if1 .taken) (c .before .before .before .before .before .before .before .pre .1) j))
+    (λ j h. c .before .before .before .pattern .ensures ∙ sym (full-one (a .depth) (a .big) (a .colour) j (d .1) (subst (λ (k : ℕ). a .colour < 2 ^ k) (sym (d .0)) (s .pre .1))))
 
 cast-repeat-pixel : tie.Need-cast-repeat-pixel
 cast-repeat-pixel c = search needs

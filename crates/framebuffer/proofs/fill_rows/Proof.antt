@@ -33,7 +33,7 @@ paint-columns-requires : tie.Need-paint-columns-requires Inv-loop μ-loop
 paint-columns-requires c κs =
     let s = c .before .before .before .before in
     let l = c .before .before .loop in
-    (subst (λ (n : ℕ). drawNumber (s .args .frame) n (s .args .colour) 0 ≡ 0) (sym (l .inv .1)) (s .pre .0), c .before .loop-test .taken, s .pre .1, le-refl (s .args .frame .width))
+    (subst (λ (n : ℕ). drawNumber (s .args .frame) n (s .args .colour) 0 ≡ 0) (sym (l .inv .1)) (s .pre .0), omega arith, s .pre .1, le-refl (s .args .frame .width))
 
 add-y : tie.Need-add-y Inv-loop μ-loop
 add-y c = search needs

@@ -2,6 +2,7 @@
 use mathlib.Core.Path.{_≡_, refl, sym, ap, _∙_}
 use mathlib.Core.Bool.{true}
 use Prim.Native.Nat.{ℕ, _+_, _-_, _/_, _^_, _≤_}
+use native.Mathlib.Nat.{le-of-lt}
 use native.Mathlib.Omega.{arith}
 use lib.ListN.{length, getD, length-take}
 use borrow.Author.Needs.{needs}
@@ -32,7 +33,7 @@ byte-of-requires c κs =
 thin : (c : tie.Then1) → (goodDepth (c .before .before .before .args .frame .depth) ≡ true) × (field (c .before .before .before .args .frame .depth) ≡ c .before .before .before .args .frame .depth) × (parts (c .before .before .before .args .frame .depth) ≡ 1)
 thin c =
     let g = ok (c .before .before .before) .described .depth in
-    let s = small (c .before .before .before .args .frame .depth) (c .if1 .taken) (depth-pos _ g) in
+    let s = small (c .before .before .before .args .frame .depth) (le-of-lt (c .if1 .taken)) (depth-pos _ g) in
     (g, s .0, s .1)
 
 shared-slice-read-field-of : tie.Need-shared-slice-read-field-of

@@ -1,5 +1,4 @@
 -- `framebuffer::row_distance` works out the bytes that a row takes, which are few. Assumes nothing.
-use mathlib.Core.Path.{refl}
 use native.Mathlib.Omega.{arith}
 use Rattle.layout.specs.Raster.{rowBytes}
 use Rattle.framebuffer.proofs.Refusals.{is-described, product, row-fits}
@@ -14,7 +13,7 @@ add-result c = omega (arith, product (c .before .args .frame) (is-described (c .
 
 returns : tie.Need-returns
 unfolding rowBytes
-returns c = (refl, row-fits (c .before .args .frame) (is-described (c .before .args .frame) (c .before .pre)))
+returns c = (omega arith, row-fits (c .before .args .frame) (is-described (c .before .args .frame) (c .before .pre)))
 
 pub row-distance-spec : {M : Type 1} → statement M
 row-distance-spec = tie.close (tie.spec mul-result add-result returns)

@@ -1,4 +1,4 @@
--- `beamacorn_line_point` hands on to `line::point`. Assumes nothing.
+-- `beamacorn_line_point` hands on to `line::point`, and puts the coordinates of its point beside the number. Assumes nothing.
 use mathlib.Core.Path.{ap, _∙_}
 use borrow.Author.Needs.{needs}
 use mir.Syntax.{w32}

@@ -13,6 +13,11 @@ pub struct Span {
     pub end: i32,
 }
 
+#[repr(C)]
+pub struct Drawn {
+    pub number: u32,
+}
+
 #[rustfmt::skip]
 extern "C" {
     fn beamacorn_triangle_contains(x1: i32, y1: i32, x2: i32, y2: i32, x3: i32, y3: i32, x: i32, y: i32) -> Verdict;
@@ -20,15 +25,15 @@ extern "C" {
     fn beamacorn_circle_row_span(left: i32, top: i32, diameter: u32, y: i32) -> Span;
 
     fn beamacorn_set_pixel(buf: *mut u8, len: usize, width: u32, height: u32, depth: u32, order: u32,
-        x: i32, y: i32, colour: u32) -> u32;
+        x: i32, y: i32, colour: u32) -> Drawn;
     fn beamacorn_fill(buf: *mut u8, len: usize, width: u32, height: u32, depth: u32, order: u32,
-        colour: u32) -> u32;
+        colour: u32) -> Drawn;
     fn beamacorn_draw_line(buf: *mut u8, len: usize, width: u32, height: u32, depth: u32, order: u32,
-        x1: i32, y1: i32, x2: i32, y2: i32, colour: u32) -> u32;
+        x1: i32, y1: i32, x2: i32, y2: i32, colour: u32) -> Drawn;
     fn beamacorn_draw_triangle(buf: *mut u8, len: usize, width: u32, height: u32, depth: u32, order: u32,
-        x1: i32, y1: i32, x2: i32, y2: i32, x3: i32, y3: i32, colour: u32) -> u32;
+        x1: i32, y1: i32, x2: i32, y2: i32, x3: i32, y3: i32, colour: u32) -> Drawn;
     fn beamacorn_draw_circle(buf: *mut u8, len: usize, width: u32, height: u32, depth: u32, order: u32,
-        left: i32, top: i32, diameter: u32, colour: u32) -> u32;
+        left: i32, top: i32, diameter: u32, colour: u32) -> Drawn;
 }
 
 pub type Place = (i32, i32);
@@ -59,8 +64,8 @@ pub struct Frame {
 macro_rules! call {
     ($function:ident($frame:expr $(, $argument:expr)*)) => {{
         let Frame { bytes, width, height, depth } = $frame;
-        let number = unsafe { $function(bytes.as_mut_ptr(), bytes.len(), *width, *height, *depth, 0 $(, $argument)*) };
-        assert_eq!(number, 0, "our library refused");
+        let drawn = unsafe { $function(bytes.as_mut_ptr(), bytes.len(), *width, *height, *depth, 0 $(, $argument)*) };
+        assert_eq!(drawn.number, 0, "our library refused");
     }};
 }
 

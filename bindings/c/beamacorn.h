@@ -1,0 +1,212 @@
+/*
+ * Beamacorn: lines, triangles, circles and packed frames, exact for every input.
+ *
+ * Link target/staticlib/libbeamacorn.a, which `rt staticlib beamacorn` proves and writes. It needs nothing but the C library's memory functions,
+ * allocates nothing and keeps nothing between calls, so that any thread may call at any time; two calls at once must not lend the same buffer if one
+ * of them draws.
+ *
+ * Every function takes whatever numbers it is given. An answer's `number` is 0, or says why the call was refused; several reasons give the lowest.
+ * With a refusal every other number of the answer is 0, `yes` is false, and no byte of the buffer is changed. `false` alone does not
+ * mean "outside": look at the number first.
+ *
+ * Coordinates: x grows to the right, y downwards. Those of a vertex, of a line end and of a circle's top-left corner are accepted from -131,072 to
+ * 131,071. A pixel or a row that is asked about, or set, may be any int32_t.
+ */
+#ifndef BEAMACORN_H
+#define BEAMACORN_H
+
+#include <stdbool.h>
+#include <stddef.h>
+#include <stdint.h>
+
+#ifdef __cplusplus
+extern "C" {
+#endif
+
+/* What `number` may be. */
+enum {
+    BEAMACORN_DONE = 0,
+    BEAMACORN_BAD_DEPTH = 1,      /* the depth is not 1, 2, 4, 8, 16, 24 or 32 */
+    BEAMACORN_TOO_LARGE = 2,      /* the width or the height is above 2,048 */
+    BEAMACORN_SHORT_BUFFER = 3,   /* the buffer is shorter than the frame needs */
+    BEAMACORN_BAD_COLOUR = 4,     /* the colour is 2 to the power of the depth, or more */
+    BEAMACORN_OUT_OF_BOUNDS = 5,  /* a vertex, line end or circle top-left has a coordinate outside -131,072 to 131,071 */
+    BEAMACORN_CIRCLE_TOO_FAR = 6, /* left + diameter or top + diameter is above 131,072 */
+    BEAMACORN_PAST_LAST_STEP = 7, /* a point of a line is asked at a step past its last */
+    BEAMACORN_OUTSIDE_FRAME = 8   /* a pixel is read outside the frame */
+};
+
+/* ---- Questions on lines, triangles and circles. These stay as they are. ---- */
+
+/* A yes or no; no with a refusal. */
+typedef struct {
+    uint32_t number;
+    bool yes;
+} beamacorn_verdict;
+
+/* A row's columns, from `start` to one before `end`; 0 to 0 where there are none. */
+typedef struct {
+    uint32_t number;
+    int32_t start;
+    int32_t end;
+} beamacorn_span;
+
+/* How many points a line has. */
+typedef struct {
+    uint32_t number;
+    uint32_t points;
+} beamacorn_length;
+
+/* A point of a line. */
+typedef struct {
+    uint32_t number;
+    int32_t x;
+    int32_t y;
+} beamacorn_step;
+
+/* The rows of a triangle: the first, and how many. */
+typedef struct {
+    uint32_t number;
+    int32_t first;
+    uint32_t count;
+} beamacorn_rows;
+
+/*
+ * How many points the line from (x1, y1) to (x2, y2) has: one more than the larger of its width and its height.
+ * Refused with 5.
+ */
+beamacorn_length beamacorn_line_length(int32_t x1, int32_t y1, int32_t x2, int32_t y2);
+
+/*
+ * The point of the line from (x1, y1) to (x2, y2) at a step. Step 0 is the start, the number of points less 1 is the end. Which pixels lie between
+ * depends on the end that the line starts from.
+ * Refused with 5, and with 7 for a later step.
+ */
+beamacorn_step beamacorn_line_point(int32_t x1, int32_t y1, int32_t x2, int32_t y2, uint32_t step);
+
+/*
+ * Whether the pixel (x, y) is a point of the line from (x1, y1) to (x2, y2). Its cost does not grow with the line.
+ * Refused with 5.
+ */
+beamacorn_verdict beamacorn_line_has_point(int32_t x1, int32_t y1, int32_t x2, int32_t y2, int32_t x, int32_t y);
+
+/*
+ * Whether the triangle of the vertices (x1, y1), (x2, y2), (x3, y3), which may come in any order, lie on one line or coincide, contains
+ * the pixel (x, y). A pixel on an edge is contained. Its cost does not grow with the triangle.
+ * Refused with 5.
+ */
+beamacorn_verdict beamacorn_triangle_contains(int32_t x1, int32_t y1, int32_t x2, int32_t y2, int32_t x3, int32_t y3, int32_t x, int32_t y);
+
+/*
+ * The triangle's first row, and how many rows it has: at least 1.
+ * Refused with 5.
+ */
+beamacorn_rows beamacorn_triangle_rows(int32_t x1, int32_t y1, int32_t x2, int32_t y2, int32_t x3, int32_t y3);
+
+/*
+ * The columns of row y that the triangle contains: 0 to 0 for a row above or below it. Its cost does not grow with the triangle.
+ * Refused with 5.
+ */
+beamacorn_span beamacorn_triangle_row_span(int32_t x1, int32_t y1, int32_t x2, int32_t y2, int32_t x3, int32_t y3, int32_t y);
+
+/*
+ * Whether the circle whose box has the top-left corner (left, top) and sides of `diameter` pixels contains the pixel (x, y). The diameter 0
+ * contains nothing.
+ * Refused with 5, and with 6 where the box ends past 131,072.
+ */
+beamacorn_verdict beamacorn_circle_contains(int32_t left, int32_t top, uint32_t diameter, int32_t x, int32_t y);
+
+/*
+ * The columns of row y that the circle contains: 0 to 0 for a row outside its box.
+ * Refused with 5, and with 6 where the box ends past 131,072.
+ */
+beamacorn_span beamacorn_circle_row_span(int32_t left, int32_t top, uint32_t diameter, int32_t y);
+
+/*
+ * ---- Frames and drawing. These are still to grow: a distance between rows and counts of pixels will join arguments and answers. ----
+ *
+ * A frame is described by its width and height in pixels, 0 to 2,048 each, its depth in bits and, where a pixel takes several bytes, its order: 0 for
+ * the little end first, anything else for the big end. A row takes (width * depth + 7) / 8 bytes, rows follow one another, and at depths below 8
+ * the first pixel is in a byte's high bits. The bits that pad a row and the bytes past the frame never change.
+ *
+ * `buf` points to `len` bytes that the caller lends for the call; it may be longer than the frame needs. Where `len` is 0 no byte is
+ * touched and `buf` may be any pointer, NULL too. Such a buffer is enough for a frame without pixels, and refused with 3 for any other.
+ */
+
+/* How many bytes a frame takes. */
+typedef struct {
+    uint32_t number;
+    uint32_t bytes;
+} beamacorn_size;
+
+/* A pixel's colour. */
+typedef struct {
+    uint32_t number;
+    uint32_t colour;
+} beamacorn_read;
+
+/* What a call that draws answers. */
+typedef struct {
+    uint32_t number;
+} beamacorn_drawn;
+
+/*
+ * How many bytes a buffer for the frame must have, in either order.
+ * Refused with 1 and 2.
+ */
+beamacorn_size beamacorn_frame_size(uint32_t width, uint32_t height, uint32_t depth);
+
+/*
+ * Sets the pixel (x, y) to the colour. Outside the frame that is done, and changes nothing.
+ * Refused with 1 to 4.
+ */
+beamacorn_drawn beamacorn_set_pixel(uint8_t *buf, size_t len, uint32_t width, uint32_t height, uint32_t depth, uint32_t order,
+                                    int32_t x, int32_t y, uint32_t colour);
+
+/*
+ * The colour of the pixel (x, y).
+ * Refused with 1 to 3, and with 8 outside the frame.
+ */
+beamacorn_read beamacorn_pixel(const uint8_t *buf, size_t len, uint32_t width, uint32_t height, uint32_t depth, uint32_t order,
+                               int32_t x, int32_t y);
+
+/*
+ * Sets every pixel of the frame to the colour.
+ * Refused with 1 to 4.
+ */
+beamacorn_drawn beamacorn_fill(uint8_t *buf, size_t len, uint32_t width, uint32_t height, uint32_t depth, uint32_t order,
+                               uint32_t colour);
+
+/*
+ * Draws the points of the line from (x1, y1) to (x2, y2) that lie in the frame.
+ * Refused with 1 to 5.
+ */
+beamacorn_drawn beamacorn_draw_line(uint8_t *buf, size_t len, uint32_t width, uint32_t height, uint32_t depth, uint32_t order,
+                                    int32_t x1, int32_t y1, int32_t x2, int32_t y2, uint32_t colour);
+
+/*
+ * Draws the filled triangle: every pixel of the frame that beamacorn_triangle_contains says yes to.
+ * Refused with 1 to 5.
+ */
+beamacorn_drawn beamacorn_draw_triangle(uint8_t *buf, size_t len, uint32_t width, uint32_t height, uint32_t depth, uint32_t order,
+                                        int32_t x1, int32_t y1, int32_t x2, int32_t y2, int32_t x3, int32_t y3, uint32_t colour);
+
+/*
+ * Draws the triangle's outline: the lines from the first vertex to the second, on to the third, and back to the first.
+ * Refused with 1 to 5.
+ */
+beamacorn_drawn beamacorn_draw_outline(uint8_t *buf, size_t len, uint32_t width, uint32_t height, uint32_t depth, uint32_t order,
+                                       int32_t x1, int32_t y1, int32_t x2, int32_t y2, int32_t x3, int32_t y3, uint32_t colour);
+
+/*
+ * Draws the filled circle: every pixel of the frame that beamacorn_circle_contains says yes to.
+ * Refused with 1 to 6.
+ */
+beamacorn_drawn beamacorn_draw_circle(uint8_t *buf, size_t len, uint32_t width, uint32_t height, uint32_t depth, uint32_t order,
+                                      int32_t left, int32_t top, uint32_t diameter, uint32_t colour);
+
+#ifdef __cplusplus
+}
+#endif
+
+#endif

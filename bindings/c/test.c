@@ -1,0 +1,183 @@
+/* Calls every function of the library through its header: the known small answers, each refusal, and what stays unchanged. */
+#include <stdio.h>
+#include <string.h>
+
+#include "beamacorn.h"
+
+static int checks, failures;
+
+#define CHECK(fact)                                                      \
+    do {                                                                 \
+        ++checks;                                                        \
+        if (!(fact)) {                                                   \
+            ++failures;                                                  \
+            fprintf(stderr, "%s:%d: not so: %s\n", __FILE__, __LINE__, #fact); \
+        }                                                                \
+    } while (0)
+
+/* Answers, field by field. */
+static bool is_verdict(beamacorn_verdict r, uint32_t number, bool yes) { return r.number == number && r.yes == yes; }
+static bool is_span(beamacorn_span r, uint32_t number, int32_t start, int32_t end) { return r.number == number && r.start == start && r.end == end; }
+static bool is_length(beamacorn_length r, uint32_t number, uint32_t points) { return r.number == number && r.points == points; }
+static bool is_step(beamacorn_step r, uint32_t number, int32_t x, int32_t y) { return r.number == number && r.x == x && r.y == y; }
+static bool is_rows(beamacorn_rows r, uint32_t number, int32_t first, uint32_t count) { return r.number == number && r.first == first && r.count == count; }
+static bool is_size(beamacorn_size r, uint32_t number, uint32_t bytes) { return r.number == number && r.bytes == bytes; }
+static bool is_read(beamacorn_read r, uint32_t number, uint32_t colour) { return r.number == number && r.colour == colour; }
+
+/* Whether each of n bytes is v. */
+static bool all(const uint8_t *bytes, size_t n, uint8_t v)
+{
+    for (size_t i = 0; i < n; ++i) {
+        if (bytes[i] != v) {
+            return false;
+        }
+    }
+    return true;
+}
+
+static void lines(void)
+{
+    static const int32_t rows[] = {0, 0, 1, 1, 2, 2};
+
+    CHECK(is_length(beamacorn_line_length(0, 0, 0, 0), 0, 1));
+    CHECK(is_length(beamacorn_line_length(-131072, 0, 131071, 5), 0, 262144));
+    CHECK(is_length(beamacorn_line_length(131072, 0, 0, 0), 5, 0));
+    CHECK(is_length(beamacorn_line_length(0, 0, 0, -131073), 5, 0));
+
+    CHECK(is_step(beamacorn_line_point(0, 0, 2, 1, 1), 0, 1, 0));
+    CHECK(is_step(beamacorn_line_point(2, 1, 0, 0, 1), 0, 1, 1));
+    for (uint32_t k = 0; k < 6; ++k) {
+        CHECK(is_step(beamacorn_line_point(0, 0, 5, 2, k), 0, (int32_t)k, rows[k]));
+    }
+    CHECK(is_step(beamacorn_line_point(-131072, -131072, 131071, 131071, 262143), 0, 131071, 131071));
+    CHECK(is_step(beamacorn_line_point(3, 4, 3, 4, 1), 7, 0, 0));
+    CHECK(is_step(beamacorn_line_point(3, 4, 3, 131072, 4294967295u), 5, 0, 0));
+
+    CHECK(is_verdict(beamacorn_line_has_point(0, 0, 2, 1, 1, 0), 0, true));
+    CHECK(is_verdict(beamacorn_line_has_point(0, 0, 2, 1, 1, 1), 0, false));
+    CHECK(is_verdict(beamacorn_line_has_point(0, 0, 2, 1, INT32_MIN, INT32_MAX), 0, false));
+    CHECK(is_verdict(beamacorn_line_has_point(0, 0, 0, 131072, 0, 0), 5, false));
+}
+
+static void triangles(void)
+{
+    CHECK(is_verdict(beamacorn_triangle_contains(0, 0, 86400, 0, 0, 40000, 20000, 10000), 0, true));
+    CHECK(is_verdict(beamacorn_triangle_contains(0, 0, 4, 2, 2, 1, 1, 0), 0, true));
+    CHECK(is_verdict(beamacorn_triangle_contains(0, 0, -2, 2, 2, 0, -1, 0), 0, false));
+    CHECK(is_verdict(beamacorn_triangle_contains(0, 0, 4, 0, 0, 4, INT32_MAX, INT32_MIN), 0, false));
+    CHECK(is_verdict(beamacorn_triangle_contains(0, 0, 4, 0, 0, 131072, 0, 0), 5, false));
+    CHECK(is_verdict(beamacorn_triangle_contains(0, 0, 4, 0, 0, 131071, 0, 0), 0, true));
+
+    CHECK(is_rows(beamacorn_triangle_rows(0, 3, 4, -1, 2, 1), 0, -1, 5));
+    CHECK(is_rows(beamacorn_triangle_rows(0, -131072, 1, 131071, 2, 0), 0, -131072, 262144));
+    CHECK(is_rows(beamacorn_triangle_rows(0, 3, 4, -1, -131073, 1), 5, 0, 0));
+
+    CHECK(is_span(beamacorn_triangle_row_span(0, 0, 4, 2, 2, 1, 0), 0, 0, 2));
+    CHECK(is_span(beamacorn_triangle_row_span(0, 0, 4, 2, 2, 1, 1), 0, 2, 4));
+    CHECK(is_span(beamacorn_triangle_row_span(0, 0, 4, 2, 2, 1, 2), 0, 4, 5));
+    CHECK(is_span(beamacorn_triangle_row_span(0, 0, 4, 2, 2, 1, INT32_MIN), 0, 0, 0));
+    CHECK(is_span(beamacorn_triangle_row_span(0, 0, 65536, 0, 0, 65536, 10), 0, 0, 65527));
+    CHECK(is_span(beamacorn_triangle_row_span(131072, 0, 4, 2, 2, 1, 1), 5, 0, 0));
+}
+
+static void circles(void)
+{
+    CHECK(is_span(beamacorn_circle_row_span(0, 0, 3, 0), 0, 1, 2));
+    CHECK(is_span(beamacorn_circle_row_span(0, 0, 3, 1), 0, 0, 3));
+    CHECK(is_span(beamacorn_circle_row_span(0, 0, 4, 0), 0, 1, 3));
+    CHECK(is_span(beamacorn_circle_row_span(0, 0, 4, 4), 0, 0, 0));
+    CHECK(is_span(beamacorn_circle_row_span(0, 0, 131073, 4), 6, 0, 0));
+    CHECK(is_span(beamacorn_circle_row_span(0, 131072, 131073, 4), 5, 0, 0));
+
+    CHECK(is_verdict(beamacorn_circle_contains(0, 0, 3, 0, 0), 0, false));
+    CHECK(is_verdict(beamacorn_circle_contains(0, 0, 3, 1, 0), 0, true));
+    CHECK(is_verdict(beamacorn_circle_contains(0, 0, 0, 0, 0), 0, false));
+    CHECK(is_verdict(beamacorn_circle_contains(7, 7, 1, 7, 7), 0, true));
+    CHECK(is_verdict(beamacorn_circle_contains(0, 0, 1, 32768, 0), 0, false));
+    CHECK(is_verdict(beamacorn_circle_contains(131071, 0, 1, 131071, 0), 0, true));
+    CHECK(is_verdict(beamacorn_circle_contains(131071, 0, 2, 131071, 0), 6, false));
+    CHECK(is_verdict(beamacorn_circle_contains(-131073, 0, 1, 0, 0), 5, false));
+}
+
+static void frames(void)
+{
+    uint8_t buf[8] = {0};
+
+    CHECK(is_size(beamacorn_frame_size(10, 3, 1), 0, 6));
+    CHECK(is_size(beamacorn_frame_size(9, 5, 2), 0, 15));
+    CHECK(is_size(beamacorn_frame_size(7, 2, 24), 0, 42));
+    CHECK(is_size(beamacorn_frame_size(2048, 2048, 32), 0, 16777216));
+    CHECK(is_size(beamacorn_frame_size(2049, 1, 3), 1, 0));
+    CHECK(is_size(beamacorn_frame_size(2049, 1, 1), 2, 0));
+
+    CHECK(beamacorn_set_pixel(buf, 8, 10, 1, 1, 0, 9, 0, 1).number == 0);
+    CHECK(buf[0] == 0 && buf[1] == 0x40);
+    CHECK(is_read(beamacorn_pixel(buf, 8, 10, 1, 1, 0, 9, 0), 0, 1));
+    CHECK(is_read(beamacorn_pixel(buf, 8, 10, 1, 1, 0, 10, 0), 8, 0));
+    CHECK(is_read(beamacorn_pixel(buf, 1, 10, 1, 1, 0, 10, 0), 3, 0));
+    CHECK(beamacorn_set_pixel(buf, 8, 10, 1, 1, 0, INT32_MIN, INT32_MAX, 1).number == 0);
+    CHECK(buf[0] == 0 && buf[1] == 0x40 && all(buf + 2, 6, 0));
+
+    CHECK(beamacorn_set_pixel(buf + 2, 3, 1, 1, 24, 0, 0, 0, 0x010203).number == 0);
+    CHECK(buf[2] == 3 && buf[3] == 2 && buf[4] == 1);
+    CHECK(beamacorn_set_pixel(buf + 2, 3, 1, 1, 24, 1, 0, 0, 0x010203).number == 0);
+    CHECK(buf[2] == 1 && buf[3] == 2 && buf[4] == 3);
+    CHECK(is_read(beamacorn_pixel(buf + 2, 3, 1, 1, 24, 4294967295u, 0, 0), 0, 0x010203));
+    CHECK(is_read(beamacorn_pixel(buf + 2, 3, 1, 1, 24, 0, 0, 0), 0, 0x030201));
+
+    /* An empty buffer: enough for no pixels, and too short for one. */
+    CHECK(beamacorn_fill(NULL, 0, 0, 2048, 32, 0, 7).number == 0);
+    CHECK(beamacorn_draw_circle(NULL, 0, 2048, 0, 1, 0, 0, 0, 9, 1).number == 0);
+    CHECK(beamacorn_set_pixel(NULL, 0, 1, 1, 1, 0, 0, 0, 1).number == 3);
+    CHECK(is_read(beamacorn_pixel(NULL, 0, 0, 0, 1, 0, 0, 0), 8, 0));
+}
+
+static void drawing(void)
+{
+    /* Four rows of ten pixels, a bit each: two bytes a row, six bits of them padding. */
+    uint8_t buf[9];
+
+    memset(buf, 0xa5, sizeof buf);
+    CHECK(beamacorn_fill(buf, 9, 10, 4, 1, 0, 0).number == 0);
+    CHECK(buf[0] == 0 && buf[1] == 0x25 && buf[6] == 0 && buf[7] == 0x25 && buf[8] == 0xa5);
+    CHECK(beamacorn_fill(buf, 9, 10, 4, 1, 0, 1).number == 0);
+    CHECK(buf[0] == 0xff && buf[1] == 0xe5 && buf[8] == 0xa5);
+
+    memset(buf, 0, sizeof buf);
+    CHECK(beamacorn_draw_line(buf, 9, 10, 4, 1, 0, 0, 0, 5, 2, 1).number == 0);
+    CHECK(buf[0] == 0xc0 && buf[2] == 0x30 && buf[4] == 0x0c && buf[6] == 0);
+
+    memset(buf, 0, sizeof buf);
+    CHECK(beamacorn_draw_triangle(buf, 9, 10, 4, 1, 0, 0, 0, 3, 0, 0, 3, 1).number == 0);
+    CHECK(buf[0] == 0xf0 && buf[2] == 0xe0 && buf[4] == 0xc0 && buf[6] == 0x80);
+
+    memset(buf, 0, sizeof buf);
+    CHECK(beamacorn_draw_outline(buf, 9, 10, 4, 1, 0, 0, 0, 3, 0, 0, 3, 1).number == 0);
+    CHECK(buf[0] == 0xf0 && buf[2] == 0xa0 && buf[4] == 0xc0 && buf[6] == 0x80);
+
+    memset(buf, 0, sizeof buf);
+    CHECK(beamacorn_draw_circle(buf, 9, 10, 4, 1, 0, 0, 0, 4, 1).number == 0);
+    CHECK(buf[0] == 0x60 && buf[2] == 0xf0 && buf[4] == 0xf0 && buf[6] == 0x60);
+
+    /* The lowest reason wins, and no byte changes. */
+    memset(buf, 0xa5, sizeof buf);
+    CHECK(beamacorn_draw_line(buf, 0, 2049, 4, 3, 0, 131072, 0, 5, 2, 2).number == 1);
+    CHECK(beamacorn_draw_triangle(buf, 0, 2049, 4, 1, 0, 131072, 0, 5, 2, 0, 0, 2).number == 2);
+    CHECK(beamacorn_draw_outline(buf, 7, 10, 4, 1, 0, 131072, 0, 5, 2, 0, 0, 2).number == 3);
+    CHECK(beamacorn_draw_circle(buf, 8, 10, 4, 1, 0, 131072, 0, 5, 2).number == 4);
+    CHECK(beamacorn_fill(buf, 8, 10, 4, 1, 0, 2).number == 4);
+    CHECK(beamacorn_draw_outline(buf, 8, 10, 4, 1, 0, 131072, 0, 5, 2, 0, 0, 1).number == 5);
+    CHECK(beamacorn_draw_circle(buf, 8, 10, 4, 1, 0, 131071, 0, 2, 1).number == 6);
+    CHECK(all(buf, 9, 0xa5));
+}
+
+int main(void)
+{
+    lines();
+    triangles();
+    circles();
+    frames();
+    drawing();
+    printf("%d checks, %d failed\n", checks, failures);
+    return failures != 0;
+}

@@ -1,0 +1,89 @@
+use crate::{Point, Refusal, library};
+use core::iter::FusedIterator;
+
+/// A line of pixels from its start to its end.
+///
+/// Which pixels it has depends on the end that it starts from: halfway between two pixels it takes the one behind.
+///
+/// ```
+/// use beamacorn::{Line, Point};
+///
+/// let line = Line::new(Point::new(0, 0), Point::new(2, 1));
+/// assert_eq!(line.length(), Ok(3));
+/// assert_eq!(line.point(1), Ok(Point::new(1, 0)));
+/// assert_eq!(line.has_point(Point::new(1, 1)), Ok(false));
+/// assert!(line.points()?.eq([Point::new(0, 0), Point::new(1, 0), Point::new(2, 1)]));
+/// # Ok::<(), beamacorn::Refusal>(())
+/// ```
+#[derive(Clone, Copy, Debug, Default, Eq, Hash, PartialEq)]
+pub struct Line {
+    /// The first point.
+    pub start: Point,
+    /// The last point.
+    pub end: Point,
+}
+
+impl Line {
+    /// The line from `start` to `end`.
+    pub const fn new(start: Point, end: Point) -> Self {
+        Line { start, end }
+    }
+
+    /// How many points the line has: one more than the larger of its width and its height.
+    pub fn length(&self) -> Result<u32, Refusal> {
+        let Line { start, end } = self;
+        library::beamacorn_line_length(start.x, start.y, end.x, end.y).answer()
+    }
+
+    /// The point at a step: step 0 is the start. A step past the end is refused.
+    ///
+    /// ```
+    /// use beamacorn::{Line, Point, Refusal};
+    ///
+    /// let dot = Line::new(Point::new(7, 7), Point::new(7, 7));
+    /// assert_eq!(dot.point(0), Ok(Point::new(7, 7)));
+    /// assert_eq!(dot.point(1), Err(Refusal::PAST_LAST_STEP));
+    /// ```
+    pub fn point(&self, step: u32) -> Result<Point, Refusal> {
+        let Line { start, end } = self;
+        library::beamacorn_line_point(start.x, start.y, end.x, end.y, step).answer()
+    }
+
+    /// Whether the pixel is a point of the line. The cost does not grow with the line.
+    pub fn has_point(&self, point: Point) -> Result<bool, Refusal> {
+        let Line { start, end } = self;
+        library::beamacorn_line_has_point(start.x, start.y, end.x, end.y, point.x, point.y).answer()
+    }
+
+    /// The points, from the start to the end.
+    pub fn points(&self) -> Result<Points, Refusal> {
+        Ok(Points { line: *self, step: 0, length: self.length()? })
+    }
+}
+
+/// The points of a line, from its start to its end.
+#[derive(Clone, Debug)]
+pub struct Points {
+    line: Line,
+    step: u32,
+    length: u32,
+}
+
+impl Iterator for Points {
+    type Item = Point;
+
+    fn next(&mut self) -> Option<Point> {
+        // The step past the last is the one that is refused.
+        let point = self.line.point(self.step).ok()?;
+        self.step += 1;
+        Some(point)
+    }
+
+    fn size_hint(&self) -> (usize, Option<usize>) {
+        let left = (self.length - self.step) as usize;
+        (left, Some(left))
+    }
+}
+
+impl ExactSizeIterator for Points {}
+impl FusedIterator for Points {}

@@ -1,0 +1,49 @@
+use core::{error::Error, fmt, num::NonZeroU32};
+
+/// Why a question has no answer: a number of the library's table.
+///
+/// ```
+/// use beamacorn::{Circle, Point, Refusal};
+///
+/// let refusal = Circle::new(Point::new(131_071, 0), 2).contains(Point::new(0, 0)).unwrap_err();
+/// assert_eq!(refusal, Refusal::CIRCLE_TOO_FAR);
+/// assert_eq!(refusal.number(), 6);
+/// ```
+#[derive(Clone, Copy, Debug, Eq, Hash, PartialEq)]
+pub struct Refusal(NonZeroU32);
+
+impl Refusal {
+    /// 5: a vertex, line end or circle top-left has a coordinate outside -131,072 to 131,071.
+    pub const OUT_OF_BOUNDS: Refusal = Refusal(NonZeroU32::new(5).unwrap());
+    /// 6: left + diameter or top + diameter of a circle is above 131,072.
+    pub const CIRCLE_TOO_FAR: Refusal = Refusal(NonZeroU32::new(6).unwrap());
+    /// 7: a point of a line is asked at a step past its last.
+    pub const PAST_LAST_STEP: Refusal = Refusal(NonZeroU32::new(7).unwrap());
+
+    /// The number in the library's table.
+    pub const fn number(self) -> u32 {
+        self.0.get()
+    }
+
+    /// The value that came with a number: refused unless the number is 0.
+    pub(crate) fn or<T>(number: u32, value: T) -> Result<T, Refusal> {
+        match NonZeroU32::new(number) {
+            None => Ok(value),
+            Some(number) => Err(Refusal(number)),
+        }
+    }
+}
+
+impl fmt::Display for Refusal {
+    fn fmt(&self, f: &mut fmt::Formatter<'_>) -> fmt::Result {
+        let why = match *self {
+            Refusal::OUT_OF_BOUNDS => "a coordinate is outside -131072 to 131071",
+            Refusal::CIRCLE_TOO_FAR => "the circle's box ends past 131072",
+            Refusal::PAST_LAST_STEP => "the step is past the line's last",
+            _ => "see the library's table",
+        };
+        write!(f, "refused with {}: {why}", self.0)
+    }
+}
+
+impl Error for Refusal {}

@@ -1,0 +1,131 @@
+//! The questions through the crate's own types: the known small answers, each refusal, and the ends of the range.
+
+use beamacorn::{Circle, Line, Point, Refusal, Triangle};
+
+const FAR: Point = Point::new(131_072, 0);
+
+fn triangle(vertices: [(i32, i32); 3]) -> Triangle {
+    let [a, b, c] = vertices.map(|(x, y)| Point::new(x, y));
+    Triangle::new(a, b, c)
+}
+
+#[test]
+fn a_lines_points_depend_on_its_start() {
+    let (a, b) = (Point::new(0, 0), Point::new(2, 1));
+    assert!(Line::new(a, b).points().unwrap().eq([a, Point::new(1, 0), b]));
+    assert!(Line::new(b, a).points().unwrap().eq([b, Point::new(1, 1), a]));
+}
+
+#[test]
+fn a_line_walks_as_many_points_as_it_claims() {
+    for (end, points) in [((0, 0), 1), ((5, 2), 6), ((-7, 40), 41), ((131_071, -131_072), 131_073)] {
+        let line = Line::new(Point::new(0, 0), Point::new(end.0, end.1));
+        let walk = line.points().unwrap();
+        assert_eq!(line.length(), Ok(points));
+        assert_eq!(walk.len(), points as usize);
+        assert_eq!(walk.clone().count(), points as usize);
+        assert_eq!(walk.last(), Some(line.end));
+        assert_eq!(line.point(points), Err(Refusal::PAST_LAST_STEP));
+    }
+}
+
+#[test]
+fn a_line_has_its_points_and_no_other() {
+    let line = Line::new(Point::new(0, 0), Point::new(5, 2));
+    let points: Vec<Point> = line.points().unwrap().collect();
+    for y in -1..4 {
+        for x in -1..7 {
+            let pixel = Point::new(x, y);
+            assert_eq!(line.has_point(pixel), Ok(points.contains(&pixel)));
+        }
+    }
+    assert_eq!(line.has_point(Point::new(i32::MIN, i32::MAX)), Ok(false));
+}
+
+#[test]
+fn a_walk_has_no_more_points_after_its_end() {
+    let mut walk = Line::new(Point::new(1, 1), Point::new(2, 1)).points().unwrap();
+    assert_eq!(walk.by_ref().count(), 2);
+    assert_eq!((walk.next(), walk.len()), (None, 0));
+}
+
+#[test]
+fn a_wedge_of_load_contains_its_minutes() {
+    let wedge = triangle([(0, 0), (86_400, 0), (0, 40_000)]);
+    assert_eq!(wedge.contains(Point::new(20_000, 10_000)), Ok(true));
+    assert_eq!(wedge.contains(Point::new(86_399, 2)), Ok(false));
+    assert_eq!(wedge.contains(Point::new(i32::MIN, i32::MIN)), Ok(false));
+}
+
+#[test]
+fn a_triangle_contains_its_rows_spans_and_nothing_else() {
+    for vertices in [[(0, 0), (4, 2), (2, 1)], [(0, 0), (-2, 2), (2, 0)], [(5, -3), (-4, 1), (2, 6)], [(3, 3), (3, 3), (3, 3)]] {
+        let triangle = triangle(vertices);
+        let rows = triangle.rows().unwrap();
+        for y in -5..9 {
+            let span = triangle.row_span(y).unwrap();
+            assert_eq!(span.is_empty(), !rows.contains(&y));
+            for x in -7..9 {
+                assert_eq!(triangle.contains(Point::new(x, y)), Ok(span.contains(&x)));
+            }
+        }
+    }
+}
+
+#[test]
+fn a_circle_contains_its_rows_spans_and_nothing_else() {
+    for diameter in 0..12 {
+        let circle = Circle::new(Point::new(-3, 2), diameter);
+        for y in 0..16 {
+            let span = circle.row_span(y).unwrap();
+            for x in -6..12 {
+                assert_eq!(circle.contains(Point::new(x, y)), Ok(span.contains(&x)));
+            }
+        }
+    }
+    assert_eq!([0, 1, 2, 3].map(|y| Circle::new(Point::new(0, 0), 4).row_span(y)), [Ok(1..3), Ok(0..4), Ok(0..4), Ok(1..3)]);
+}
+
+#[test]
+fn every_figure_out_of_bounds_is_refused_and_never_answered_no() {
+    let here = Point::new(0, 0);
+    let refused = Refusal::OUT_OF_BOUNDS;
+    for line in [Line::new(FAR, here), Line::new(here, FAR)] {
+        assert_eq!(line.length(), Err(refused));
+        assert_eq!(line.point(0), Err(refused));
+        assert_eq!(line.has_point(here), Err(refused));
+        assert_eq!(line.points().err(), Some(refused));
+    }
+    for vertices in [[FAR, here, here], [here, FAR, here], [here, here, FAR]] {
+        let triangle = Triangle { vertices };
+        assert_eq!(triangle.contains(here), Err(refused));
+        assert_eq!(triangle.rows(), Err(refused));
+        assert_eq!(triangle.row_span(0), Err(refused));
+    }
+    assert_eq!(Circle::new(FAR, 1).contains(here), Err(refused));
+    assert_eq!(Circle::new(FAR, u32::MAX).row_span(0), Err(refused));
+}
+
+#[test]
+fn a_circle_whose_box_ends_too_far_is_refused() {
+    for (top_left, diameter) in [(Point::new(131_071, 0), 2), (Point::new(0, 131_071), 2), (Point::new(0, 0), u32::MAX)] {
+        let circle = Circle::new(top_left, diameter);
+        assert_eq!(circle.contains(top_left), Err(Refusal::CIRCLE_TOO_FAR));
+        assert_eq!(circle.row_span(0), Err(Refusal::CIRCLE_TOO_FAR));
+    }
+    assert_eq!(Circle::new(Point::new(131_071, 0), 1).contains(Point::new(131_071, 0)), Ok(true));
+}
+
+#[test]
+fn the_ends_of_the_range_are_accepted() {
+    let whole = triangle([(-131_072, -131_072), (131_071, -131_072), (-131_072, 131_071)]);
+    assert_eq!(whole.rows(), Ok(-131_072..131_072));
+    assert_eq!(whole.row_span(-131_072), Ok(-131_072..131_072));
+    assert_eq!(whole.contains(Point::new(-131_072, 131_071)), Ok(true));
+}
+
+#[test]
+fn a_refusal_says_why() {
+    assert_eq!(Refusal::OUT_OF_BOUNDS.to_string(), "refused with 5: a coordinate is outside -131072 to 131071");
+    assert_eq!([Refusal::OUT_OF_BOUNDS, Refusal::CIRCLE_TOO_FAR, Refusal::PAST_LAST_STEP].map(Refusal::number), [5, 6, 7]);
+}

@@ -1,0 +1,31 @@
+-- `beamacorn_draw_triangle` hands on to `drawing::draw_triangle`. Assumes nothing.
+use borrow.Author.Needs.{needs}
+use lib.ListN.{length}
+use Rattle.drawing.specs.Figure.{triangleFigure}
+use Rattle.drawing.specs.Number.{triangleNumber}
+use Rattle.beamacorn.proofs.Places.{place}
+use Rattle.beamacorn.proofs.Calls.{handed-on}
+use Rattle.beamacorn.proofs.beamacorn_draw_triangle.Statement.{statement}
+use Rattle.beamacorn.proofs.beamacorn_draw_triangle.Tie as tie
+
+frame-requires : tie.Need-frame-requires
+frame-requires c κs = search needs
+
+draw-triangle-requires : tie.Need-draw-triangle-requires
+draw-triangle-requires c κs = search needs
+
+same-length : tie.Need-same-length
+same-length c = search needs
+
+returns : tie.Need-returns
+returns c =
+    let g = c .before .before .before .before .before .before .args in
+    let f = c .before .before .before .before .before .before .fits in
+    let v1 = place (f .x1) (f .y1) in
+    let v2 = place (f .x2) (f .y2) in
+    let v3 = place (f .x3) (f .y3) in
+    let frame = c .before .before .before .frame .ensures in
+    handed-on (g .colour) (g .buf .now) frame (λ i. triangleNumber (frame i) (length (g .buf .now)) (v1 i) (v2 i) (v3 i) (g .colour)) (λ i. triangleFigure (v1 i) (v2 i) (v3 i)) (c .before .before .draw-triangle .ensures)
+
+pub beamacorn-draw-triangle-spec : {M : Type 1} → statement M
+beamacorn-draw-triangle-spec = tie.close (tie.spec frame-requires draw-triangle-requires same-length returns)

@@ -1,0 +1,23 @@
+-- `beamacorn_line_has_point` hands on to `line::has_point`. Assumes nothing.
+use mathlib.Core.Path.{_∙_}
+use borrow.Author.Needs.{needs}
+use Rattle.geometry.specs.Answer.{verdict}
+use Rattle.line.specs.Line.{hasPoint}
+use Rattle.line.specs.Answer.{endRefusal}
+use Rattle.beamacorn.proofs.Places.{place}
+use Rattle.beamacorn.proofs.beamacorn_line_has_point.Statement.{statement}
+use Rattle.beamacorn.proofs.beamacorn_line_has_point.Tie as tie
+
+has-point-requires : tie.Need-has-point-requires
+has-point-requires c κs = search needs
+
+returns : tie.Need-returns
+returns c =
+    let f = c .before .fits in
+    let s = place (f .x1) (f .y1) in
+    let e = place (f .x2) (f .y2) in
+    let p = place (f .x) (f .y) in
+    c .has-point .ensures ∙ (λ i. verdict (endRefusal (s i) (e i) 0) (hasPoint (s i) (e i) (p i)))
+
+pub beamacorn-line-has-point-spec : {M : Type 1} → statement M
+beamacorn-line-has-point-spec = tie.close (tie.spec has-point-requires returns)

@@ -1,0 +1,16 @@
+-- The plain numbers of the exported functions: a description's order, and the answer that holds a point.
+use mathlib.Core.Bool.{not}
+use Prim.Native.Nat.{ℕ}
+use lib.Dec.{eqb}
+use Rattle.line.specs.declared.Step as line
+use Rattle.framebuffer.specs.declared.Frame.{Frame}
+use Rattle.framebuffer.specs.Description.{described}
+use Rattle.beamacorn.specs.declared.Step.{Step}
+
+-- 01, "Packed frames", "little or big end first as the description says": 0 is little, anything else big
+abbrev pub frameOf : ℕ → ℕ → ℕ → ℕ → Frame
+frameOf width height depth order = described width height depth (not (eqb order 0))
+
+-- the point's coordinates beside its number
+abbrev pub plainStep : line.Step → Step
+plainStep s = record { number = s .number; x = s .point .0; y = s .point .1 }

@@ -1,0 +1,313 @@
+// The static library: the public operations for callers in C and Rust, in plain numbers and bytes. Each only hands on. bindings/c/beamacorn.h
+// says what a caller needs to know.
+ghost use mathlib.Core.Path.{_≡_};
+ghost use lib.ListN.{length};
+ghost use Rattle.geometry.specs.Answer.{verdict, span};
+ghost use Rattle.line.specs.Line.{points, pointAt, hasPoint};
+ghost use Rattle.line.specs.Answer.{endRefusal, stepRefusal, lengthAnswer, stepAnswer};
+ghost use Rattle.triangle.specs.Triangle as triangle;
+ghost use Rattle.triangle.specs.Row.{rowSpan, firstRow, rowCount};
+ghost use Rattle.triangle.specs.Answer.{vertexRefusal, rowsAnswer};
+ghost use Rattle.circle.specs.Circle as circle;
+ghost use Rattle.circle.specs.Refusal.{refusalOf};
+ghost use Rattle.layout.specs.Figure.{single, everywhere};
+ghost use Rattle.framebuffer.specs.Answer.{sized, drawn, read};
+ghost use Rattle.framebuffer.specs.Description.{size, sizeNumber, drawNumber, readNumber, colourAt, afterDraw};
+ghost use Rattle.drawing.specs.Figure.{lineFigure, outlineFigure, triangleFigure, circleFigure};
+ghost use Rattle.drawing.specs.Number.{lineNumber, triangleNumber, circleNumber};
+ghost use Rattle.beamacorn.specs.Plain.{frameOf, plainStep};
+use framebuffer::Drawn;
+use framebuffer::Frame;
+use geometry::Point;
+
+// A line's point at a step. With a refusal its number, and 0 and 0.
+#[repr(C)]
+pub struct Step {
+    pub number: u32,
+    pub x: i32,
+    pub y: i32,
+}
+
+// ---- questions: these stay as they are
+
+// The number of points of the line from (x1, y1) to (x2, y2).
+#[no_mangle]
+pub extern "C" fn beamacorn_line_length(x1: i32, y1: i32, x2: i32, y2: i32) -> line::Length
+    ensures { λ r. ⌜ r ≡ lengthAnswer (endRefusal (x1, y1) (x2, y2) 0) (points (x1, y1) (x2, y2)) ⌝ }
+{
+    line::major_length(Point(x1, y1), Point(x2, y2))
+}
+
+// The point of the line at a step, the start being step 0.
+#[no_mangle]
+pub extern "C" fn beamacorn_line_point(x1: i32, y1: i32, x2: i32, y2: i32, step: u32) -> Step
+    ensures { λ r. ⌜ r ≡ plainStep (stepAnswer (stepRefusal (x1, y1) (x2, y2) step) (pointAt (x1, y1) (x2, y2) step)) ⌝ }
+{
+    let answer = line::point(Point(x1, y1), Point(x2, y2), step);
+    let point = answer.point;
+    Step {
+        number: answer.number,
+        x: point.0,
+        y: point.1,
+    }
+}
+
+// Whether (x, y) is a point of the line.
+#[no_mangle]
+pub extern "C" fn beamacorn_line_has_point(
+    x1: i32,
+    y1: i32,
+    x2: i32,
+    y2: i32,
+    x: i32,
+    y: i32,
+) -> geometry::Verdict
+    ensures { λ r. ⌜ r ≡ verdict (endRefusal (x1, y1) (x2, y2) 0) (hasPoint (x1, y1) (x2, y2) (x, y)) ⌝ }
+{
+    line::has_point(Point(x1, y1), Point(x2, y2), Point(x, y))
+}
+
+// Whether the triangle contains (x, y).
+#[no_mangle]
+pub extern "C" fn beamacorn_triangle_contains(
+    x1: i32,
+    y1: i32,
+    x2: i32,
+    y2: i32,
+    x3: i32,
+    y3: i32,
+    x: i32,
+    y: i32,
+) -> geometry::Verdict
+    ensures { λ r. ⌜ r ≡ verdict (vertexRefusal (x1, y1) (x2, y2) (x3, y3)) (triangle.contained (x1, y1) (x2, y2) (x3, y3) (x, y)) ⌝ }
+{
+    triangle::contains(Point(x1, y1), Point(x2, y2), Point(x3, y3), Point(x, y))
+}
+
+// The triangle's first row, and how many it has.
+#[no_mangle]
+pub extern "C" fn beamacorn_triangle_rows(
+    x1: i32,
+    y1: i32,
+    x2: i32,
+    y2: i32,
+    x3: i32,
+    y3: i32,
+) -> triangle::RowRange
+    ensures { λ r. ⌜ r ≡ rowsAnswer (vertexRefusal (x1, y1) (x2, y2) (x3, y3)) (firstRow (x1, y1) (x2, y2) (x3, y3)) (rowCount (x1, y1) (x2, y2) (x3, y3)) ⌝ }
+{
+    triangle::rows(Point(x1, y1), Point(x2, y2), Point(x3, y3))
+}
+
+// The columns of row y that the triangle contains.
+#[no_mangle]
+pub extern "C" fn beamacorn_triangle_row_span(
+    x1: i32,
+    y1: i32,
+    x2: i32,
+    y2: i32,
+    x3: i32,
+    y3: i32,
+    y: i32,
+) -> geometry::Span
+    ensures { λ r. ⌜ r ≡ span (vertexRefusal (x1, y1) (x2, y2) (x3, y3)) (rowSpan (x1, y1) (x2, y2) (x3, y3) y .0) (rowSpan (x1, y1) (x2, y2) (x3, y3) y .1) ⌝ }
+{
+    triangle::row_span(Point(x1, y1), Point(x2, y2), Point(x3, y3), y)
+}
+
+// Whether the circle contains (x, y).
+#[no_mangle]
+pub extern "C" fn beamacorn_circle_contains(
+    left: i32,
+    top: i32,
+    diameter: u32,
+    x: i32,
+    y: i32,
+) -> geometry::Verdict
+    ensures { λ r. ⌜ r ≡ verdict (refusalOf (left, top) diameter) (circle.contained (left, top) diameter (x, y)) ⌝ }
+{
+    circle::contains(Point(left, top), diameter, Point(x, y))
+}
+
+// The columns of row y that the circle contains.
+#[no_mangle]
+pub extern "C" fn beamacorn_circle_row_span(
+    left: i32,
+    top: i32,
+    diameter: u32,
+    y: i32,
+) -> geometry::Span
+    ensures { λ r. ⌜ r ≡ span (refusalOf (left, top) diameter) (circle.spanStart (left, top) diameter y) (circle.spanEnd (left, top) diameter y) ⌝ }
+{
+    circle::row_span(Point(left, top), diameter, y)
+}
+
+// ---- frames and drawing: these will grow by a distance between rows and by counts
+
+// The description of a frame. The order is 0 where the little end comes first; anything else says that the big end does.
+fn frame(width: u32, height: u32, depth: u32, order: u32) -> Frame
+    ensures { λ r. ⌜ r ≡ frameOf width height depth order ⌝ }
+{
+    Frame::new(width, height, depth, order != 0)
+}
+
+// The bytes that a buffer for the frame must have.
+#[no_mangle]
+pub extern "C" fn beamacorn_frame_size(width: u32, height: u32, depth: u32) -> framebuffer::Size
+    ensures { λ r. ⌜ r ≡ sized (sizeNumber (frameOf width height depth 0)) (size (frameOf width height depth 0)) ⌝ }
+{
+    framebuffer::buffer_size_bpp(frame(width, height, depth, 0))
+}
+
+// The pixel at (x, y) gets the colour; outside the frame nothing changes.
+#[no_mangle]
+pub extern "C" fn beamacorn_set_pixel(
+    buf: &mut [u8],
+    width: u32,
+    height: u32,
+    depth: u32,
+    order: u32,
+    x: i32,
+    y: i32,
+    colour: u32,
+) -> Drawn
+    ensures { λ r. ⌜ (r ≡ drawn (drawNumber (frameOf width height depth order) (length (now (buf .entry))) colour 0)) × (now (buf .exit) ≡ afterDraw (frameOf width height depth order) (r .number) (single x y) colour (now (buf .entry))) ⌝ }
+{
+    framebuffer::set_pixel(buf, frame(width, height, depth, order), Point(x, y), colour)
+}
+
+// The colour of the pixel at (x, y).
+#[no_mangle]
+pub extern "C" fn beamacorn_pixel(
+    buf: &[u8],
+    width: u32,
+    height: u32,
+    depth: u32,
+    order: u32,
+    x: i32,
+    y: i32,
+) -> framebuffer::Read
+    ensures { λ r. ⌜ r ≡ read (readNumber (frameOf width height depth order) (length (now (buf .entry))) (x, y)) (colourAt (frameOf width height depth order) (x, y) (now (buf .entry))) ⌝ }
+{
+    framebuffer::pixel(buf, frame(width, height, depth, order), Point(x, y))
+}
+
+// Every pixel of the frame gets the colour.
+#[no_mangle]
+pub extern "C" fn beamacorn_fill(
+    buf: &mut [u8],
+    width: u32,
+    height: u32,
+    depth: u32,
+    order: u32,
+    colour: u32,
+) -> Drawn
+    ensures { λ r. ⌜ (r ≡ drawn (drawNumber (frameOf width height depth order) (length (now (buf .entry))) colour 0)) × (now (buf .exit) ≡ afterDraw (frameOf width height depth order) (r .number) everywhere colour (now (buf .entry))) ⌝ }
+{
+    framebuffer::fill(buf, frame(width, height, depth, order), colour)
+}
+
+// Draws the line from (x1, y1) to (x2, y2).
+#[no_mangle]
+pub extern "C" fn beamacorn_draw_line(
+    buf: &mut [u8],
+    width: u32,
+    height: u32,
+    depth: u32,
+    order: u32,
+    x1: i32,
+    y1: i32,
+    x2: i32,
+    y2: i32,
+    colour: u32,
+) -> Drawn
+    ensures { λ r. ⌜ (r ≡ drawn (lineNumber (frameOf width height depth order) (length (now (buf .entry))) (x1, y1) (x2, y2) colour)) × (now (buf .exit) ≡ afterDraw (frameOf width height depth order) (r .number) (lineFigure (x1, y1) (x2, y2)) colour (now (buf .entry))) ⌝ }
+{
+    drawing::draw_line(
+        buf,
+        frame(width, height, depth, order),
+        Point(x1, y1),
+        Point(x2, y2),
+        colour,
+    )
+}
+
+// Draws the filled triangle.
+#[no_mangle]
+pub extern "C" fn beamacorn_draw_triangle(
+    buf: &mut [u8],
+    width: u32,
+    height: u32,
+    depth: u32,
+    order: u32,
+    x1: i32,
+    y1: i32,
+    x2: i32,
+    y2: i32,
+    x3: i32,
+    y3: i32,
+    colour: u32,
+) -> Drawn
+    ensures { λ r. ⌜ (r ≡ drawn (triangleNumber (frameOf width height depth order) (length (now (buf .entry))) (x1, y1) (x2, y2) (x3, y3) colour)) × (now (buf .exit) ≡ afterDraw (frameOf width height depth order) (r .number) (triangleFigure (x1, y1) (x2, y2) (x3, y3)) colour (now (buf .entry))) ⌝ }
+{
+    drawing::draw_triangle(
+        buf,
+        frame(width, height, depth, order),
+        Point(x1, y1),
+        Point(x2, y2),
+        Point(x3, y3),
+        colour,
+    )
+}
+
+// Draws the triangle's outline.
+#[no_mangle]
+pub extern "C" fn beamacorn_draw_outline(
+    buf: &mut [u8],
+    width: u32,
+    height: u32,
+    depth: u32,
+    order: u32,
+    x1: i32,
+    y1: i32,
+    x2: i32,
+    y2: i32,
+    x3: i32,
+    y3: i32,
+    colour: u32,
+) -> Drawn
+    ensures { λ r. ⌜ (r ≡ drawn (triangleNumber (frameOf width height depth order) (length (now (buf .entry))) (x1, y1) (x2, y2) (x3, y3) colour)) × (now (buf .exit) ≡ afterDraw (frameOf width height depth order) (r .number) (outlineFigure (x1, y1) (x2, y2) (x3, y3)) colour (now (buf .entry))) ⌝ }
+{
+    drawing::draw_outline(
+        buf,
+        frame(width, height, depth, order),
+        Point(x1, y1),
+        Point(x2, y2),
+        Point(x3, y3),
+        colour,
+    )
+}
+
+// Draws the filled circle.
+#[no_mangle]
+pub extern "C" fn beamacorn_draw_circle(
+    buf: &mut [u8],
+    width: u32,
+    height: u32,
+    depth: u32,
+    order: u32,
+    left: i32,
+    top: i32,
+    diameter: u32,
+    colour: u32,
+) -> Drawn
+    ensures { λ r. ⌜ (r ≡ drawn (circleNumber (frameOf width height depth order) (length (now (buf .entry))) (left, top) diameter colour)) × (now (buf .exit) ≡ afterDraw (frameOf width height depth order) (r .number) (circleFigure (left, top) diameter) colour (now (buf .entry))) ⌝ }
+{
+    drawing::draw_circle(
+        buf,
+        frame(width, height, depth, order),
+        Point(left, top),
+        diameter,
+        colour,
+    )
+}

@@ -3,33 +3,6 @@
 ghost use Prim.Native.Nat.{_<_, _≤_};
 use framebuffer::Frame;
 use geometry::Point;
-use libc::STDOUT_FILENO;
-
-fn digit(v: u32) -> u8
-    requires { ⌜ v < 16 ⌝ }
-{
-    if v < 10 {
-        return b'0' + v as u8;
-    }
-    b'a' + (v - 10) as u8
-}
-
-// Eight hexadecimal digits and a space.
-fn show(v: u32) {
-    let mut word = [b' '; 9];
-    let mut rest = v;
-    let mut i = 8usize;
-    while 0 < i {
-        i -= 1;
-        word[i] = digit(rest % 16);
-        rest = rest / 16;
-    }
-    io::write_all(STDOUT_FILENO, &word);
-}
-
-fn end_line() {
-    io::write_all(STDOUT_FILENO, b"\n");
-}
 
 fn mixed(sum: u32, v: u32) -> u32 {
     ((sum as u64 * 31 + v as u64) % 4294967291) as u32
@@ -122,12 +95,12 @@ fn beside(buf: &mut [u8], frame: Frame)
 {
     let right = frame.width as i32;
     let below = frame.height as i32;
-    show(framebuffer::set_pixel(buf, frame, Point(-1, 0), 1).number);
-    show(framebuffer::set_pixel(buf, frame, Point(0, -2147483648), 1).number);
-    show(framebuffer::set_pixel(buf, frame, Point(right, 0), 1).number);
-    show(framebuffer::set_pixel(buf, frame, Point(0, below), 1).number);
-    show(framebuffer::pixel(buf, frame, Point(right, 0)).number);
-    show(framebuffer::pixel(buf, frame, Point(2147483647, -1)).number);
+    hex::show(framebuffer::set_pixel(buf, frame, Point(-1, 0), 1).number);
+    hex::show(framebuffer::set_pixel(buf, frame, Point(0, -2147483648), 1).number);
+    hex::show(framebuffer::set_pixel(buf, frame, Point(right, 0), 1).number);
+    hex::show(framebuffer::set_pixel(buf, frame, Point(0, below), 1).number);
+    hex::show(framebuffer::pixel(buf, frame, Point(right, 0)).number);
+    hex::show(framebuffer::pixel(buf, frame, Point(2147483647, -1)).number);
 }
 
 // The frame over as many bytes as it needs and five more.
@@ -135,18 +108,18 @@ fn try_frame(buf: &mut [u8], frame: Frame)
     requires { ⌜ (0 < frame .depth) × (frame .depth ≤ 32) × (frame .width ≤ 2048) × (frame .height ≤ 2048) ⌝ }
 {
     let depth = frame.depth;
-    show(depth);
-    show(frame.width);
-    show(framebuffer::buffer_size_bpp(frame).bytes);
+    hex::show(depth);
+    hex::show(frame.width);
+    hex::show(framebuffer::buffer_size_bpp(frame).bytes);
     preset(buf);
     set_rows(buf, frame);
-    show(sum_of(buf));
+    hex::show(sum_of(buf));
     beside(buf, frame);
-    show(sum_of(buf));
-    show(read_rows(buf, frame));
-    show(framebuffer::fill(buf, frame, colour_of(depth, frame.width, 7)).number);
-    show(sum_of(buf));
-    end_line();
+    hex::show(sum_of(buf));
+    hex::show(read_rows(buf, frame));
+    hex::show(framebuffer::fill(buf, frame, colour_of(depth, frame.width, 7)).number);
+    hex::show(sum_of(buf));
+    hex::end_line();
 }
 
 fn try_width(buf: &mut [u8], width: u32, height: u32, depth: u32, big: bool)
@@ -179,20 +152,20 @@ fn try_depth(buf: &mut [u8], depth: u32)
 
 // What is refused, with the sum of the bytes, which stay.
 fn try_refused(buf: &mut [u8], frame: Frame, colour: u32) {
-    show(framebuffer::buffer_size_bpp(frame).number);
-    show(framebuffer::set_pixel(buf, frame, Point(0, 0), colour).number);
-    show(framebuffer::pixel(buf, frame, Point(0, 0)).number);
-    show(framebuffer::fill(buf, frame, colour).number);
-    show(sum_of(buf));
-    end_line();
+    hex::show(framebuffer::buffer_size_bpp(frame).number);
+    hex::show(framebuffer::set_pixel(buf, frame, Point(0, 0), colour).number);
+    hex::show(framebuffer::pixel(buf, frame, Point(0, 0)).number);
+    hex::show(framebuffer::fill(buf, frame, colour).number);
+    hex::show(sum_of(buf));
+    hex::end_line();
 }
 
 // 01's known sizes: 10 by 3 at depth 1, 9 by 5 at depth 2, 7 by 2 at depth 24.
 fn known_sizes() {
-    show(framebuffer::buffer_size_bpp(Frame::new(10, 3, 1, false)).bytes);
-    show(framebuffer::buffer_size_bpp(Frame::new(9, 5, 2, false)).bytes);
-    show(framebuffer::buffer_size_bpp(Frame::new(7, 2, 24, false)).bytes);
-    end_line();
+    hex::show(framebuffer::buffer_size_bpp(Frame::new(10, 3, 1, false)).bytes);
+    hex::show(framebuffer::buffer_size_bpp(Frame::new(9, 5, 2, false)).bytes);
+    hex::show(framebuffer::buffer_size_bpp(Frame::new(7, 2, 24, false)).bytes);
+    hex::end_line();
 }
 
 fn main() {

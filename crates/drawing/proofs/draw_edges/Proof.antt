@@ -32,7 +32,8 @@ draw-edge-requires-3 c κs =
     let two = c .before .before .before in
     let one = two .before .before .before .before in
     let s = one .before .before .before in
-    (accepted s (two .draw-edge2 .kept .0 ∙ one .draw-edge .kept .0), s .pre .1, (s .pre .2 .2, s .pre .2 .0))
+    let frame = accepted s (two .draw-edge2 .kept .0 ∙ one .draw-edge .kept .0) in
+    search (needs, frame)
 
 same-length : tie.Need-same-length
 same-length c = search needs

@@ -1,10 +1,10 @@
--- `frames::show` writes the lowest digit last; the word keeps its nine bytes. Assumes nothing.
+-- `hex::show` writes the lowest digit last; the word keeps its nine bytes. Assumes nothing.
 use borrow.Author.Needs.{needs}
 use Prim.Native.Nat.{_≤_}
 use mathlib.Core.Path.{_≡_}
 use lib.ListN.{length}
-use Rattle.frames.proofs.show.Statement.{statement}
-use Rattle.frames.proofs.show.Tie as tie
+use Rattle.hex.proofs.show.Statement.{statement}
+use Rattle.hex.proofs.show.Tie as tie
 
 abbrev Inv-loop : tie.InvT-loop
 Inv-loop v word₀ rest₀ i₀ word rest i = (i ≤ 8) × (length word ≡ 9)

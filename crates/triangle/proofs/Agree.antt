@@ -4,11 +4,11 @@ use mathlib.Core.Path.{_≡_, refl, sym, ap, subst, _∙_}
 use mathlib.Core.Bool.{Bool, true, false, cond, _||_}
 use mathlib.Core.Logic.{_⊎_, inl, inr, ⊎-elim}
 use native.Mathlib.Omega.{arith}
-use lib.IntN.{ℤ, pos, negℤ, _+ℤ_, _-ℤ_, _*ℤ_, *ℤ-comm}
+use lib.IntN.{ℤ, pos, negℤ, _+ℤ_, _*ℤ_, *ℤ-comm}
 use lib.Signed.{_≤ℤ_, _<ℤ_, leZ, ltZ, ≤ℤ-refl}
 use Rattle.whole.specs.Decides.{Decides}
 use Rattle.whole.proofs.Decides.{decides-map, decides-or}
-use Rattle.whole.proofs.Difference.{up, dn, as-mk, mks, mk-eq, mk-le, le-mk, le-nat, lt-nat, eq-nat, nat-le, nat-lt, nat-eq}
+use Rattle.whole.proofs.Difference.{as-mk, mks, mk-eq, mk-le, le-mk, le-nat, lt-nat, nat-le, nat-eq}
 use Rattle.whole.proofs.Machine.{le-yes, le-no, lt-yes, lt-no}
 use Rattle.whole.proofs.Order.{le-trans, le-antisym, lt-le, le-unless, lt-unless, le-sub, lt-sub-pos, nonneg-add, nonneg-mul, nonneg-cancel}
 use Rattle.geometry.specs.declared.Point.{Point}
@@ -17,9 +17,8 @@ use Rattle.line.proofs.Points.{has-start, has-end, has-decides}
 use Rattle.triangle.specs.Triangle.{areaDoubled, isInside, onEdge}
 use Rattle.triangle.specs.Between.{EdgePoint, Between}
 use Rattle.triangle.proofs.Area.{area-from-first, area-from-last, area-level}
-use Rattle.triangle.proofs.Run.{Run}
 use Rattle.triangle.proofs.Edge.{RunOn, run-on, no-gap, edge-rows}
-use Rattle.triangle.proofs.Sides.{Flat, NoneBelow, NoneAbove, Inside, back-below, back-above, inside-rows, inside-decides}
+use Rattle.triangle.proofs.Sides.{Flat, Inside, back-below, back-above, inside-rows, inside-decides}
 
 -- ---- the third side from two: A C = B D + B' D', where no distance C, D, D' is negative
 third-below : (A C B D B' D' : ℤ) → A *ℤ C ≡ B *ℤ D +ℤ B' *ℤ D' → pos 0 <ℤ C → pos 0 ≤ℤ D → pos 0 ≤ℤ D' → pos 0 ≤ℤ B → pos 0 ≤ℤ B' → pos 0 ≤ℤ A

@@ -1,24 +1,23 @@
 -- Moving a triangle and a pixel together changes nothing: containment is the same, and the span of a row moves along. Assumes nothing.
-use mathlib.Core.Path.{_≡_, refl, sym, ap, ap₂, subst, _∙_}
+use mathlib.Core.Path.{_≡_, refl, sym, ap, subst, _∙_}
 use mathlib.Core.Bool.{Bool, true, false, cond, _||_}
-use mathlib.Core.Logic.{_⊎_, inl, inr, ⊎-elim}
+use mathlib.Core.Logic.{inl, inr}
 use Prim.Native.Nat.{ℕ, _≤_}
 use native.Mathlib.Omega.{arith}
 use lib.IntN.{ℤ, pos, _+ℤ_, _-ℤ_}
-use lib.Signed.{_≤ℤ_, _<ℤ_}
-use Rattle.whole.specs.Decides.{Decides}
+use lib.Signed.{_≤ℤ_}
 use Rattle.whole.specs.Equal.{eqZ}
 use Rattle.whole.proofs.Decides.{decides-map, decides-one}
 use Rattle.whole.proofs.Difference.{as-mk, mks, mk-eq}
 use Rattle.whole.proofs.Order.{le-move, move-le, lt-move, move-lt, move-eq}
 use Rattle.geometry.specs.declared.Point.{Point}
 use Rattle.geometry.specs.Place.{moved}
-use Rattle.line.specs.Line.{major, HasPoint, hasPoint}
+use Rattle.line.specs.Line.{HasPoint, hasPoint}
 use Rattle.line.proofs.Points.{major-moved, point-moved, has-moved, has-decides}
 use Rattle.triangle.specs.declared.Sorted.{Sorted}
 use Rattle.triangle.specs.declared.Columns.{Columns}
 use Rattle.triangle.specs.Order.{before, three, placed, sorted}
-use Rattle.triangle.specs.Triangle.{areaDoubled, noneBelow, noneAbove, isFlat, isInside, onEdge, contained}
+use Rattle.triangle.specs.Triangle.{noneBelow, noneAbove, isFlat, isInside, onEdge, contained}
 use Rattle.triangle.specs.Between.{EdgePoint}
 use Rattle.triangle.specs.Row.{rowSpan}
 use Rattle.triangle.proofs.Area.{area-moved}

@@ -8,12 +8,12 @@ use native.Mathlib.Omega.{arith}
 use lib.IntN.{ℤ, pos, negsuc, negℤ, natAbs, _+ℤ_, _-ℤ_, _*ℤ_}
 use lib.Signed.{_≤ℤ_, _<ℤ_, leZ}
 use Rattle.whole.proofs.Decides.{decides-le, decides-yes}
-use Rattle.whole.proofs.Difference.{up, dn, mk, as-mk, mks, mk-eq, mk-lt, mk-pos, lt-mk, le-nat, lt-nat, nat-le, nat-eq, sum-nat, nat-sum}
+use Rattle.whole.proofs.Difference.{up, dn, mk, as-mk, mks, mk-eq, mk-lt, mk-pos, lt-mk, le-nat, lt-nat, nat-le, nat-eq, sum-nat}
 use Rattle.whole.proofs.Machine.{le-yes, le-no, size-pos, size-neg}
-use Rattle.whole.proofs.Order.{le-sub, lt-sub, lt-le}
+use Rattle.whole.proofs.Order.{le-sub, lt-sub}
 use Rattle.geometry.specs.declared.Point.{Point}
-use Rattle.line.specs.Line.{toward, wide, high, steep, xMoves, yMoves, HasPoint}
-use Rattle.line.proofs.Closed.{Off, moves-off, off-moves, has-off, closed→, closed←}
+use Rattle.line.specs.Line.{toward, wide, high, xMoves, HasPoint}
+use Rattle.line.proofs.Closed.{moves-off, off-moves, has-off, closed→, closed←}
 use Rattle.triangle.specs.Triangle.{areaDoubled}
 use Rattle.triangle.proofs.Area.{area-near}
 use Rattle.triangle.proofs.Offsets.{Offsets}

@@ -1,15 +1,13 @@
 -- Laws of the sides that a pixel is on: the tests decide the statements, any order of the vertices gives the same, and a pixel that is on the same
 -- side of all three edges stands on the triangle's rows. Assumes nothing.
-use mathlib.Core.Path.{_≡_, refl, sym, ap, subst, _∙_}
-use mathlib.Core.Bool.{Bool, true, false, _&&_}
+use mathlib.Core.Path.{_≡_, sym, ap, subst, _∙_}
 use mathlib.Core.Logic.{_⊎_, inl, inr, ⊎-elim}
 use native.Mathlib.Omega.{arith}
-use lib.IntN.{ℤ, pos, negℤ, _+ℤ_, _-ℤ_, _*ℤ_}
+use lib.IntN.{ℤ, pos, negℤ, _+ℤ_, _*ℤ_}
 use lib.Signed.{_≤ℤ_, _<ℤ_, leZ, ≤ℤ-refl}
 use Rattle.whole.specs.Decides.{Decides}
-use Rattle.whole.specs.Equal.{eqZ}
 use Rattle.whole.proofs.Decides.{decides-map, decides-and, decides-or, decides-one, decides-le, decides-eq}
-use Rattle.whole.proofs.Difference.{up, dn, as-mk, mks, mk-eq, mk-le, le-nat, nat-lt, nat-eq}
+use Rattle.whole.proofs.Difference.{up, dn, as-mk, mks, mk-le, le-nat, nat-lt, nat-eq}
 use Rattle.whole.proofs.Order.{le-trans, le-sub, sub-le, nonneg-add, nonneg-mul, nonneg-cancel}
 use Rattle.geometry.specs.declared.Point.{Point}
 use Rattle.triangle.specs.Triangle.{areaDoubled, noneBelow, noneAbove, isFlat, isInside}

@@ -1,8 +1,8 @@
 -- What is proved of a triangle, its vertices as given, in any order, with any area: span and containment agree; the rows that have a span; the same for
 -- any order of the vertices; contained lies in the bounding box. All over ℤ, so for triangles out of bounds too. Assumes nothing.
-use mathlib.Core.Path.{_≡_, refl, sym, ap, ap₂, subst, _∙_}
+use mathlib.Core.Path.{_≡_, refl, ap, _∙_}
 use mathlib.Core.Bool.{Bool, true, false, cond, _||_}
-use mathlib.Core.List.{List, _++_, List·Memᴰ, List·Memᴰ·append-cases, Memᴰ·append-left, Memᴰ·append-right}
+use mathlib.Core.List.{List·Memᴰ, List·Memᴰ·append-cases, Memᴰ·append-left, Memᴰ·append-right}
 use mathlib.Core.Logic.{_⊎_, inl, inr, ⊎-elim}
 use Prim.Native.Nat.{ℕ, _+_, _≤_, _<_}
 use native.Mathlib.Omega.{arith}
@@ -10,21 +10,20 @@ use lib.IntN.{ℤ, pos, natAbs, _+ℤ_, _-ℤ_}
 use lib.Signed.{_≤ℤ_, _<ℤ_, ≤ℤ-refl}
 use Rattle.whole.specs.Decides.{Decides}
 use Rattle.whole.proofs.Decides.{decides-map, decides-at, decides-one, decides-yes, decides-no}
-use Rattle.whole.proofs.Difference.{as-mk, mks, mk-eq, le-nat, lt-nat, nat-le, nat-lt, sum-nat}
+use Rattle.whole.proofs.Difference.{as-mk, mks, mk-eq, le-nat, nat-lt, sum-nat}
 use Rattle.whole.proofs.Order.{le-trans}
 use Rattle.geometry.specs.declared.Point.{Point}
 use Rattle.line.specs.Line.{HasPoint, hasPoint}
-use Rattle.triangle.specs.declared.Sorted.{Sorted}
 use Rattle.triangle.specs.Order.{sorted}
 use Rattle.triangle.specs.Triangle.{areaDoubled, noneBelow, noneAbove, isFlat, isInside, onEdge, contained}
 use Rattle.triangle.specs.Between.{EdgePoint, Between}
 use Rattle.triangle.specs.Row.{spanOf, inSpan, columns, edgeColumns, rowSpan, firstRow, rowCount}
 use Rattle.triangle.proofs.Run.{moves-to}
-use Rattle.triangle.proofs.Edge.{RunOn, run-on, edge-rows, edge-left, edge-right, edge-top, edge-bottom}
-use Rattle.triangle.proofs.Order.{Ordered, before-rows, sorted-ordered, sorted-same, All, sorted-all, sorted-swap, sorted-turn}
+use Rattle.triangle.proofs.Edge.{run-on, edge-rows, edge-left, edge-right, edge-top, edge-bottom}
+use Rattle.triangle.proofs.Order.{before-rows, sorted-ordered, sorted-same, All, sorted-all, sorted-swap, sorted-turn}
 use Rattle.triangle.proofs.Sides.{Flat, flat-decides, flat-swap, flat-turn, isInside-swap, isInside-turn}
 use Rattle.triangle.proofs.Agree.{between-decides}
-use Rattle.triangle.proofs.Spans.{Bounds, Spans, Hull, span-map, hull-decides, list-spans, column-has, has-column}
+use Rattle.triangle.proofs.Spans.{Bounds, Spans, span-map, hull-decides, list-spans, column-has, has-column}
 
 module _ (v1 v2 v3 : Point) where
   abbrev pub p1 : Point

@@ -1,6 +1,6 @@
 -- `triangle::area_doubled` works out the near form: an edge is at most 2^18 wide and high, a pixel is below 2^33 from it, so that a product is below
 -- 2^51. Assumes nothing.
-use mathlib.Core.Path.{_≡_, sym, _∙_}
+use mathlib.Core.Path.{sym, _∙_}
 use lib.IntN.{ℤ, _-ℤ_, _*ℤ_}
 use mir.Syntax.{w32, w64}
 use mir.Val.{SFits, toZ, ofZ}

@@ -1,7 +1,6 @@
 -- `triangle::holds` asks the box, which has all that is contained, then the three areas, whose sum says whether there is area, then the edges.
 -- Assumes nothing.
 use mathlib.Core.Path.{_≡_, sym, ap, _∙_}
-use mathlib.Core.Bool.{Bool, true, false, _||_}
 use lib.Dec.{lit<}
 use lib.IntN.{ℤ, pos, _+ℤ_}
 use mir.Syntax.{w64}
@@ -13,9 +12,7 @@ use Rattle.geometry.specs.declared.Point.{Point}
 use Rattle.geometry.specs.Bound.{Bounded}
 use Rattle.line.specs.Line.{hasPoint}
 use Rattle.triangle.specs.declared.Sorted.{Sorted}
-use Rattle.triangle.specs.Order.{sorted}
-use Rattle.triangle.specs.Triangle.{areaDoubled, noneBelow, noneAbove, isInside, onEdge}
-use Rattle.triangle.specs.Box.{isOutside}
+use Rattle.triangle.specs.Triangle.{areaDoubled, noneBelow, noneAbove, onEdge}
 use Rattle.triangle.proofs.Area.{area-sum}
 use Rattle.triangle.proofs.Sides.{Flat}
 use Rattle.triangle.proofs.Refusals.{sorted-bounded}

@@ -1,8 +1,6 @@
 -- `triangle::max_column` makes the definition's own test. Assumes nothing.
-use mathlib.Core.Path.{_≡_, sym, ap, _∙_}
+use mathlib.Core.Path.{sym, ap, _∙_}
 use mathlib.Core.Bool.{Bool, cond}
-use lib.IntN.{ℤ}
-use lib.Signed.{leZ}
 use mir.Facts.{toZ-ofZ}
 use Rattle.whole.proofs.Machine.{le-test}
 use Rattle.triangle.proofs.max_column.Statement.{statement}

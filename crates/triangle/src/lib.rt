@@ -1,13 +1,14 @@
 // Triangles: whether a pixel is contained, the columns of a row, and the rows. Vertices may come in any order, lie on one line or coincide.
 ghost use mathlib.Core.Path.{_≡_};
+ghost use mathlib.Core.Bool.{cond};
 ghost use Prim.Native.Nat.{_<_, _≤_, min};
 ghost use lib.Signed.{_≤ℤ_};
 ghost use Rattle.geometry.specs.Bound.{Bounded};
 ghost use Rattle.geometry.specs.Answer.{verdict, span};
 ghost use Rattle.triangle.specs.Order.{before, placed, sorted, Down};
-ghost use Rattle.triangle.specs.Triangle.{areaDoubled, noneBelow, noneAbove, onEdge, isFlat, contained};
+ghost use Rattle.triangle.specs.Triangle.{areaDoubled, noneBelow, onEdge, isFlat, contained};
 ghost use Rattle.triangle.specs.Offsets.{reach, start, firstOffset, lastOffset};
-ghost use Rattle.triangle.specs.Row.{lesser, greater, joined, spanOf, columns, edgeColumns, rowSpan, firstRow, rowCount};
+ghost use Rattle.triangle.specs.Row.{joined, spanOf, columns, edgeColumns, rowSpan, firstRow, rowCount};
 ghost use Rattle.triangle.specs.Box.{isBeyond, isOutside};
 ghost use Rattle.triangle.specs.Answer.{vertexRefusal, rowsAnswer};
 use geometry::Point;
@@ -141,16 +142,6 @@ fn none_below(a: i64, b: i64, c: i64) -> bool
     false
 }
 
-// Whether a, b, c are all at most 0.
-fn none_above(a: i64, b: i64, c: i64) -> bool
-    ensures { λ r. ⌜ r ≡ noneAbove a b c ⌝ }
-{
-    if a <= 0 {
-        return b <= 0 && c <= 0;
-    }
-    false
-}
-
 // Whether p is a point of one of the three edges.
 fn on_edge(t: Sorted, p: Point) -> bool
     requires { ⌜ Bounded (t .p1) × Bounded (t .p2) × Bounded (t .p3) ⌝ }
@@ -183,7 +174,7 @@ fn holds(v1: Point, v2: Point, v3: Point, p: Point) -> bool
     if none_below(a, b, c) {
         return true;
     }
-    if none_above(a, b, c) {
+    if none_below(-a, -b, -c) {
         return true;
     }
     on_edge(sorted_yx(v1, v2, v3), p)
@@ -307,22 +298,14 @@ pub fn bresenham_intersection(start: Point, end: Point, y: i32) -> Columns
     Columns(x - last, x - first + 1)
 }
 
-fn min_column(a: i32, b: i32) -> i32
-    ensures { λ r. ⌜ r ≡ lesser a b ⌝ }
+// One of two columns.
+fn choose(first: bool, a: i32, b: i32) -> i32
+    ensures { λ r. ⌜ r ≡ cond first a b ⌝ }
 {
-    if a <= b {
+    if first {
         return a;
     }
     b
-}
-
-fn max_column(a: i32, b: i32) -> i32
-    ensures { λ r. ⌜ r ≡ greater a b ⌝ }
-{
-    if a <= b {
-        return b;
-    }
-    a
 }
 
 // The span that takes in both; an empty one adds nothing.
@@ -335,8 +318,8 @@ fn extend(a: Columns, b: Columns) -> Columns
     if b.0 == b.1 {
         return a;
     }
-    let first = min_column(a.0, b.0);
-    let past = max_column(a.1, b.1);
+    let first = choose(a.0 <= b.0, a.0, b.0);
+    let past = choose(a.1 <= b.1, b.1, a.1);
     Columns(first, past)
 }
 

@@ -1,22 +1,23 @@
 -- `triangle::holds` asks the box, which has all that is contained, then the three areas, whose sum says whether there is area, then the edges.
 -- Assumes nothing.
-use mathlib.Core.Path.{_≡_, sym, ap, _∙_}
+use mathlib.Core.Path.{_≡_, refl, sym, ap, _∙_}
+use mathlib.Core.Bool.{true, false}
 use lib.Dec.{lit<}
 use lib.IntN.{ℤ, pos, _+ℤ_}
 use mir.Syntax.{w64}
 use mir.Val.{toZ, ofZ}
 use mir.Facts.{sfits-lit}
 use borrow.Author.Needs.{needs}
-use Rattle.whole.proofs.Machine.{Has, plus, fits, back, eq-bits}
+use Rattle.whole.proofs.Machine.{Has, plus, minus-of, fits, back, eq-bits}
 use Rattle.geometry.specs.declared.Point.{Point}
 use Rattle.geometry.specs.Bound.{Bounded}
 use Rattle.line.specs.Line.{hasPoint}
 use Rattle.triangle.specs.declared.Sorted.{Sorted}
 use Rattle.triangle.specs.Triangle.{areaDoubled, noneBelow, noneAbove, onEdge}
 use Rattle.triangle.proofs.Area.{area-sum}
-use Rattle.triangle.proofs.Sides.{Flat}
+use Rattle.triangle.proofs.Sides.{Flat, none-above}
 use Rattle.triangle.proofs.Refusals.{sorted-bounded}
-use Rattle.triangle.proofs.Triangle.{contained-flat, contained-below, contained-above, contained-edge}
+use Rattle.triangle.proofs.Triangle.{contained-flat, contained-solid}
 use Rattle.triangle.proofs.Box.{outside-not, not-outside, area-size}
 use Rattle.triangle.proofs.holds.Statement.{statement}
 use Rattle.triangle.proofs.holds.Tie as tie
@@ -107,17 +108,28 @@ solid c e = c .if2 .left (ap (ofZ w64) (whole (c .before) ∙ e))
 below : (c : tie.After-none-below) → (let a = c .before .before in noneBelow (areaDoubled (p a) (v1 a) (v2 a)) (areaDoubled (p a) (v2 a) (v3 a)) (areaDoubled (p a) (v3 a) (v1 a))) ≡ c .none-below .result
 below c = let a = c .before .before in sym (c .none-below .ensures ∙ (λ i. noneBelow (back (A a) .is i) (back (B a) .is i) (back (C a) .is i)))
 
-above : (c : tie.After-none-above) → (let a = c .before .before .before .before in noneAbove (areaDoubled (p a) (v1 a) (v2 a)) (areaDoubled (p a) (v2 a) (v3 a)) (areaDoubled (p a) (v3 a) (v1 a))) ≡ c .none-above .result
-above c = let a = c .before .before .before .before in sym (c .none-above .ensures ∙ (λ i. noneAbove (back (A a) .is i) (back (B a) .is i) (back (C a) .is i)))
-
 returns-3 : tie.Need-returns-3
-returns-3 c = let a = c .before .before .before in sym (contained-below (v1 a) (v2 a) (v3 a) (p a) (solid (c .before .before)) (below (c .before) ∙ c .if3 .taken))
+returns-3 c = let a = c .before .before .before in sym (contained-solid (v1 a) (v2 a) (v3 a) (p a) (solid (c .before .before)) true _ (below (c .before) ∙ c .if3 .taken) refl)
 
-none-above-requires : tie.Need-none-above-requires
-none-above-requires c κs = search needs
+sub-none-below : tie.Need-sub-none-below
+sub-none-below c = fits (minus-of (back (A (c .before .before .before))))
+
+sub-none-below-2 : tie.Need-sub-none-below-2
+sub-none-below-2 c = fits (minus-of (back (B (c .before .before .before))))
+
+sub-none-below-3 : tie.Need-sub-none-below-3
+sub-none-below-3 c = fits (minus-of (back (C (c .before .before .before))))
+
+none-below-requires-2 : tie.Need-none-below-requires-2
+none-below-requires-2 c κs = search needs
+
+above : (c : tie.After-none-below2) → (let a = c .before .before .before .before in noneAbove (areaDoubled (p a) (v1 a) (v2 a)) (areaDoubled (p a) (v2 a) (v3 a)) (areaDoubled (p a) (v3 a) (v1 a))) ≡ c .none-below2 .result
+above c =
+    let a = c .before .before .before .before in
+    sym (c .none-below2 .ensures ∙ (λ i. noneBelow (back (minus-of (back (A a))) .is i) (back (minus-of (back (B a))) .is i) (back (minus-of (back (C a))) .is i)) ∙ none-above _ _ _)
 
 returns-4 : tie.Need-returns-4
-returns-4 c = let a = c .before .before .before .before .before in sym (contained-above (v1 a) (v2 a) (v3 a) (p a) (solid (c .before .before .before .before)) (below (c .before .before .before) ∙ c .before .before .if3 .left) (above (c .before) ∙ c .if4 .taken))
+returns-4 c = let a = c .before .before .before .before .before in sym (contained-solid (v1 a) (v2 a) (v3 a) (p a) (solid (c .before .before .before .before)) false true (below (c .before .before .before) ∙ c .before .before .if3 .left) (above (c .before) ∙ c .if4 .taken))
 
 sorted-yx-requires-2 : tie.Need-sorted-yx-requires-2
 sorted-yx-requires-2 c κs = search needs
@@ -132,7 +144,7 @@ returns-5 : tie.Need-returns-5
 returns-5 c =
     let a = c .before .before .before .before .before .before .before in
     c .on-edge .ensures ∙ ap (λ (t : Sorted). onEdge (t .p1) (t .p2) (t .p3) (p a)) (c .before .sorted-yx2 .ensures)
-    ∙ sym (contained-edge (v1 a) (v2 a) (v3 a) (p a) (solid (c .before .before .before .before .before .before)) (below (c .before .before .before .before .before) ∙ c .before .before .before .before .if3 .left) (above (c .before .before .before) ∙ c .before .before .if4 .left))
+    ∙ sym (contained-solid (v1 a) (v2 a) (v3 a) (p a) (solid (c .before .before .before .before .before .before)) false false (below (c .before .before .before .before .before) ∙ c .before .before .before .before .if3 .left) (above (c .before .before .before) ∙ c .before .before .if4 .left))
 
 pub holds-spec : {M : Type 1} → statement M
 holds-spec =
@@ -150,7 +162,10 @@ holds-spec =
     returns-2
     none-below-requires
     returns-3
-    none-above-requires
+    sub-none-below
+    sub-none-below-2
+    sub-none-below-3
+    none-below-requires-2
     returns-4
     sorted-yx-requires-2
     on-edge-requires

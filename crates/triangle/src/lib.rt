@@ -55,16 +55,16 @@ pub fn refusal(v1: Point, v2: Point, v3: Point) -> u32
     0
 }
 
-// Inside the library: twice the signed area of p, a, b. Every product has a factor no longer than the edge from a to b, so that a pixel p may be anywhere.
+// Inside the library: twice the signed area of p, a, b. The differences fit 32 bits; their products are taken in 64.
 pub fn area_doubled(p: Point, a: Point, b: Point) -> i64
-    requires { ⌜ Bounded a × Bounded b ⌝ }
+    requires { ⌜ Bounded p × Bounded a × Bounded b ⌝ }
     ensures { λ r. ⌜ r ≡ areaDoubled p a b ⌝ }
 {
-    let x = a.0 as i64;
-    let y = a.1 as i64;
-    let across = b.0 as i64 - x;
-    let down = b.1 as i64 - y;
-    across * (p.1 as i64 - y) - down * (p.0 as i64 - x)
+    let ax = a.0 - p.0;
+    let ay = a.1 - p.1;
+    let bx = b.0 - p.0;
+    let by = b.1 - p.1;
+    ax as i64 * by as i64 - bx as i64 * ay as i64
 }
 
 // Whether a stands before b by y, then x, or in the same place.
@@ -156,7 +156,8 @@ fn on_edge(t: Sorted, p: Point) -> bool
     line::meets(t.p2, t.p3, p)
 }
 
-// Whether an accepted triangle contains p. Most pixels are answered by the box or by the three areas, whose sum is the whole area.
+// Whether an accepted triangle contains p. A pixel outside the box is answered before any product, which keeps the areas of the others small; most of those
+// are answered by their three areas, whose sum is the whole area.
 fn holds(v1: Point, v2: Point, v3: Point, p: Point) -> bool
     requires { ⌜ Bounded v1 × Bounded v2 × Bounded v3 ⌝ }
     ensures { λ r. ⌜ r ≡ contained v1 v2 v3 p ⌝ }

@@ -30,14 +30,21 @@ returns c =
     let g = c .before .before .args in
     sym (outside-not (g .v1) (g .v2) (g .v3) (g .p) (sym (c .before .outside .ensures) ∙ c .if1 .taken))
 
+-- p is not outside the box, so it is in bounds
+in-box : (c : tie.Else1) → Bounded (c .before .before .args .p)
+in-box c =
+    let g = c .before .before .args in
+    let h = c .before .before .pre in
+    not-outside (g .v1) (g .v2) (g .v3) (g .p) (sym (c .before .outside .ensures) ∙ c .if1 .left) (h .0) (h .1) (h .2)
+
 area-doubled-requires : tie.Need-area-doubled-requires
-area-doubled-requires c κs = search needs
+area-doubled-requires c κs = let h = c .before .before .pre in (in-box c, h .0, h .1)
 
 area-doubled-requires-2 : tie.Need-area-doubled-requires-2
-area-doubled-requires-2 c κs = search needs
+area-doubled-requires-2 c κs = let h = c .before .before .before .pre in (in-box (c .before), h .1, h .2)
 
 area-doubled-requires-3 : tie.Need-area-doubled-requires-3
-area-doubled-requires-3 c κs = search needs
+area-doubled-requires-3 c κs = let h = c .before .before .before .before .pre in (in-box (c .before .before), h .2, h .0)
 
 -- ---- the three areas
 module _ (c : tie.After-area-doubled3) where
@@ -53,18 +60,14 @@ module _ (c : tie.After-area-doubled3) where
   abbrev p : Point
   p = c .before .before .before .before .before .args .p
 
-  -- p is not outside the box, so it is in bounds
-  in-box : Bounded p
-  in-box = let h = c .before .before .before .before .before .pre in not-outside v1 v2 v3 p (sym (c .before .before .before .before .outside .ensures) ∙ c .before .before .before .if1 .left) (h .0) (h .1) (h .2)
-
   A : Has w64 (c .before .before .area-doubled .result) (areaDoubled p v1 v2) 549755813888
-  A = record { is = c .before .before .area-doubled .ensures; size = area-size p v1 v2 in-box (c .before .before .before .before .before .pre .0) (c .before .before .before .before .before .pre .1); room = lit< tt }
+  A = record { is = c .before .before .area-doubled .ensures; size = area-size p v1 v2 (in-box (c .before .before .before)) (c .before .before .before .before .before .pre .0) (c .before .before .before .before .before .pre .1); room = lit< tt }
 
   B : Has w64 (c .before .area-doubled2 .result) (areaDoubled p v2 v3) 549755813888
-  B = record { is = c .before .area-doubled2 .ensures; size = area-size p v2 v3 in-box (c .before .before .before .before .before .pre .1) (c .before .before .before .before .before .pre .2); room = lit< tt }
+  B = record { is = c .before .area-doubled2 .ensures; size = area-size p v2 v3 (in-box (c .before .before .before)) (c .before .before .before .before .before .pre .1) (c .before .before .before .before .before .pre .2); room = lit< tt }
 
   C : Has w64 (c .area-doubled3 .result) (areaDoubled p v3 v1) 549755813888
-  C = record { is = c .area-doubled3 .ensures; size = area-size p v3 v1 in-box (c .before .before .before .before .before .pre .2) (c .before .before .before .before .before .pre .0); room = lit< tt }
+  C = record { is = c .area-doubled3 .ensures; size = area-size p v3 v1 (in-box (c .before .before .before)) (c .before .before .before .before .before .pre .2) (c .before .before .before .before .before .pre .0); room = lit< tt }
 
   AB : Has w64 (toZ w64 (ofZ w64 (c .before .before .area-doubled .result)) +ℤ toZ w64 (ofZ w64 (c .before .area-doubled2 .result))) (areaDoubled p v1 v2 +ℤ areaDoubled p v2 v3) 1099511627776
   AB = plus (back A) (back B) tt

@@ -168,17 +168,20 @@ fn holds(v1: Point, v2: Point, v3: Point, p: Point) -> bool
     let a = area_doubled(p, v1, v2);
     let b = area_doubled(p, v2, v3);
     let c = area_doubled(p, v3, v1);
-    if a + b + c == 0 {
-        let t = sorted_yx(v1, v2, v3);
+    let whole = a + b + c;
+    if whole != 0 {
+        if none_below(a, b, c) {
+            return true;
+        }
+        if none_below(-a, -b, -c) {
+            return true;
+        }
+    }
+    let t = sorted_yx(v1, v2, v3);
+    if whole == 0 {
         return line::meets(t.p1, t.p3, p);
     }
-    if none_below(a, b, c) {
-        return true;
-    }
-    if none_below(-a, -b, -c) {
-        return true;
-    }
-    on_edge(sorted_yx(v1, v2, v3), p)
+    on_edge(t, p)
 }
 
 // Whether the triangle contains p: any pixel may be asked.

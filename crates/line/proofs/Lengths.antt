@@ -8,11 +8,12 @@ use lib.IntN.{ℤ, pos, negsuc, negℤ, natAbs, _-ℤ_}
 use lib.Signed.{leZ}
 use mir.Syntax.{w32}
 use mir.Val.{toZ, ofZ}
-use Rattle.whole.proofs.Machine.{Has, add-size, neg-size, at₂}
+use Rattle.whole.proofs.Difference.{as-mk, mks, le-nat}
+use Rattle.whole.proofs.Machine.{Has, add-size, neg-size, mk-size, at₂}
 use Rattle.geometry.specs.declared.Point.{Point}
 use Rattle.geometry.specs.Bound.{Coord, Bounded}
 use Rattle.geometry.proofs.Bound.{coord-size, coord-fits}
-use Rattle.line.specs.Line.{toward, wide, high, steep, major, minor, moves, xMoves, yMoves}
+use Rattle.line.specs.Line.{toward, wide, high, steep, major, minor, moves, xMoves, yMoves, points}
 
 module _ (s e : Point) where
   pub narrow : minor s e ≤ major s e
@@ -76,3 +77,11 @@ toward-size a b = by (leZ a b)
     by : (t : Bool) → natAbs (cond t (pos 1) (negsuc 0)) ≤ 1
     by true = omega arith
     by false = omega arith
+
+-- no line has more points than there are coordinates
+nearly : {a b : ℤ} → Coord a → Coord b → natAbs (b -ℤ a) ≤ 262143
+nearly {a} {b} h k = rw (as-mk a, as-mk b) (simp mks (mk-size _ _ 262143 (omega (arith, le-nat (h .low), le-nat (k .high))) (omega (arith, le-nat (h .high), le-nat (k .low)))))
+
+pub points-most : {s e : Point} → Bounded s → Bounded e → points s e ≤ 262144
+unfolding major wide high
+points-most hs he = omega (arith, nearly (hs .x) (he .x), nearly (hs .y) (he .y))

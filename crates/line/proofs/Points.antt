@@ -7,7 +7,7 @@ use Prim.Native.Nat.{ℕ, zero, suc, _+_, _*_, _-_, _≤_, _<_, max, min}
 use native.Mathlib.Decide.{decLt}
 use native.Mathlib.Nat.{le-refl}
 use native.Mathlib.Omega.{arith}
-use lib.Dec.{leb}
+use lib.Dec.{T, leb}
 use lib.IntN.{ℤ, pos, negsuc, negℤ, natAbs, _+ℤ_, _-ℤ_, _*ℤ_}
 use lib.Signed.{leZ, _≤ℤ_, _<ℤ_}
 use Rattle.whole.specs.Decides.{Decides}
@@ -137,6 +137,26 @@ module _ (s e : Point) where
   half-pixel k h =
       let b = moves-band (major s e) (minor s e) k (narrow s e) h in
       (omega (arith, b .low), b .high)
+
+-- ---- along a line that runs down, rows never go up
+module _ (s e : Point) where
+  more-down : (i j : ℕ) → i ≤ j → yMoves s e i ≤ yMoves s e j
+  more-down i j h = by (steep s e) refl
+    where
+      by : (t : Bool) → steep s e ≡ t → yMoves s e i ≤ yMoves s e j
+      by true t = omega (arith, y-by s e true t i, y-by s e true t j)
+      by false t = omega (arith, y-by s e false t i, y-by s e false t j, moves-mono (wide s e) (high s e) i j h)
+
+  pub rows-down : s .1 ≤ℤ e .1 → (i j : ℕ) → i ≤ j → pointAt s e i .1 ≤ℤ pointAt s e j .1
+  unfolding pointAt
+  rows-down d i j h = by (leZ (s .1) (e .1)) (d .le)
+    where
+      down : (s : ℤ) (a b : ℕ) → a ≤ b → (s +ℤ pos 1 *ℤ pos a) ≤ℤ (s +ℤ pos 1 *ℤ pos b)
+      down s a b h = rw (as-mk s) (simp mks (mk-le _ _ _ _ (omega arith)))
+
+      by : (t : Bool) → T t → (s .1 +ℤ cond t (pos 1) (negsuc 0) *ℤ pos (yMoves s e i)) ≤ℤ (s .1 +ℤ cond t (pos 1) (negsuc 0) *ℤ pos (yMoves s e j))
+      by true t = down (s .1) (yMoves s e i) (yMoves s e j) (more-down i j h)
+      by false t = absurd t
 
 -- ---- moving both ends moves every point
 module _ (s e v : Point) where

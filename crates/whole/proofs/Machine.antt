@@ -216,6 +216,13 @@ pub fits-dn : (w : Width) (z : ℤ) → SFits w z → dn z ≤ 2 ^ hbits w
 fits-dn w (pos n) f = zero-le
 fits-dn w (negsuc n) f = f .sfits
 
+pub mk-size : (p q c : ℕ) → p ≤ q + c → q ≤ p + c → natAbs (mk p q) ≤ c
+mk-size p q c h k = go (mk p q) (eq-mk p q (up (mk p q)) (dn (mk p q)) (as-mk (mk p q)))
+  where
+    go : (z : ℤ) → p + dn z ≡ up z + q → natAbs z ≤ c
+    go (pos n) e = omega arith
+    go (negsuc n) e = omega arith
+
 pub mk-fits : (w : Width) (p q : ℕ) → p < q + 2 ^ hbits w → q ≤ p + 2 ^ hbits w → SFits w (mk p q)
 mk-fits w p q h k = go (mk p q) (eq-mk p q (up (mk p q)) (dn (mk p q)) (as-mk (mk p q)))
   where

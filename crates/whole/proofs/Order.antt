@@ -6,7 +6,7 @@ use native.Mathlib.Nat.{mul-pos}
 use native.Mathlib.Omega.{arith}
 use lib.IntN.{ℤ, pos, negsuc, negℤ, _+ℤ_, _-ℤ_, _*ℤ_}
 use lib.Signed.{_≤ℤ_, _<ℤ_, ltZ}
-use Rattle.whole.proofs.Difference.{up, dn, as-mk, mks, mk-eq, mk-le, mk-lt, le-mk, lt-mk, eq-mk, le-nat, lt-nat, nat-le, nat-lt, nat-eq}
+use Rattle.whole.proofs.Difference.{up, dn, as-mk, mks, mk-eq, mk-le, mk-lt, le-mk, lt-mk, eq-mk, le-nat, lt-nat, nat-le, nat-lt, nat-eq, eq-nat}
 
 -- ---- what `omega` does through the two parts: transitivity, antisymmetry, and any chain of variables and literals
 pub le-trans : {a b c : ℤ} → a ≤ℤ b → b ≤ℤ c → a ≤ℤ c
@@ -14,6 +14,12 @@ le-trans {a} {b} {c} h k = nat-le (omega (arith, le-nat h, le-nat k))
 
 pub le-antisym : {a b : ℤ} → a ≤ℤ b → b ≤ℤ a → a ≡ b
 le-antisym {a} {b} h k = nat-eq (omega (arith, le-nat h, le-nat k))
+
+pub le-self : (a : ℤ) → a ≤ℤ a
+le-self a = nat-le (omega arith)
+
+pub le-of : {a b : ℤ} → a ≡ b → a ≤ℤ b
+le-of {a} {b} h = nat-le (omega (arith, eq-nat h))
 
 pub lt-le : {a b : ℤ} → a <ℤ b → a ≤ℤ b
 lt-le {a} {b} h = nat-le (omega (arith, lt-nat h))
@@ -24,6 +30,24 @@ le-unless {a} {b} n = let m : ¬ (up b + dn a < up a + dn b) = λ k. n (nat-lt k
 
 pub lt-unless : {a b : ℤ} → (b ≤ℤ a → ⊥) → a <ℤ b
 lt-unless {a} {b} n = let m : ¬ (up b + dn a ≤ up a + dn b) = λ k. n (nat-le k) in nat-lt (omega arith)
+
+pub lt-apart : {a b : ℤ} → a <ℤ b → a ≡ b → ⊥
+lt-apart {a} {b} h k = omega (arith, lt-nat h, eq-nat k)
+
+pub lt-of : {a b : ℤ} → a ≤ℤ b → (a ≡ b → ⊥) → a <ℤ b
+lt-of h k = lt-unless (λ g. k (le-antisym h g))
+
+-- one more
+pub le-lt-more : {a b : ℤ} → a ≤ℤ b → a <ℤ (b +ℤ pos 1)
+le-lt-more {a} {b} h = rw (as-mk a, as-mk b) (simp mks (mk-lt _ _ _ _ (omega (arith, le-nat h))))
+
+pub more-lt-le : {a b : ℤ} → a <ℤ (b +ℤ pos 1) → a ≤ℤ b
+more-lt-le {a} {b} h =
+    let g = lt-mk _ _ _ _ (simp mks at (rw (as-mk a, as-mk b) at h)) in
+    nat-le (omega arith)
+
+pub lt-more-le : {a b : ℤ} → a <ℤ b → (a +ℤ pos 1) ≤ℤ b
+lt-more-le {a} {b} h = rw (as-mk a, as-mk b) (simp mks (mk-le _ _ _ _ (omega (arith, lt-nat h))))
 
 -- ---- a difference that is not negative
 pub le-sub : (a b : ℤ) → a ≤ℤ b → pos 0 ≤ℤ (b -ℤ a)

@@ -1,0 +1,6 @@
+pub mod Roots
+pub mod Containment
+pub mod Spans
+pub mod Refusals
+pub mod Worked
+pub mod Determined

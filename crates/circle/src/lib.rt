@@ -1,0 +1,175 @@
+// Circles: whether one contains a pixel, and the span of a row. Pixel places are `Point`, half-pixel places `Doubled`; the one becomes the other
+// in `place_2x` and `center_2x` alone.
+mod root;
+
+use geometry::Doubled;
+use geometry::Point;
+use geometry::Span;
+use geometry::Verdict;
+ghost use mathlib.Core.Path.{_≡_};
+ghost use mathlib.Core.Bool.{true};
+ghost use Prim.Native.Nat.{_≤_};
+ghost use lib.IntN.{natAbs, pos, _-ℤ_};
+ghost use Rattle.geometry.specs.Answer.{verdict, span};
+ghost use Rattle.circle.specs.Circle.{centre, thresholdOf, doubled, squaredDistance, contained, inBox, leadOf, spanStart, spanEnd};
+ghost use Rattle.circle.specs.Refusal.{refusalOf};
+
+// The circle's centre, in half-pixel units since it lies between pixels where the diameter is even. For the diameter 0, which contains
+// nothing, it is 2l - 1, 2t - 1 by the rule, and 2l, 2t in the Rust.
+fn center_2x(topleft: Point, diameter: u32) -> Doubled
+    ensures { λ r. ⌜ r ≡ centre topleft diameter ⌝ }
+{
+    let left = topleft.0 as i64;
+    let top = topleft.1 as i64;
+    let side = diameter as i64;
+    Doubled(2 * left + side - 1, 2 * top + side - 1)
+}
+
+// The pixel's place, in half-pixel units.
+fn place_2x(p: Point) -> Doubled
+    ensures { λ r. ⌜ r ≡ doubled p ⌝ }
+{
+    let x = p.0 as i64;
+    let y = p.1 as i64;
+    Doubled(2 * x, 2 * y)
+}
+
+// The squared distance from the centre that a contained pixel stays below. Up to 4 it is less than the square, or the corners would be in.
+fn threshold(diameter: u32) -> u64
+    ensures { λ r. ⌜ r ≡ thresholdOf diameter ⌝ }
+{
+    let d = diameter as u64;
+    if d <= 4 {
+        return d * d - d / 2;
+    }
+    d * d
+}
+
+// Inside the library: 0 for an accepted circle, else the number of its refusal, 5 before 6.
+pub fn refusal(topleft: Point, diameter: u32) -> u32
+    ensures { λ r. ⌜ r ≡ refusalOf topleft diameter ⌝ }
+{
+    if !geometry::in_bounds(topleft) {
+        return 5;
+    }
+    let left = topleft.0 as i64;
+    let top = topleft.1 as i64;
+    let side = diameter as i64;
+    if 131072 < left + side {
+        return 6;
+    }
+    if 131072 < top + side {
+        return 6;
+    }
+    0
+}
+
+// Whether the pixel lies in the circle's box.
+fn in_box(topleft: Point, diameter: u32, p: Point) -> bool
+    ensures { λ r. ⌜ r ≡ inBox topleft diameter p ⌝ }
+{
+    let left = topleft.0 as i64;
+    let top = topleft.1 as i64;
+    let side = diameter as i64;
+    let x = p.0 as i64;
+    let y = p.1 as i64;
+    if x < left {
+        return false;
+    }
+    if left + side <= x {
+        return false;
+    }
+    if y < top {
+        return false;
+    }
+    y < top + side
+}
+
+// The squared distance of two places that are near enough for it to fit.
+fn distance_squared(a: Doubled, b: Doubled) -> u64
+    requires { ⌜ (natAbs (a .0 -ℤ b .0) ≤ 262144) × (natAbs (a .1 -ℤ b .1) ≤ 262144) ⌝ }
+    ensures { λ r. ⌜ pos r ≡ squaredDistance a b ⌝ }
+{
+    let dx = a.0 - b.0;
+    let dy = a.1 - b.1;
+    (dx * dx + dy * dy) as u64
+}
+
+// Inside the library: whether an accepted circle contains the pixel. Outside the box the answer is no before any square is taken, since
+// the squares of far pixels would pass 64 bits.
+pub fn accepted_contains(topleft: Point, diameter: u32, p: Point) -> bool
+    requires { ⌜ refusalOf topleft diameter ≡ 0 ⌝ }
+    ensures { λ r. ⌜ r ≡ contained topleft diameter p ⌝ }
+{
+    if !in_box(topleft, diameter, p) {
+        return false;
+    }
+    let place = place_2x(p);
+    let center = center_2x(topleft, diameter);
+    distance_squared(place, center) < threshold(diameter)
+}
+
+// Whether the circle contains the pixel.
+pub fn contains(topleft: Point, diameter: u32, p: Point) -> Verdict
+    ensures { λ r. ⌜ r ≡ verdict (refusalOf topleft diameter) (contained topleft diameter p) ⌝ }
+{
+    let number = refusal(topleft, diameter);
+    if number != 0 {
+        return Verdict { number, yes: false };
+    }
+    Verdict {
+        number: 0,
+        yes: accepted_contains(topleft, diameter, p),
+    }
+}
+
+// How many columns of the box come before the first contained one, on a row of the box. A column is contained exactly if it is at most dx
+// half pixels from the centre, so of the rest of the side one half comes before and the other after.
+fn lead(topleft: Point, diameter: u32, y: i32) -> u32
+    requires { ⌜ (refusalOf topleft diameter ≡ 0) × (inBox topleft diameter (topleft .0, y) ≡ true) ⌝ }
+    ensures { λ r. ⌜ r ≡ leadOf topleft diameter y ⌝ }
+{
+    let left = topleft.0;
+    let place = place_2x(Point(left, y));
+    let center = center_2x(topleft, diameter);
+    let dy = place.1 - center.1;
+    let dx = root::isqrt(threshold(diameter) - 1 - (dy * dy) as u64);
+    (diameter - dx as u32) / 2
+}
+
+// Inside the library: the span of a row of an accepted circle. A row is in the box exactly if its pixel in the box's first column is.
+pub fn accepted_row_span(topleft: Point, diameter: u32, y: i32) -> Span
+    requires { ⌜ refusalOf topleft diameter ≡ 0 ⌝ }
+    ensures { λ r. ⌜ r ≡ span 0 (spanStart topleft diameter y) (spanEnd topleft diameter y) ⌝ }
+{
+    let left = topleft.0;
+    if !in_box(topleft, diameter, Point(left, y)) {
+        return Span {
+            number: 0,
+            start: 0,
+            end: 0,
+        };
+    }
+    let skipped = lead(topleft, diameter, y);
+    let kept = diameter - skipped;
+    Span {
+        number: 0,
+        start: left + (skipped as i32),
+        end: left + (kept as i32),
+    }
+}
+
+// The columns of row y that the circle contains.
+pub fn row_span(topleft: Point, diameter: u32, y: i32) -> Span
+    ensures { λ r. ⌜ r ≡ span (refusalOf topleft diameter) (spanStart topleft diameter y) (spanEnd topleft diameter y) ⌝ }
+{
+    let number = refusal(topleft, diameter);
+    if number != 0 {
+        return Span {
+            number,
+            start: 0,
+            end: 0,
+        };
+    }
+    accepted_row_span(topleft, diameter, y)
+}

@@ -1,0 +1,17 @@
+-- `console::flush` makes the test of `flushed`. Assumes nothing.
+use borrow.Author.Needs.{needs}
+use borrow.Author.Tests.{lt-ltb, le-ltb}
+use Rattle.console.proofs.flush.Statement.{statement}
+use Rattle.console.proofs.flush.Tie as tie
+
+returns : tie.Need-returns
+returns c = rw (lt-ltb _ _ (c .if1 .taken))
+
+write-requires : tie.Need-write-requires
+write-requires c κs = search needs
+
+returns-2 : tie.Need-returns-2
+returns-2 c = rw (le-ltb _ _ (c .before .if1 .left))
+
+pub flush-spec : {M : Type 1} → statement M
+flush-spec = tie.close (tie.spec returns write-requires returns-2)

@@ -1,0 +1,6 @@
+pub mod Figures
+pub mod Calls
+pub mod Rows
+pub mod Fill
+pub mod Circles
+pub mod Determined

@@ -1,0 +1,74 @@
+-- Laws of painting a figure row by row, from the top down: what is painted is the figure above the next row. Assumes nothing.
+use mathlib.Core.Path.{_≡_, refl, sym, ap, ap₂, _∙_}
+use mathlib.Core.Bool.{Bool, true, false, _&&_, _||_}
+use mathlib.Core.List.{List}
+use Prim.Native.Nat.{ℕ, _<_}
+use lib.IntN.{ℤ, pos, _+ℤ_}
+use lib.Signed.{leZ, ltZ, _≤ℤ_, _<ℤ_}
+use Rattle.whole.specs.Equal.{eqZ}
+use Rattle.whole.proofs.Decides.{decides-lt, decides-eq, decides-yes, decides-no}
+use Rattle.whole.proofs.Order.{le-lt-more, more-lt-le, le-of, lt-le, lt-apart, le-antisym}
+use Rattle.whole.proofs.Machine.{lt-yes, lt-no}
+use Rattle.layout.specs.Figure.{rowSpan}
+use Rattle.layout.specs.Raster.{Raster, Sound, painted}
+use Rattle.layout.proofs.Painted.{painted-cong, painted-none}
+use Rattle.framebuffer.specs.declared.Pane.{Pane}
+use Rattle.framebuffer.specs.Rectangle.{inPane, inside}
+use Rattle.drawing.proofs.Figures.{inside-then}
+
+-- the figure's rows above y
+abbrev pub above : (ℤ → ℤ → Bool) → ℤ → ℤ → ℤ → Bool
+above figure y u v = ltZ v y && figure u v
+
+-- ---- one place: v is a row, f whether the figure contains the place, s whether row y's span does
+row-place : (v y : ℤ) (f s : Bool) → (eqZ v y ≡ true → s ≡ f) → (eqZ v y ≡ false → s ≡ false) → (ltZ v y && f) || s ≡ ltZ v (y +ℤ pos 1) && f
+row-place v y f s on off = by (ltZ v y) (eqZ v y) refl refl
+  where
+    keep : (f : Bool) → f || false ≡ f
+    keep true = refl
+    keep false = refl
+
+    by : (l e : Bool) → ltZ v y ≡ l → eqZ v y ≡ e → (ltZ v y && f) || s ≡ ltZ v (y +ℤ pos 1) && f
+    by true e hl he =
+        let no : eqZ v y ≡ false = decides-no (decides-eq v y) (lt-apart (lt-yes hl)) in
+        let more : ltZ v (y +ℤ pos 1) ≡ true = decides-yes (decides-lt v (y +ℤ pos 1)) (le-lt-more (lt-le (lt-yes hl))) in
+        (λ i. (hl i && f) || off no i) ∙ keep f ∙ sym (ap (λ (t : Bool). t && f) more)
+    by false true hl he =
+        let more : ltZ v (y +ℤ pos 1) ≡ true = decides-yes (decides-lt v (y +ℤ pos 1)) (le-lt-more (le-of (decides-eq v y .yes he))) in
+        (λ i. (hl i && f) || on he i) ∙ sym (ap (λ (t : Bool). t && f) more)
+    by false false hl he =
+        let less : ltZ v (y +ℤ pos 1) ≡ false = decides-no (decides-lt v (y +ℤ pos 1)) (λ l. decides-eq v y .no he (le-antisym (more-lt-le l) (lt-no hl))) in
+        (λ i. (hl i && f) || off he i) ∙ sym (ap (λ (t : Bool). t && f) less)
+
+span-off : (a b : Bool) → b ≡ false → (a && b) ≡ false
+span-off true b e = e
+span-off false b e = refl
+
+span-on : (a b : Bool) → b ≡ true → (a && b) ≡ a
+span-on true b e = e
+span-on false b e = refl
+
+module _ (r : Raster) (sound : Sound r) (pane : Pane) (colour : ℕ) (b : List ℕ) (figure : ℤ → ℤ → Bool) where
+  -- no row of the figure is above y
+  pub rows-start : (y : ℤ) → ((u v : ℕ) → pos v <ℤ y → figure (pos u) (pos v) ≡ false) → painted r (inside pane (above figure y)) colour b ≡ b
+  rows-start y none = painted-none r sound colour b _ (λ u v hu hv. by (inPane pane (pos u) (pos v)) (ltZ (pos v) y) (λ l. none u v (lt-yes l)))
+    where
+      by : (p l : Bool) {f : Bool} → (l ≡ true → f ≡ false) → (p && (l && f)) ≡ false
+      by true true h = h refl
+      by true false h = refl
+      by false l h = refl
+
+  -- the span of row y has the figure's columns: one row more is painted
+  pub rows-turn : (y start end : ℤ) → ((u v : ℕ) → u < r .width → v < r .height → pos v ≡ y → (leZ start (pos u) && ltZ (pos u) end) ≡ figure (pos u) (pos v))
+      → painted r (inside pane (rowSpan y start end)) colour (painted r (inside pane (above figure y)) colour b) ≡ painted r (inside pane (above figure (y +ℤ pos 1))) colour b
+  rows-turn y start end same =
+      inside-then r sound pane colour b (above figure y) (rowSpan y start end)
+      ∙ painted-cong r sound colour b _ _ (λ u v hu hv. ap (λ (t : Bool). inPane pane (pos u) (pos v) && t) (row-place (pos v) y (figure (pos u) (pos v)) (rowSpan y start end (pos u) (pos v)) (λ e. span-on (leZ start (pos u) && ltZ (pos u) end) (eqZ (pos v) y) e ∙ same u v hu hv (decides-eq (pos v) y .yes e)) (λ e. span-off (leZ start (pos u) && ltZ (pos u) end) (eqZ (pos v) y) e)))
+
+  -- no row of the figure is at y or below
+  pub rows-end : (y : ℤ) → ((u v : ℕ) → y ≤ℤ pos v → figure (pos u) (pos v) ≡ false) → painted r (inside pane (above figure y)) colour b ≡ painted r (inside pane figure) colour b
+  rows-end y none = painted-cong r sound colour b _ _ (λ u v hu hv. ap (λ (t : Bool). inPane pane (pos u) (pos v) && t) (by (ltZ (pos v) y) (λ l. none u v (lt-no l))))
+    where
+      by : (l : Bool) {f : Bool} → (l ≡ false → f ≡ false) → (l && f) ≡ f
+      by true h = refl
+      by false h = sym (h refl)

@@ -1,0 +1,24 @@
+-- The figures of the drawing calls: whether each contains a place, by its column and its row.
+use mathlib.Core.Bool.{Bool, _||_}
+use Prim.Native.Nat.{ℕ}
+use lib.IntN.{ℤ}
+use Rattle.geometry.specs.declared.Point.{Point}
+use Rattle.line.specs.Line.{hasPoint}
+use Rattle.triangle.specs.Triangle as triangle
+use Rattle.circle.specs.Circle as circle
+
+-- 01, "Lines": the points of the line from s to e
+abbrev pub lineFigure : Point → Point → ℤ → ℤ → Bool
+lineFigure s e x y = hasPoint s e (x, y)
+
+-- 01, "Outline: the points of the lines v1 to v2, v2 to v3, v3 to v1, walked in the order in which the vertices were given"
+abbrev pub outlineFigure : Point → Point → Point → ℤ → ℤ → Bool
+outlineFigure v1 v2 v3 x y = (lineFigure v1 v2 x y || lineFigure v2 v3 x y) || lineFigure v3 v1 x y
+
+-- 01, "Triangles": containment, not the rows that drawing visits
+abbrev pub triangleFigure : Point → Point → Point → ℤ → ℤ → Bool
+triangleFigure v1 v2 v3 x y = triangle.contained v1 v2 v3 (x, y)
+
+-- 01, "Circles": containment
+abbrev pub circleFigure : Point → ℕ → ℤ → ℤ → Bool
+circleFigure c d x y = circle.contained c d (x, y)

@@ -1,0 +1,157 @@
+-- A span of a row, cut to the columns of a rectangle. Assumes nothing.
+use mathlib.Core.Path.{_≡_, refl, sym, ap, ap₂, _∙_, subst}
+use mathlib.Core.Bool.{Bool, true, false, cond, _&&_, true≢false}
+use mathlib.Core.List.{List}
+use mathlib.Core.Logic.{_⊎_, inl, inr}
+use Prim.Native.Nat.{ℕ, _≤_, _<_}
+use native.Mathlib.Omega.{arith}
+use lib.Dec.{ltb, le→leb}
+use lib.IntN.{ℤ, pos, negsuc}
+use lib.Signed.{leZ, ltZ, _≤ℤ_}
+use borrow.Author.Tests.{ltb-true, leb-true, lt-ltb, le-ltb, le-leb}
+use Rattle.layout.specs.Figure.{rowSpan}
+use Rattle.whole.specs.Equal.{eqZ}
+use Rattle.layout.specs.Raster.{painted}
+use Rattle.layout.proofs.Tests.{lt-or-ge, same-test, fails, and-true, true-and, eqZ-true, eqZ-refl}
+use Rattle.layout.proofs.Spans.{columns, in-span, span-in}
+use Rattle.layout.proofs.Painted.{painted-cong, painted-none}
+use Rattle.framebuffer.specs.declared.Frame.{Frame}
+use Rattle.framebuffer.specs.declared.Pane.{Pane}
+use Rattle.framebuffer.specs.Description.{raster}
+use Rattle.framebuffer.specs.Rectangle.{Within, inPane, inside}
+use Rattle.framebuffer.specs.Words.{columnOf, clipped}
+use Rattle.framebuffer.proofs.Refusals.{Described, sound}
+use Rattle.framebuffer.proofs.Panes.{pane-in, in-pane}
+
+-- ---- the nearest number of low to high
+-- below, above, and between
+data Nearest (x : ℤ) (low high : ℕ) (r : ℕ) : Type 0 where
+  under : ltZ x (pos low) ≡ true → r ≡ low → Nearest x low high r
+  over : ltZ (pos high) x ≡ true → r ≡ high → Nearest x low high r
+  between : x ≡ pos r → low ≤ r → r ≤ high → Nearest x low high r
+
+nearest : (x : ℤ) (low high : ℕ) → Nearest x low high (clipped x low high)
+nearest (negsuc a) low high = under refl refl
+nearest (pos a) low high = go (lt-or-ge a low) (lt-or-ge high a)
+  where
+    go : (a < low) ⊎ (low ≤ a) → (high < a) ⊎ (a ≤ high) → Nearest (pos a) low high (cond (ltb a low) low (cond (ltb high a) high a))
+    go (inl l) k = under (lt-ltb a low l) (ap (λ (t : Bool). cond t low (cond (ltb high a) high a)) (lt-ltb a low l))
+    go (inr l) (inl k) =
+        over (lt-ltb high a k) (ap₂ (λ (s t : Bool). cond s low (cond t high a)) (le-ltb a low l) (lt-ltb high a k))
+    go (inr l) (inr k) =
+        let e : a ≡ cond (ltb a low) low (cond (ltb high a) high a) = sym (ap₂ (λ (s t : Bool). cond s low (cond t high a)) (le-ltb a low l) (le-ltb high a k)) in
+        between (ap pos e) (subst (λ (i : ℕ). low ≤ i) e l) (subst (λ (i : ℕ). i ≤ high) e k)
+
+pub clip-bounds : (x : ℤ) (low high : ℕ) → low ≤ high → (low ≤ clipped x low high) × (clipped x low high ≤ high)
+clip-bounds x low high h = go (clipped x low high) (nearest x low high)
+  where
+    go : (r : ℕ) → Nearest x low high r → (low ≤ r) × (r ≤ high)
+    go r (under l e) = (omega arith, omega arith)
+    go r (over l e) = (omega arith, omega arith)
+    go r (between e l k) = (l, k)
+
+-- a column of low to high is on the same side of both
+module _ (x : ℤ) (low high u : ℕ) (h : low ≤ u) (k : u < high) where
+  from-le : (r : ℕ) → Nearest x low high r → (leZ x (pos u) ≡ true → r ≤ u) × (r ≤ u → leZ x (pos u) ≡ true)
+  from-le r (under l e) = (λ q. omega arith, λ q. less x l)
+    where
+      less : (x : ℤ) → ltZ x (pos low) ≡ true → leZ x (pos u) ≡ true
+      less (pos a) l = le-leb a u (let m = ltb-true a low l in omega arith)
+      less (negsuc a) l = refl
+  from-le r (over l e) = (λ q. absurd (no x l q), λ q. absurd (no′ q))
+    where
+      no : (x : ℤ) → ltZ (pos high) x ≡ true → leZ x (pos u) ≡ true → ⊥
+      no (pos a) l q = let m = ltb-true high a l in let o = leb-true a u q in omega arith
+      no (negsuc a) l q = true≢false (sym l)
+
+      no′ : r ≤ u → ⊥
+      no′ q = omega arith
+  from-le r (between e l m) = (λ q. leb-true r u (ap (λ (z : ℤ). leZ z (pos u)) (sym e) ∙ q), λ q. ap (λ (z : ℤ). leZ z (pos u)) e ∙ le-leb r u q)
+
+  past-gt : (r : ℕ) → Nearest x low high r → (ltZ (pos u) x ≡ true → u < r) × (u < r → ltZ (pos u) x ≡ true)
+  past-gt r (under l e) = (λ q. absurd (no x l q), λ q. absurd (no′ q))
+    where
+      no : (x : ℤ) → ltZ x (pos low) ≡ true → ltZ (pos u) x ≡ true → ⊥
+      no (pos a) l q = let m = ltb-true a low l in let o = ltb-true u a q in omega arith
+      no (negsuc a) l q = true≢false (sym q)
+
+      no′ : u < r → ⊥
+      no′ q = omega arith
+  past-gt r (over l e) = (λ q. omega arith, λ q. more x l)
+    where
+      more : (x : ℤ) → ltZ (pos high) x ≡ true → ltZ (pos u) x ≡ true
+      more (pos a) l = lt-ltb u a (let m = ltb-true high a l in omega arith)
+      more (negsuc a) l = absurd (true≢false (sym l))
+  past-gt r (between e l m) = (λ q. ltb-true u r (ap (λ (z : ℤ). ltZ (pos u) z) (sym e) ∙ q), λ q. ap (λ (z : ℤ). ltZ (pos u) z) e ∙ lt-ltb u r q)
+
+-- ---- the span that is left
+module _ (f : Frame) (D : Described f) (colour : ℕ) (b : List ℕ) (q : Pane) (y start end : ℤ) (W : Within q f) where
+  -- no row of the rectangle
+  pub row-off : (columnOf y < q .top) ⊎ (q .bottom ≤ columnOf y) → b ≡ painted (raster f) (inside q (rowSpan y start end)) colour b
+  row-off h =
+      sym (painted-none (raster f) (sound f D) colour b _ (λ u v hu hv. fails _ (λ e.
+      let p = and-true (inPane q (pos u) (pos v)) (rowSpan y start end (pos u) (pos v)) e in
+      let s = and-true (leZ start (pos u) && ltZ (pos u) end) (eqZ (pos v) y) (p .1) in
+      let r = pane-in q u v (p .0) .1 in
+      let i : v ≡ columnOf y = ap columnOf (eqZ-true (pos v) y (s .1)) in
+      no u v r i h)))
+    where
+      no : (u v : ℕ) → (q .top ≤ v) × (v < q .bottom) → v ≡ columnOf y → (columnOf y < q .top) ⊎ (q .bottom ≤ columnOf y) → ⊥
+      no u v r i (inl l) = let s = r .0 in omega arith
+      no u v r i (inr l) = let s = r .1 in omega arith
+
+  abbrev from : ℕ
+  from = clipped start (q .left) (q .right)
+
+  abbrev past : ℕ
+  past = clipped end (q .left) (q .right)
+
+  module _ (top : q .top ≤ columnOf y) (bottom : columnOf y < q .bottom) where
+    -- the row's number is the row
+    row-is : (y : ℤ) → columnOf y < q .bottom → y ≡ pos (columnOf y)
+    row-is (pos a) h = refl
+    row-is (negsuc a) h = absurd (let k = W .bottom in let m = D .height in omega arith)
+
+    agree : (u v : ℕ) → columns (columnOf y) from past (pos u) (pos v) ≡ inside q (rowSpan y start end) (pos u) (pos v)
+    agree u v = same-test _ _ there back
+      where
+        there : columns (columnOf y) from past (pos u) (pos v) ≡ true → inside q (rowSpan y start end) (pos u) (pos v) ≡ true
+        there e =
+            let s = in-span (columnOf y) from past u v e in
+            let a = s .0 in
+            let z = s .1 in
+            let i = s .2 in
+            let lo = clip-bounds start (q .left) (q .right) (W .order) .0 in
+            let hi = clip-bounds end (q .left) (q .right) (W .order) .1 in
+            let l : q .left ≤ u = omega arith in
+            let r : u < q .right = omega arith in
+            true-and (in-pane q u v l r (omega arith) (omega arith))
+            (true-and (true-and (from-le start (q .left) (q .right) u l r from (nearest start (q .left) (q .right)) .1 a)
+            (past-gt end (q .left) (q .right) u l r past (nearest end (q .left) (q .right)) .1 z))
+            (ap₂ eqZ (ap pos i) (row-is y bottom) ∙ eqZ-refl (pos (columnOf y))))
+
+        back : inside q (rowSpan y start end) (pos u) (pos v) ≡ true → columns (columnOf y) from past (pos u) (pos v) ≡ true
+        back e =
+            let p = and-true (inPane q (pos u) (pos v)) (rowSpan y start end (pos u) (pos v)) e in
+            let s = and-true (leZ start (pos u) && ltZ (pos u) end) (eqZ (pos v) y) (p .1) in
+            let t = and-true (leZ start (pos u)) (ltZ (pos u) end) (s .0) in
+            let r = pane-in q u v (p .0) .0 in
+            span-in (columnOf y) from past u v
+            (from-le start (q .left) (q .right) u (r .0) (r .1) from (nearest start (q .left) (q .right)) .0 (t .0))
+            (past-gt end (q .left) (q .right) u (r .0) (r .1) past (nearest end (q .left) (q .right)) .0 (t .1))
+            (ap columnOf (eqZ-true (pos v) y (s .1)))
+
+    pub span-left : painted (raster f) (columns (columnOf y) from past) colour b ≡ painted (raster f) (inside q (rowSpan y start end)) colour b
+    span-left = painted-cong (raster f) (sound f D) colour b _ _ (λ u v hu hv. agree u v)
+
+    pub span-gone : past ≤ from → b ≡ painted (raster f) (inside q (rowSpan y start end)) colour b
+    span-gone h =
+        sym (sym span-left ∙ painted-none (raster f) (sound f D) colour b _ (λ u v hu hv. fails _ (λ e. let s = in-span (columnOf y) from past u v e in no u (s .0) (s .1))))
+      where
+        no : (u : ℕ) → from ≤ u → u < past → ⊥
+        no u a z = omega arith
+
+-- a number that is not below a natural one is not negative
+pub not-below : (x : ℤ) (low : ℕ) → ltZ x (pos low) ≡ false → pos 0 ≤ℤ x
+not-below (pos a) low e = record { le = le→leb 0 a (omega arith) }
+not-below (negsuc a) low e = absurd (true≢false e)

@@ -1,0 +1,9 @@
+pub mod Refusals
+pub mod Masks
+pub mod Parts
+pub mod Panes
+pub mod Edges
+pub mod Clips
+pub mod Determined
+pub mod Exactly
+pub mod Known

@@ -1,0 +1,4 @@
+pub mod Answer
+pub mod Description
+pub mod Rectangle
+pub mod Words

@@ -1,0 +1,12 @@
+pub mod Tests
+pub mod Screen
+pub mod Acts
+pub mod Cells
+pub mod Places
+pub mod Painted
+pub mod Spans
+pub mod Runs
+pub mod Fields
+pub mod Bytes
+pub mod Kept
+pub mod Order

@@ -1,0 +1,111 @@
+-- Laws of the program's answers: which one a line gets, and that each is at most 72 bytes long. Assumes nothing.
+use mathlib.Core.Path.{_≡_, ap}
+use mathlib.Core.Bool.{Bool, true, false, cond}
+use mathlib.Core.List.{List, [], _∷_, _++_}
+use Prim.Native.Nat.{ℕ, _+_, _-_, _≤_, _<_}
+use native.Mathlib.Omega.{arith}
+use lib.Dec.{leb, eqb, lit<}
+use lib.IntN.{ℤ, pos}
+use lib.ListN.{length, take, drop, length-append}
+use lib.Seq.{length-sets}
+use borrow.Author.Tests.{le-leb, lt-leb, eq-eqb, ne-eqb, leb-true}
+use mir.Syntax.{w32}
+use mir.Val.{Fits, SFits}
+use Rattle.text.specs.Fields.{until, fields, fieldAt, nextU32, number, exactly, readPlace, readVertices}
+use Rattle.text.specs.Lines.{lineEnd, lineAt, handled}
+use Rattle.text.specs.Show.{shown, shownSigned, field, triple}
+use Rattle.text.proofs.Reading.{i32-fits, u32-fits}
+use Rattle.text.proofs.Showing.{shown-ten, shown-eleven}
+use Rattle.text.proofs.Streaming.{handled-keeps}
+use Rattle.text.proofs.Writing.{triple-parts}
+use Rattle.numbers.specs.Answer.{badLine, verticesLine, placeLine, countLine, answer, answered, room}
+
+-- ---- which answer a line gets
+pub answer-long : (line : List ℕ) → 128 < length line → badLine ≡ answer line
+unfolding answer
+answer-long line h = rw (lt-leb (length line) 128 h)
+
+module _ (line : List ℕ) (short : length line ≤ 128) where
+  pub answer-vertices : readVertices (fields line) .ok ≡ true → verticesLine (readVertices (fields line)) ≡ answer line
+  unfolding answer
+  answer-vertices e = rw (le-leb (length line) 128 short, e)
+
+  pub answer-place : readVertices (fields line) .ok ≡ false → readPlace (fields line) .ok ≡ true → placeLine (readPlace (fields line)) ≡ answer line
+  unfolding answer
+  answer-place e p = rw (le-leb (length line) 128 short, e, p)
+
+  pub answer-count : readVertices (fields line) .ok ≡ false → readPlace (fields line) .ok ≡ false → nextU32 line 0 .next ≡ length line + 1
+      → countLine (nextU32 line 0 .value) ≡ answer line
+  unfolding answer
+  answer-count e p q = rw (le-leb (length line) 128 short, e, p, eq-eqb (nextU32 line 0 .next) (length line + 1) q)
+
+  pub answer-bad : readVertices (fields line) .ok ≡ false → readPlace (fields line) .ok ≡ false → (nextU32 line 0 .next ≡ length line + 1 → ⊥) → badLine ≡ answer line
+  unfolding answer
+  answer-bad e p q = rw (le-leb (length line) 128 short, e, p, ne-eqb (nextU32 line 0 .next) (length line + 1) q)
+
+-- ---- how long it is
+field-short : (z : ℤ) (stop : ℕ) → SFits w32 z → length (field z stop) ≤ 12
+field-short z stop f = omega (arith, shown-eleven z f, length-append (shownSigned z) (stop ∷ []))
+
+triple-short : (a b c : ℤ) (stop : ℕ) → SFits w32 a → SFits w32 b → SFits w32 c → length (triple a b c stop) ≤ 36
+triple-short a b c stop f g h = omega (arith, triple-parts a b c stop, field-short a 9 f, field-short b 9 g, field-short c stop h)
+
+zero-fits : SFits w32 (pos 0)
+zero-fits = record { sfits = lit< tt }
+
+pub vertices-short : (fs : List (List ℕ)) → length (verticesLine (readVertices fs)) ≤ 72
+unfolding readVertices
+vertices-short fs = by (exactly 6 fs)
+  where
+    two : (a b c d e f : ℤ) → SFits w32 a → SFits w32 b → SFits w32 c → SFits w32 d → SFits w32 e → SFits w32 f → length (triple a b c 9 ++ triple d e f 10) ≤ 72
+    two a b c d e f p q r s t u = omega (arith, length-append (triple a b c 9) (triple d e f 10), triple-short a b c 9 p q r, triple-short d e f 10 s t u)
+
+    by : (t : Bool) → length (verticesLine (cond t
+        (record { ok = true; x1 = number fs 0 .value; y1 = number fs 1 .value; x2 = number fs 2 .value; y2 = number fs 3 .value; x3 = number fs 4 .value; y3 = number fs 5 .value })
+        (record { ok = false; x1 = pos 0; y1 = pos 0; x2 = pos 0; y2 = pos 0; x3 = pos 0; y3 = pos 0 }))) ≤ 72
+    by true = two _ _ _ _ _ _ (i32-fits _) (i32-fits _) (i32-fits _) (i32-fits _) (i32-fits _) (i32-fits _)
+    by false = two _ _ _ _ _ _ zero-fits zero-fits zero-fits zero-fits zero-fits zero-fits
+
+pub place-short : (fs : List (List ℕ)) → length (placeLine (readPlace fs)) ≤ 24
+unfolding readPlace
+place-short fs = by (exactly 2 fs)
+  where
+    two : (a b : ℤ) → SFits w32 a → SFits w32 b → length (field a 9 ++ field b 10) ≤ 24
+    two a b f g = omega (arith, length-append (field a 9) (field b 10), field-short a 9 f, field-short b 10 g)
+
+    by : (t : Bool) → length (placeLine (cond t (record { ok = true; x = number fs 0 .value; y = number fs 1 .value }) (record { ok = false; x = pos 0; y = pos 0 }))) ≤ 24
+    by true = two _ _ (i32-fits _) (i32-fits _)
+    by false = two _ _ zero-fits zero-fits
+
+pub count-short : (n : ℕ) → Fits w32 n → length (countLine n) ≤ 11
+count-short n f = omega (arith, length-append (shown n) (10 ∷ []), shown-ten n (f .fits))
+
+pub next-fits : (line : List ℕ) (at : ℕ) → Fits w32 (nextU32 line at .value)
+unfolding nextU32
+next-fits line at = u32-fits (fieldAt line at)
+
+pub answer-short : (line : List ℕ) → length (answer line) ≤ 72
+unfolding answer
+answer-short line = by (leb (length line) 128) (readVertices (fields line) .ok) (readPlace (fields line) .ok) (eqb (nextU32 line 0 .next) (length line + 1))
+  where
+    by : (a b c d : Bool)
+        → length (cond a (cond b (verticesLine (readVertices (fields line))) (cond c (placeLine (readPlace (fields line))) (cond d (countLine (nextU32 line 0 .value)) badLine))) badLine) ≤ 72
+    by false b c d = omega arith
+    by true true c d = vertices-short (fields line)
+    by true false true d = omega (arith, place-short (fields line))
+    by true false false true = omega (arith, count-short (nextU32 line 0 .value) (next-fits line 0))
+    by true false false false = omega arith
+
+-- ---- so answers stay within their buffer
+pub answered-within : (o : ℕ × List ℕ) (line : List ℕ) → room o ≡ true → answered o line .0 ≤ length (answered o line .1)
+answered-within o line r = rw (length-sets (o .1) (o .0) (answer line)) (omega (arith, leb-true (o .0 + 72) (length (o .1)) r, answer-short line))
+
+pub lines-within : (s : List ℕ) (turns at : ℕ) (o : ℕ × List ℕ) → o .0 ≤ length (o .1) → handled room answered s turns at o .1 .0 ≤ length (handled room answered s turns at o .1 .1)
+lines-within s turns at o h = handled-keeps answered room (λ (p : ℕ × List ℕ). p .0 ≤ length (p .1)) (λ p l r q. answered-within p l r) s turns at o h
+
+-- ---- a line, as the code lends it
+pub line-is : (s : List ℕ) (at end : ℕ) → end ≡ lineEnd s at → take (end - at) (drop at s) ≡ lineAt s at
+line-is s at end e = ap (λ (k : ℕ). take k (drop at s)) count
+  where
+    count : end - at ≡ until 10 (drop at s)
+    count = omega arith

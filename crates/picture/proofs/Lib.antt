@@ -1,0 +1,5 @@
+pub mod Blank
+pub mod Picture
+pub mod Known
+pub mod Ties
+pub mod Table

@@ -1,0 +1,46 @@
+-- `text::write::write_field` writes the number and then the byte. Assumes nothing.
+use mathlib.Core.Path.{subst}
+use mathlib.Core.List.{[], _∷_}
+use native.Mathlib.Omega.{arith}
+use lib.IntN.{ℤ}
+use lib.ListN.{length-append, length-set}
+use mir.Facts.{toZ-ofZ}
+use Rattle.text.specs.Show.{shownSigned}
+use Rattle.text.proofs.Writing.{Wrote, wrote-byte}
+use Rattle.text.proofs.write.write_field.Statement.{statement}
+use Rattle.text.proofs.write.write_field.Tie as tie
+
+-- what `write_i32` did, at the number itself
+number : (c : tie.After-write-i32)
+    → Wrote (c .before .before .before .args .buf .now) (c .before .before .before .args .at) (shownSigned (c .before .before .before .args .v)) (c .write-i32 .result) (c .write-i32 .last .0)
+number c =
+    let a = c .before .before .before .args in
+    subst (λ (z : ℤ). Wrote (a .buf .now) (a .at) (shownSigned z) (c .write-i32 .result) (c .write-i32 .last .0)) (toZ-ofZ (c .before .before .before .fits .v)) (c .write-i32 .ensures)
+
+write-i32-requires : tie.Need-write-i32-requires
+write-i32-requires c κs =
+    let a = c .before .before .args in
+    rw (toZ-ofZ (c .before .before .fits .v)) (omega (arith, c .before .before .pre, length-append (shownSigned (a .v)) (a .stop ∷ [])))
+
+slice-write-buf : tie.Need-slice-write-buf
+slice-write-buf c =
+    let a = c .before .before .before .before .before .args in
+    let w = number (c .before .before) in
+    omega (arith, c .before .before .before .before .before .pre, w .0, c .before .before .write-i32 .kept .0, length-append (shownSigned (a .v)) (a .stop ∷ []))
+
+add-result : tie.Need-add-result
+add-result c =
+    let a = c .before .before .before .before .before .args in
+    omega (arith, c .before .before .before .before .before .pre, number (c .before .before) .0, length-append (shownSigned (a .v)) (a .stop ∷ []))
+
+same-length : tie.Need-same-length
+same-length c = simp length-set (c .before .before .write-i32 .kept .0)
+
+returns : tie.Need-returns
+returns c =
+    let a = c .before .before .before .before .before .args in
+    wrote-byte (a .buf .now) (a .at) (shownSigned (a .v)) (a .stop) (number (c .before .before))
+
+pub write-field-spec : {M : Type 1} → statement M
+write-field-spec =
+    tie.close (tie.spec write-i32-requires slice-write-buf add-result same-length returns)

@@ -1,0 +1,5 @@
+pub mod Digits
+pub mod Read
+pub mod Show
+pub mod Fields
+pub mod Lines

@@ -1,0 +1,100 @@
+// Writing text into a lent buffer, from a place on. Each function answers the next place, and leaves every byte but its own as it was.
+ghost use mathlib.Core.Path.{_≡_};
+ghost use Prim.Native.Nat.{_+_, _≤_};
+ghost use lib.IntN.{natAbs};
+ghost use lib.ListN.{length};
+ghost use lib.Seq.{sets};
+ghost use Rattle.text.specs.Show.{shown, lastDigits, shownSigned, field, triple};
+
+// How many digits the text of `v` has.
+fn digit_count(v: u32) -> usize
+    ensures { λ r. ⌜ r ≡ length (shown v) ⌝ }
+{
+    let mut rest = v;
+    let mut count = 1;
+    while rest >= 10 {
+        rest /= 10;
+        count += 1;
+    }
+    count
+}
+
+// The last `count` digits of `v`, from the last on.
+fn put_digits(buf: &mut [u8], at: usize, count: usize, v: u32)
+    requires { ⌜ at + count ≤ length (now buf) ⌝ }
+    ensures { λ _. ⌜ now (buf .exit) ≡ sets (now (buf .entry)) at (lastDigits count v) ⌝ }
+{
+    let mut rest = v;
+    let mut i = count;
+    while i > 0 {
+        i -= 1;
+        buf[at + i] = b'0' + (rest % 10) as u8;
+        rest /= 10;
+    }
+}
+
+// Inside the library: the text of `v`.
+pub fn write_u32(buf: &mut [u8], at: usize, v: u32) -> usize
+    requires { ⌜ at + length (shown v) ≤ length (now buf) ⌝ }
+    ensures { λ r. ⌜ (r ≡ at + length (shown v)) × (now (buf .exit) ≡ sets (now (buf .entry)) at (shown v)) ⌝ }
+{
+    let count = digit_count(v);
+    put_digits(buf, at, count, v);
+    at + count
+}
+
+// How far `v` is from 0.
+fn magnitude(v: i32) -> u32
+    ensures { λ r. ⌜ r ≡ natAbs v ⌝ }
+{
+    if v < 0 {
+        return -(v as i64) as u32;
+    }
+    v as u32
+}
+
+// Inside the library: the text of `v`, a minus first where it is negative.
+pub fn write_i32(buf: &mut [u8], at: usize, v: i32) -> usize
+    requires { ⌜ at + length (shownSigned v) ≤ length (now buf) ⌝ }
+    ensures { λ r. ⌜ (r ≡ at + length (shownSigned v)) × (now (buf .exit) ≡ sets (now (buf .entry)) at (shownSigned v)) ⌝ }
+{
+    let digits = magnitude(v);
+    if v < 0 {
+        buf[at] = b'-';
+        return write_u32(buf, at + 1, digits);
+    }
+    write_u32(buf, at, digits)
+}
+
+// Inside the library: the bytes of `s`.
+pub fn write_bytes(buf: &mut [u8], at: usize, s: &[u8]) -> usize
+    requires { ⌜ at + length (now s) ≤ length (now buf) ⌝ }
+    ensures { λ r. ⌜ (r ≡ at + length (now (s .entry))) × (now (buf .exit) ≡ sets (now (buf .entry)) at (now (s .entry))) ⌝ }
+{
+    let mut i = 0;
+    while i < s.len() {
+        buf[at + i] = s[i];
+        i += 1;
+    }
+    at + i
+}
+
+// Inside the library: the text of `v` and the byte `stop` behind it.
+pub fn write_field(buf: &mut [u8], at: usize, v: i32, stop: u8) -> usize
+    requires { ⌜ at + length (field v stop) ≤ length (now buf) ⌝ }
+    ensures { λ r. ⌜ (r ≡ at + length (field v stop)) × (now (buf .exit) ≡ sets (now (buf .entry)) at (field v stop)) ⌝ }
+{
+    let end = write_i32(buf, at, v);
+    buf[end] = stop;
+    end + 1
+}
+
+// Inside the library: `a`, `b` and `c`, parted by tabs, and the byte `stop` behind them. With LF it is a row of a list.
+pub fn write_triple(buf: &mut [u8], at: usize, a: i32, b: i32, c: i32, stop: u8) -> usize
+    requires { ⌜ at + length (triple a b c stop) ≤ length (now buf) ⌝ }
+    ensures { λ r. ⌜ (r ≡ at + length (triple a b c stop)) × (now (buf .exit) ≡ sets (now (buf .entry)) at (triple a b c stop)) ⌝ }
+{
+    let second = write_field(buf, at, a, b'\t');
+    let third = write_field(buf, second, b, b'\t');
+    write_field(buf, third, c, stop)
+}

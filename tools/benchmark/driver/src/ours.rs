@@ -1,0 +1,96 @@
+//! Our library, as its C header declares it. Its functions are linked and so never inlined.
+
+#[repr(C)]
+pub struct Verdict {
+    pub number: u32,
+    pub yes: bool,
+}
+
+#[repr(C)]
+pub struct Span {
+    pub number: u32,
+    pub start: i32,
+    pub end: i32,
+}
+
+#[rustfmt::skip]
+extern "C" {
+    fn beamacorn_triangle_contains(x1: i32, y1: i32, x2: i32, y2: i32, x3: i32, y3: i32, x: i32, y: i32) -> Verdict;
+    fn beamacorn_triangle_row_span(x1: i32, y1: i32, x2: i32, y2: i32, x3: i32, y3: i32, y: i32) -> Span;
+    fn beamacorn_circle_row_span(left: i32, top: i32, diameter: u32, y: i32) -> Span;
+
+    fn beamacorn_set_pixel(buf: *mut u8, len: usize, width: u32, height: u32, depth: u32, order: u32,
+        x: i32, y: i32, colour: u32) -> u32;
+    fn beamacorn_fill(buf: *mut u8, len: usize, width: u32, height: u32, depth: u32, order: u32,
+        colour: u32) -> u32;
+    fn beamacorn_draw_line(buf: *mut u8, len: usize, width: u32, height: u32, depth: u32, order: u32,
+        x1: i32, y1: i32, x2: i32, y2: i32, colour: u32) -> u32;
+    fn beamacorn_draw_triangle(buf: *mut u8, len: usize, width: u32, height: u32, depth: u32, order: u32,
+        x1: i32, y1: i32, x2: i32, y2: i32, x3: i32, y3: i32, colour: u32) -> u32;
+    fn beamacorn_draw_circle(buf: *mut u8, len: usize, width: u32, height: u32, depth: u32, order: u32,
+        left: i32, top: i32, diameter: u32, colour: u32) -> u32;
+}
+
+pub type Place = (i32, i32);
+
+pub fn contains([(x1, y1), (x2, y2), (x3, y3)]: [Place; 3], (x, y): Place) -> bool {
+    unsafe { beamacorn_triangle_contains(x1, y1, x2, y2, x3, y3, x, y) }.yes
+}
+
+pub fn row_span([(x1, y1), (x2, y2), (x3, y3)]: [Place; 3], y: i32) -> (i32, i32) {
+    let span = unsafe { beamacorn_triangle_row_span(x1, y1, x2, y2, x3, y3, y) };
+    (span.start, span.end)
+}
+
+pub fn circle_row_span((left, top): Place, diameter: u32, y: i32) -> (i32, i32) {
+    let span = unsafe { beamacorn_circle_row_span(left, top, diameter, y) };
+    (span.start, span.end)
+}
+
+/// A frame of our own over its bytes, little end first.
+pub struct Frame {
+    pub bytes: Vec<u8>,
+    width: u32,
+    height: u32,
+    depth: u32,
+}
+
+/// Calls a function of the library on a frame; it must not refuse.
+macro_rules! call {
+    ($function:ident($frame:expr $(, $argument:expr)*)) => {{
+        let Frame { bytes, width, height, depth } = $frame;
+        let number = unsafe { $function(bytes.as_mut_ptr(), bytes.len(), *width, *height, *depth, 0 $(, $argument)*) };
+        assert_eq!(number, 0, "our library refused");
+    }};
+}
+
+impl Frame {
+    pub fn new(width: u32, height: u32, depth: u32) -> Self {
+        let bytes = vec![0; row_bytes(width, depth) * height as usize];
+        Frame { bytes, width, height, depth }
+    }
+
+    pub fn set_pixel(&mut self, (x, y): Place, colour: u32) {
+        call!(beamacorn_set_pixel(self, x, y, colour));
+    }
+
+    pub fn fill(&mut self, colour: u32) {
+        call!(beamacorn_fill(self, colour));
+    }
+
+    pub fn draw_line(&mut self, (x1, y1): Place, (x2, y2): Place, colour: u32) {
+        call!(beamacorn_draw_line(self, x1, y1, x2, y2, colour));
+    }
+
+    pub fn draw_triangle(&mut self, [(x1, y1), (x2, y2), (x3, y3)]: [Place; 3], colour: u32) {
+        call!(beamacorn_draw_triangle(self, x1, y1, x2, y2, x3, y3, colour));
+    }
+
+    pub fn draw_circle(&mut self, (left, top): Place, diameter: u32, colour: u32) {
+        call!(beamacorn_draw_circle(self, left, top, diameter, colour));
+    }
+}
+
+pub fn row_bytes(width: u32, depth: u32) -> usize {
+    (width * depth).div_ceil(8) as usize
+}

@@ -1,0 +1,63 @@
+"""All kinds of cases by name: those that leave nothing out, once, and random ones, a batch a round."""
+
+from itertools import product
+
+from . import corners, frames, grids
+from .figures import Figures
+from .frames import Drawings
+from .refusals import Limits
+
+FRAMES = [*product((0, 1, 2, 3, 5, 8, 9, 13, 17, 24, 33), (0, 1, 2, 5, 12, 20)), (100, 80), (320, 9), (2, 2_048), (2_048, 2)]
+
+
+def once_by_rust(random, sizes):
+    """Kinds and their batches, all of which the Rust can answer."""
+    return {
+        "every triangle of a grid": grids.triangles(),
+        "every line of a grid": grids.lines(),
+        "every circle to d = 64": grids.circles(),
+        "lines at the range's corners": corners.lines(),
+        "triangles at the range's corners": corners.triangles(),
+        "circles at the range's corners": corners.circles(),
+        "every pixel of small frames": frames.every_pixel(random, sizes),
+    }
+
+
+def round_by_rust(random, sizes):
+    """Kinds and what makes a batch, which the Rust can answer."""
+    near = Figures(random, corners.LOW, corners.HIGH, corners.LOW, corners.HIGH)
+    drawings = Drawings(random, sizes, reach=4_000, with_fill=False, refused=0)
+    return {
+        "lines": lambda: near.lines(8_000),
+        "triangles": lambda: near.triangles(8_000),
+        "circles": lambda: near.circles(800),
+        "drawing": lambda: drawings.sequences(300),
+    }
+
+
+def round_by_model(random):
+    """Kinds and what makes a batch, beyond what the Rust can answer."""
+    far = Figures(random, -131_072, 131_071, -(2**31), 2**31 - 1)
+    drawings = Drawings(random, FRAMES, reach=130_000, with_fill=True, refused=0.2)
+    limits = Limits(random)
+    return {
+        "far lines": lambda: far.lines(1_000),
+        "far triangles": lambda: far.triangles(1_000),
+        "far circles": lambda: far.circles(100),
+        "drawing, fills and refused calls": lambda: drawings.sequences(300),
+        "questions at their limits": lambda: limits.questions(3_000),
+        "calls at their limits": lambda: limits.calls(300),
+        "bad lines": lambda: limits.bad_lines(3_000),
+    }
+
+
+def part(random, batch, count):
+    """About so many lines of a batch; where lines build on a frame, all from one frame up to the next."""
+    starts = [place for place, line in enumerate(batch) if line.startswith("frame\t")]
+    if not starts:
+        return random.sample(batch, min(count, len(batch)))
+    runs = [batch[start:end] for start, end in zip(starts, [*starts[1:], len(batch)])]
+    chosen = []
+    while len(chosen) < count:
+        chosen += random.choice(runs)
+    return chosen

@@ -1,0 +1,127 @@
+"""Models that are wrong in one way each: 01's "Errors that look right" and others of their kind, which a run must find."""
+
+from contextlib import contextmanager
+from unittest.mock import patch
+
+from model import numbers, replay
+from model.circles import Circle
+from model.frames import Frame
+from model.lines import Line
+from model.replay import Replay
+from model.triangles import Triangle
+
+
+class WrongModel:
+    """Answers as the model would with one of its functions replaced."""
+
+    def __init__(self, name, owner, function, replacement):
+        self.name = name
+        self.change = patch.object(owner, function, replacement)
+
+    def ask(self, batch):
+        with self.change, without_kept_figures():
+            model = Replay()
+            lines = batch.removesuffix("\n").encode("latin-1").split(b"\n")
+            return [model.answer(line) for line in lines], ""
+
+
+@contextmanager
+def without_kept_figures():
+    """Figures that the model keeps between questions must be made anew on both sides of the change."""
+    forget_figures()
+    yield
+    forget_figures()
+
+
+def forget_figures():
+    for figures in (replay.line, replay.triangle, replay.circle):
+        figures.cache_clear()
+
+
+def models():
+    return [
+        WrongModel("d·d for d = 3", Circle, "__init__", with_plain_threshold(Circle.__init__)),
+        WrongModel("a tie takes the minor step", Line, "moved", moved_on_ties),
+        WrongModel("edges walked from their other end", Triangle, "__init__", with_edges_turned(Triangle.__init__)),
+        WrongModel("no at zero area", Triangle, "contains", never_flat(Triangle.contains)),
+        WrongModel("inside only, without the points of edges", Triangle, "contains", inside_only),
+        WrongModel("filling clears the padding", Replay, "fill", fill_all),
+        WrongModel("little end first always", Frame, "order", lambda self: "little"),
+        WrongModel("first pixel in the low bits", Frame, "place", low_bits_first(Frame.place)),
+        WrongModel("the highest refusal wins", numbers, "lowest", highest),
+        WrongModel("a refused call draws", Replay, "drawn", drawn_all_the_same),
+        WrongModel("a circle's row is not shortened on the right", Circle, "span", not_shortened(Circle.span)),
+        WrongModel("a line without its last point", Line, "contains", without_last(Line.contains)),
+    ]
+
+
+def with_plain_threshold(init):
+    def replacement(self, left, top, diameter):
+        init(self, left, top, diameter)
+        self.threshold = diameter * diameter
+
+    return replacement
+
+
+def moved_on_ties(self, k):
+    return (2 * self.minor * k + self.major) // (2 * self.major) if self.major else 0
+
+
+def with_edges_turned(init):
+    def replacement(self, *vertices):
+        init(self, *vertices)
+        self.edges = [Line(*edge.point(edge.major), edge.x, edge.y) for edge in self.edges]
+
+    return replacement
+
+
+def never_flat(contains):
+    return lambda self, x, y: self.area != 0 and contains(self, x, y)
+
+
+def inside_only(self, x, y):
+    return self.area != 0 and self.has_on_one_side(x, y)
+
+
+def fill_all(self, colour):
+    """Leaves the padding of each row 0."""
+
+    def change():
+        self.now.paint(self.buffer, lambda x, y: True, colour)
+        if self.now.width and self.now.depth < 8:
+            padding = self.now.row_bytes() * 8 - self.now.width * self.now.depth
+            for last in range(self.now.row_bytes() - 1, self.now.size(), self.now.row_bytes()):
+                self.buffer[last] &= -1 << padding
+
+    return self.drawn(change, colour)
+
+
+def low_bits_first(place):
+    def replacement(self, x, y):
+        first, last, shift = place(self, x, y)
+        return (first, last, 8 - self.depth - shift) if self.depth < 8 else (first, last, shift)
+
+    return replacement
+
+
+def highest(*tests):
+    return max((number for test in tests for number, applies in test.items() if applies), default=0)
+
+
+def drawn_all_the_same(self, change, colour, *tests):
+    number = numbers.lowest(*self.lent(), numbers.colour(self.now, colour), *tests)
+    if number in (0, 5, 6):
+        change()
+    return [number]
+
+
+def not_shortened(span):
+    def replacement(self, y):
+        start, end = span(self, y)
+        return (start, self.left + self.diameter) if end else (start, end)
+
+    return replacement
+
+
+def without_last(contains):
+    return lambda self, x, y: contains(self, x, y) and (x, y) != self.point(self.major)

@@ -1,0 +1,81 @@
+"""01, "Known small answers" 1 to 14, the listing of `spans`, and the examples under "Errors that look right"."""
+
+# Under each number the lines that ask for it and, behind ->, the answers.
+KNOWN = """
+1   length 0 0 0 0 -> 0 1
+    point 0 0 0 0 0 -> 0 0 0
+2   length 0 0 2 1 -> 0 3
+    point 0 0 2 1 0 -> 0 0 0
+    point 0 0 2 1 1 -> 0 1 0
+    point 0 0 2 1 2 -> 0 2 1
+3   length 2 1 0 0 -> 0 3
+    point 2 1 0 0 0 -> 0 2 1
+    point 2 1 0 0 1 -> 0 1 1
+    point 2 1 0 0 2 -> 0 0 0
+4   length 0 0 5 2 -> 0 6
+    point 0 0 5 2 0 -> 0 0 0
+    point 0 0 5 2 1 -> 0 1 0
+    point 0 0 5 2 2 -> 0 2 1
+    point 0 0 5 2 3 -> 0 3 1
+    point 0 0 5 2 4 -> 0 4 2
+    point 0 0 5 2 5 -> 0 5 2
+    point 0 0 5 2 6 -> 7 0 0
+5   span 0 0 4 2 2 1 0 -> 0 0 2
+    span 0 0 4 2 2 1 1 -> 0 2 4
+    span 0 0 4 2 2 1 2 -> 0 4 5
+6   inside 0 0 86400 0 0 40000 20000 10000 -> 0 1
+7   discspan 0 0 3 0 -> 0 1 2
+    discspan 0 0 3 1 -> 0 0 3
+    discspan 0 0 3 2 -> 0 1 2
+8   discspan 0 0 4 0 -> 0 1 3
+    discspan 0 0 4 1 -> 0 0 4
+    discspan 0 0 4 2 -> 0 0 4
+    discspan 0 0 4 3 -> 0 1 3
+9   disc 0 0 0 0 0 -> 0 0
+    discspan 0 0 0 0 -> 0 0 0
+    disc 0 0 1 0 0 -> 0 1
+    discspan 0 0 1 0 -> 0 0 1
+10  frame 10 1 1 0 2 -> 0 2
+    pixel 9 0 1 -> 0
+    dump 0 2 -> 0040
+11  frame 4 1 2 0 1 -> 0 1
+    pixel 1 0 3 -> 0
+    dump 0 1 -> 30
+    frame 2 1 4 0 1 -> 0 1
+    pixel 1 0 10 -> 0
+    dump 0 1 -> 0a
+12  frame 1 1 24 0 3 -> 0 3
+    pixel 0 0 66051 -> 0
+    dump 0 3 -> 030201
+    frame 1 1 24 1 3 -> 0 3
+    pixel 0 0 66051 -> 0
+    dump 0 3 -> 010203
+13  frame 10 3 1 0 0 -> 0 6
+    frame 9 5 2 0 0 -> 0 15
+    frame 7 2 24 0 0 -> 0 42
+14  length 131071 0 0 0 -> 0 131072
+    length 131072 0 0 0 -> 5 0
+    disc 131071 0 1 131071 0 -> 0 1
+    disc 131071 0 2 131071 0 -> 6 0
+    frame 2048 1 1 0 0 -> 0 256
+    frame 2049 1 1 0 0 -> 2 0
+spans rows 0 0 4 0 0 4 -> 0 0 5
+    span 0 0 4 0 0 4 0 -> 0 0 5
+    span 0 0 4 0 0 4 1 -> 0 0 4
+    span 0 0 4 0 0 4 2 -> 0 0 3
+    span 0 0 4 0 0 4 3 -> 0 0 2
+    span 0 0 4 0 0 4 4 -> 0 0 1
+errors inside 0 0 4 2 2 1 1 0 -> 0 1
+    inside 0 0 4 2 2 1 2 1 -> 0 1
+    inside 2 1 0 0 4 2 1 0 -> 0 1
+    inside 0 0 -2 2 2 0 -1 0 -> 0 0
+    disc 0 0 3 0 0 -> 0 0
+"""
+
+
+def known():
+    """The lines and answers of KNOWN, with tabs."""
+    for row in KNOWN.strip().splitlines():
+        head = "" if row[0] == " " else row.split()[0]
+        asked, answer = row.removeprefix(head).strip().split(" -> ")
+        yield asked.replace(" ", "\t"), answer.replace(" ", "\t")

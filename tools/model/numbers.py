@@ -1,0 +1,35 @@
+"""01, "Numbers an operation may answer": each refusal by the table's words, and which one wins."""
+
+
+def lowest(*tests):
+    """The lowest number that applies; 0 if none does."""
+    return min((number for test in tests for number, applies in test.items() if applies), default=0)
+
+
+def description(frame):
+    return {1: frame.depth not in (1, 2, 4, 8, 16, 24, 32), 2: frame.width > 2_048 or frame.height > 2_048}
+
+
+def buffer(frame, length):
+    return {3: length < frame.size()}
+
+
+def colour(frame, colour):
+    # 2^depth can't be worked out for a refused depth of some thousand million.
+    return {4: colour.bit_length() > frame.depth}
+
+
+def coordinates(*given):
+    return {5: any(not -131_072 <= coordinate <= 131_071 for coordinate in given)}
+
+
+def circle(left, top, diameter):
+    return {6: left + diameter > 131_072 or top + diameter > 131_072}
+
+
+def step(line, k):
+    return {7: k > line.major}
+
+
+def read(frame, x, y):
+    return {8: not frame.has(x, y)}

@@ -1,0 +1,163 @@
+"""The program `replay` of REPLAY.md, over the model: a line in, a line out."""
+
+import re
+from functools import lru_cache
+
+from . import numbers
+from .circles import Circle
+from .frames import Frame
+from .lines import Line
+from .triangles import Outline, Triangle
+
+BYTES = 65_536
+MOST_DUMPED = 4_096
+LONGEST_LINE = 128
+
+# The numbers that follow each word: s signed, u unsigned, of 32 bits.
+FIELDS = {
+    "frame": "uuuuu", "preset": "u", "read": "ss", "dump": "uu",
+    "pixel": "ssu", "fill": "u", "line": "ssssu", "triangle": "ssssssu", "outline": "ssssssu", "circle": "ssuu",
+    "length": "ssss", "point": "ssssu", "online": "ssssss",
+    "inside": "ssssssss", "span": "sssssss", "rows": "ssssss", "disc": "ssuss", "discspan": "ssus",
+}
+NUMBER = {"s": "(-?[0-9]{1,10})", "u": "([0-9]{1,10})"}
+RANGE = {"s": range(-(2**31), 2**31), "u": range(2**32)}
+SHAPE = {
+    word: re.compile("\t".join([word, *(NUMBER[kind] for kind in kinds)]).encode()) for word, kinds in FIELDS.items()
+}
+
+# Questions on one figure often stand together.
+line, triangle, circle = (lru_cache(maxsize=16)(figure) for figure in (Line, Triangle, Circle))
+
+
+class BadLine(Exception):
+    """A line that is none of REPLAY.md's."""
+
+
+class Replay:
+    def __init__(self):
+        self.frame_is(Frame(0, 0, 1, False), 0)
+
+    def frame_is(self, frame, length):
+        self.now, self.lent_bytes, self.buffer = frame, length, bytearray(BYTES)
+
+    def answer(self, text):
+        """The answer to a line, given without its LF."""
+        try:
+            word, given = parsed(text)
+            answer = getattr(self, word)(*given)
+        except BadLine:
+            return "bad line"
+        return answer if isinstance(answer, str) else "\t".join(str(int(value)) for value in answer)
+
+    # The state and its bytes.
+
+    def frame(self, width, height, depth, order, length):
+        if order > 1 or length > BYTES:
+            raise BadLine
+        self.frame_is(Frame(width, height, depth, order == 1), length)
+        return answered(numbers.lowest(numbers.description(self.now)), 1, lambda: [self.now.size()])
+
+    def preset(self, value):
+        if value > 255:
+            raise BadLine
+        self.buffer = bytearray([value]) * BYTES
+        return [0]
+
+    def dump(self, start, count):
+        if count > MOST_DUMPED or start + count > BYTES:
+            raise BadLine
+        return self.buffer[start:start + count].hex()
+
+    def read(self, x, y):
+        number = numbers.lowest(*self.lent(), numbers.read(self.now, x, y))
+        return answered(number, 1, lambda: [self.now.read(self.buffer, x, y)])
+
+    def lent(self):
+        return numbers.description(self.now), numbers.buffer(self.now, self.lent_bytes)
+
+    # Drawing calls.
+
+    def pixel(self, x, y, colour):
+        inside = self.now.has(x, y)
+        return self.drawn(lambda: self.now.set(self.buffer, x, y, colour) if inside else None, colour)
+
+    def fill(self, colour):
+        return self.painted(lambda x, y: True, colour)
+
+    def line(self, x1, y1, x2, y2, colour):
+        return self.painted(Line(x1, y1, x2, y2).contains, colour, numbers.coordinates(x1, y1, x2, y2))
+
+    def triangle(self, *given):
+        *vertices, colour = given
+        return self.painted(Triangle(*vertices).contains, colour, numbers.coordinates(*vertices))
+
+    def outline(self, *given):
+        *vertices, colour = given
+        return self.painted(Outline(*vertices).contains, colour, numbers.coordinates(*vertices))
+
+    def circle(self, left, top, diameter, colour):
+        figure = Circle(left, top, diameter)
+        return self.painted(figure.contains, colour, *on_circle(left, top, diameter))
+
+    def painted(self, contains, colour, *tests):
+        return self.drawn(lambda: self.now.paint(self.buffer, contains, colour), colour, *tests)
+
+    def drawn(self, change, colour, *tests):
+        number = numbers.lowest(*self.lent(), numbers.colour(self.now, colour), *tests)
+        if number == 0:
+            change()
+        return [number]
+
+    # Questions on figures.
+
+    def length(self, *ends):
+        return answered(numbers.lowest(numbers.coordinates(*ends)), 1, lambda: [line(*ends).points()])
+
+    def point(self, *given):
+        *ends, k = given
+        number = numbers.lowest(numbers.coordinates(*ends), numbers.step(line(*ends), k))
+        return answered(number, 2, lambda: line(*ends).point(k))
+
+    def online(self, *given):
+        *ends, x, y = given
+        return answered(numbers.lowest(numbers.coordinates(*ends)), 1, lambda: [line(*ends).contains(x, y)])
+
+    def inside(self, *given):
+        *vertices, x, y = given
+        return answered(numbers.lowest(numbers.coordinates(*vertices)), 1, lambda: [triangle(*vertices).contains(x, y)])
+
+    def span(self, *given):
+        *vertices, y = given
+        return answered(numbers.lowest(numbers.coordinates(*vertices)), 2, lambda: triangle(*vertices).span(y))
+
+    def rows(self, *vertices):
+        return answered(numbers.lowest(numbers.coordinates(*vertices)), 2, lambda: triangle(*vertices).rows())
+
+    def disc(self, left, top, diameter, x, y):
+        number = numbers.lowest(*on_circle(left, top, diameter))
+        return answered(number, 1, lambda: [circle(left, top, diameter).contains(x, y)])
+
+    def discspan(self, left, top, diameter, y):
+        number = numbers.lowest(*on_circle(left, top, diameter))
+        return answered(number, 2, lambda: circle(left, top, diameter).span(y))
+
+
+def on_circle(left, top, diameter):
+    return numbers.coordinates(left, top), numbers.circle(left, top, diameter)
+
+
+def answered(number, count, values):
+    """The number and its values; with a refusal each of the count values is 0."""
+    return [number, *values()] if number == 0 else [number] + [0] * count
+
+
+def parsed(text):
+    word = text.split(b"\t", 1)[0].decode("latin-1")
+    taken = word in FIELDS and len(text) <= LONGEST_LINE and SHAPE[word].fullmatch(text)
+    if not taken:
+        raise BadLine
+    given = [int(field) for field in taken.groups()]
+    if not all(number in RANGE[kind] for number, kind in zip(given, FIELDS[word])):
+        raise BadLine
+    return word, given

@@ -1,0 +1,42 @@
+"""01, "Triangles"."""
+
+from .lines import Line
+
+
+def doubled_area(a, b, c):
+    """Twice the signed area."""
+    return (b[0] - a[0]) * (c[1] - a[1]) - (b[1] - a[1]) * (c[0] - a[0])
+
+
+class Triangle:
+    def __init__(self, x1, y1, x2, y2, x3, y3):
+        self.given = (x1, y1), (x2, y2), (x3, y3)
+        p1, p2, p3 = sorted(self.given, key=lambda p: (p[1], p[0]))
+        self.area = doubled_area(*self.given)
+        sides = [(p1, p2), (p1, p3), (p2, p3)] if self.area != 0 else [(p1, p3)]
+        self.edges = [Line(*start, *end) for start, end in sides]
+        self.top, self.bottom = p1[1], p3[1]
+
+    def contains(self, x, y):
+        return self.area != 0 and self.has_on_one_side(x, y) or any(edge.contains(x, y) for edge in self.edges)
+
+    def has_on_one_side(self, x, y):
+        p, (v1, v2, v3) = (x, y), self.given
+        areas = doubled_area(p, v1, v2), doubled_area(p, v2, v3), doubled_area(p, v3, v1)
+        return min(areas) >= 0 or max(areas) <= 0
+
+    def rows(self):
+        """The first row and the number of rows."""
+        return self.top, self.bottom - self.top + 1
+
+    def span(self, y):
+        columns = [x for edge in self.edges for x in edge.columns(y)]
+        return (min(columns), max(columns) + 1) if columns else (0, 0)
+
+
+class Outline:
+    def __init__(self, x1, y1, x2, y2, x3, y3):
+        self.lines = Line(x1, y1, x2, y2), Line(x2, y2, x3, y3), Line(x3, y3, x1, y1)
+
+    def contains(self, x, y):
+        return any(line.contains(x, y) for line in self.lines)

@@ -1,0 +1,229 @@
+//! How frames and drawing calls are put to the Rust, whose frame sizes are fixed when it is compiled.
+
+use crate::{figures::Figures, question::Question};
+use embedded_graphics::{
+    framebuffer::{buffer_size_bpp, Framebuffer},
+    geometry::{Dimensions, Point},
+    image::GetPixel,
+    pixelcolor::raw::{BigEndian, LittleEndian, RawData, RawU1, RawU16, RawU2, RawU24, RawU32, RawU4, RawU8},
+    primitives::{Line, PointsIter, Triangle},
+};
+use std::fmt::Write;
+
+/// The bytes of `replay`'s buffer. A frame's own bytes are the first of them; the rest is its tail.
+const LENGTH: usize = 65_536;
+
+const MOST_DUMPED: usize = 4_096;
+
+/// A frame buffer of any size, depth and order.
+trait Frame {
+    fn set(&mut self, p: Point, colour: u32);
+    fn get(&self, p: Point) -> Option<u32>;
+    fn bytes(&mut self) -> &mut [u8];
+}
+
+macro_rules! frame_at_depth {
+    ($raw:ty) => {
+        frame_at_depth!($raw, LittleEndian);
+        frame_at_depth!($raw, BigEndian);
+    };
+    ($raw:ty, $order:ty) => {
+        impl<const W: usize, const H: usize> Frame for Framebuffer<$raw, $raw, $order, W, H, LENGTH> {
+            fn set(&mut self, p: Point, colour: u32) {
+                self.set_pixel(p, <$raw>::new(colour as <$raw as RawData>::Storage));
+            }
+
+            fn get(&self, p: Point) -> Option<u32> {
+                self.pixel(p).map(|colour| colour.into_inner().into())
+            }
+
+            fn bytes(&mut self) -> &mut [u8] {
+                self.data_mut()
+            }
+        }
+    };
+}
+
+frame_at_depth!(RawU1);
+frame_at_depth!(RawU2);
+frame_at_depth!(RawU4);
+frame_at_depth!(RawU8);
+frame_at_depth!(RawU16);
+frame_at_depth!(RawU24);
+frame_at_depth!(RawU32);
+
+/// Hands the sizes that are compiled to a macro, after its own words.
+macro_rules! with_sizes {
+    ($macro:ident!($($word:tt)*)) => {
+        $macro!($($word)* =>
+            (0, 0) (0, 3) (3, 0) (1, 1) (1, 9) (2, 3) (3, 2) (4, 4) (5, 3) (7, 2) (8, 3) (9, 5) (10, 3)
+            (15, 2) (16, 2) (17, 3) (31, 1) (33, 2) (64, 3) (100, 80) (1, 2048) (2048, 1))
+    };
+}
+
+macro_rules! list {
+    (=> $($size:tt)*) => { &[$($size),*] };
+}
+
+macro_rules! new_frame {
+    ($size:ident $raw:ident $order:ident => $(($w:literal, $h:literal))*) => {
+        match $size {
+            $(($w, $h) => boxed(Framebuffer::<$raw, $raw, $order, $w, $h, LENGTH>::new),)*
+            _ => return None,
+        }
+    };
+}
+
+pub const SIZES: &[(u32, u32)] = with_sizes!(list!());
+
+fn new_frame(size: (u32, u32), depth: u32, big: bool) -> Option<Box<dyn Frame>> {
+    Some(match (depth, big) {
+        (1, false) => with_sizes!(new_frame!(size RawU1 LittleEndian)),
+        (1, true) => with_sizes!(new_frame!(size RawU1 BigEndian)),
+        (2, false) => with_sizes!(new_frame!(size RawU2 LittleEndian)),
+        (2, true) => with_sizes!(new_frame!(size RawU2 BigEndian)),
+        (4, false) => with_sizes!(new_frame!(size RawU4 LittleEndian)),
+        (4, true) => with_sizes!(new_frame!(size RawU4 BigEndian)),
+        (8, false) => with_sizes!(new_frame!(size RawU8 LittleEndian)),
+        (8, true) => with_sizes!(new_frame!(size RawU8 BigEndian)),
+        (16, false) => with_sizes!(new_frame!(size RawU16 LittleEndian)),
+        (16, true) => with_sizes!(new_frame!(size RawU16 BigEndian)),
+        (24, false) => with_sizes!(new_frame!(size RawU24 LittleEndian)),
+        (24, true) => with_sizes!(new_frame!(size RawU24 BigEndian)),
+        (32, false) => with_sizes!(new_frame!(size RawU32 LittleEndian)),
+        (32, true) => with_sizes!(new_frame!(size RawU32 BigEndian)),
+        _ => return None,
+    })
+}
+
+/// A frame of its own function each, so that a debug build does not hold all sizes on one stack.
+fn boxed<F: Frame + 'static>(new: fn() -> F) -> Box<dyn Frame> {
+    Box::new(new())
+}
+
+/// What may change the bytes.
+const CHANGES: [&str; 7] = ["preset", "pixel", "fill", "line", "triangle", "outline", "circle"];
+
+/// The frame described last; none if the Rust can't have it.
+#[derive(Default)]
+pub struct Frames(Option<Described>);
+
+struct Described {
+    frame: Box<dyn Frame>,
+    height: i32,
+    depth: u32,
+}
+
+impl Frames {
+    pub fn answer(&mut self, question: &Question, figures: &Figures) -> Option<String> {
+        if let ("frame", &[width, height, depth, order, length]) = (question.word, question.numbers.as_slice()) {
+            self.forget();
+            return self.describe((width, height), depth, order, length);
+        }
+        let answer = self.0.as_mut()?.answer(question, figures);
+        if answer.is_none() && CHANGES.contains(&question.word) {
+            return self.forget();
+        }
+        answer
+    }
+
+    /// No answer to a line that may have changed the bytes: they are unknown until the next frame.
+    pub fn forget(&mut self) -> Option<String> {
+        self.0 = None;
+        None
+    }
+
+    /// A buffer too short for the frame is the Rust's failed assertion at compile time.
+    fn describe(&mut self, (width, height): (i64, i64), depth: i64, order: i64, length: i64) -> Option<String> {
+        let size = (u32::try_from(width).ok()?, u32::try_from(height).ok()?);
+        let depth = u32::try_from(depth).ok()?;
+        let big = [false, true].get(usize::try_from(order).ok()?)?;
+        let frame = new_frame(size, depth, *big)?;
+        let bytes = buffer_size_bpp(size.0 as usize, size.1 as usize, depth as usize);
+        if !(bytes..=LENGTH).contains(&usize::try_from(length).ok()?) {
+            return None;
+        }
+        let height = size.1 as i32;
+        self.0 = Some(Described { frame, height, depth });
+        Some(format!("0\t{bytes}"))
+    }
+}
+
+impl Described {
+    fn answer(&mut self, question: &Question, figures: &Figures) -> Option<String> {
+        match (question.word, question.numbers.as_slice()) {
+            ("preset", &[value]) => {
+                self.frame.bytes().fill(u8::try_from(value).ok()?);
+                Some("0".into())
+            }
+            ("read", &[x, y]) => Some(match self.frame.get(pixel(x, y)?) {
+                Some(colour) => format!("0\t{colour}"),
+                // None stands for refusal 8.
+                None => "8\t0".into(),
+            }),
+            ("dump", &[from, count]) => {
+                let (from, count) = (usize::try_from(from).ok()?, usize::try_from(count).ok()?);
+                let bytes = self.frame.bytes().get(from..from + count)?;
+                (count <= MOST_DUMPED).then(|| hexadecimal(bytes))
+            }
+            (word, [figure @ .., colour]) => {
+                let colour = self.colour(*colour)?;
+                self.draw(points(word, figure, figures, self.height)?, colour)
+            }
+            _ => None,
+        }
+    }
+
+    fn draw(&mut self, points: Points, colour: u32) -> Option<String> {
+        for p in points {
+            self.frame.set(p, colour);
+        }
+        Some("0".into())
+    }
+
+    /// A colour that the depth holds; the Rust cuts the bits of others off.
+    fn colour(&self, colour: i64) -> Option<u32> {
+        u32::try_from(colour).ok().filter(|c| u64::from(*c) < 1 << self.depth)
+    }
+}
+
+type Points = Box<dyn Iterator<Item = Point>>;
+
+/// The points of a figure in the order in which the Rust gives them. The crate draws styled figures, whose text is not given:
+/// a line and a circle are drawn by their points, an outline by the points of its three lines, a filled triangle by the spans
+/// of the rows that the frame has.
+fn points(word: &str, figure: &[i64], figures: &Figures, height: i32) -> Option<Points> {
+    Some(match (word, figure) {
+        ("pixel", &[x, y]) => Box::new([pixel(x, y)?].into_iter()),
+        ("line", line) => Box::new(figures.line(line)?.points()),
+        ("outline", triangle) => Box::new(outline(figures.triangle(triangle)?)),
+        ("triangle", triangle) => Box::new(spans(figures.triangle(triangle)?, height)),
+        ("circle", circle) => Box::new(figures.circle(circle)?.points()),
+        _ => return None,
+    })
+}
+
+fn outline(triangle: Triangle) -> impl Iterator<Item = Point> {
+    let [v1, v2, v3] = triangle.vertices;
+    let edges = [Line::new(v1, v2), Line::new(v2, v3), Line::new(v3, v1)];
+    edges.into_iter().flat_map(|edge| edge.points())
+}
+
+fn spans(triangle: Triangle, height: i32) -> impl Iterator<Item = Point> {
+    let rows = triangle.bounding_box().rows();
+    let rows = rows.start.max(0)..rows.end.min(height);
+    rows.flat_map(move |y| triangle.row_span(y).map(move |x| Point::new(x, y)))
+}
+
+/// A place of any 32 bits: the Rust takes every one for setting and reading.
+fn pixel(x: i64, y: i64) -> Option<Point> {
+    Some(Point::new(i32::try_from(x).ok()?, i32::try_from(y).ok()?))
+}
+
+fn hexadecimal(bytes: &[u8]) -> String {
+    let mut text = String::with_capacity(2 * bytes.len());
+    for byte in bytes {
+        write!(text, "{byte:02x}").unwrap();
+    }
+    text
+}

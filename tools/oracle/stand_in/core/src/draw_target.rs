@@ -1,0 +1,16 @@
+//! The trait that framebuffer.rs implements.
+
+use crate::{pixelcolor::PixelColor, primitives::Rectangle, Pixel};
+
+pub trait DrawTarget {
+    type Color: PixelColor;
+    type Error;
+
+    fn draw_iter<I>(&mut self, pixels: I) -> Result<(), Self::Error>
+    where
+        I: IntoIterator<Item = Pixel<Self::Color>>;
+
+    fn fill_solid(&mut self, _: &Rectangle, _: Self::Color) -> Result<(), Self::Error> {
+        unimplemented!()
+    }
+}

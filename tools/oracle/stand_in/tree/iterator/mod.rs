@@ -1,0 +1,3 @@
+//! Where the given text looks for `iterator::raw`.
+
+pub mod raw;

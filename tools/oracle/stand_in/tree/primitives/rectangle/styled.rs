@@ -1,0 +1,3 @@
+//! Styled drawing, which is not carried over: its name only.
+
+pub struct StyledPixelsIterator;

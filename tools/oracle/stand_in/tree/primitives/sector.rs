@@ -1,0 +1,3 @@
+//! A figure that is not carried over: its name only.
+
+pub struct Sector;

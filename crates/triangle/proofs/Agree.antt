@@ -4,22 +4,21 @@ use mathlib.Core.Path.{_≡_, refl, sym, ap, subst, _∙_}
 use mathlib.Core.Bool.{Bool, true, false, cond, _||_}
 use mathlib.Core.Logic.{_⊎_, inl, inr, ⊎-elim}
 use native.Mathlib.Omega.{arith}
-use lib.IntN.{ℤ, pos, negℤ, _+ℤ_, _-ℤ_, _*ℤ_, *ℤ-comm}
+use lib.IntN.{ℤ, pos, negℤ, _+ℤ_, _*ℤ_, *ℤ-comm}
 use lib.Signed.{_≤ℤ_, _<ℤ_, leZ, ltZ, ≤ℤ-refl}
 use Rattle.whole.specs.Decides.{Decides}
 use Rattle.whole.proofs.Decides.{decides-map, decides-or}
-use Rattle.whole.proofs.Difference.{up, dn, as-mk, mks, mk-eq, mk-le, le-mk, le-nat, lt-nat, eq-nat, nat-le, nat-lt, nat-eq}
+use Rattle.whole.proofs.Difference.{as-mk, mks, mk-eq, le-nat, lt-nat, nat-le, nat-eq}
 use Rattle.whole.proofs.Machine.{le-yes, le-no, lt-yes, lt-no}
-use Rattle.whole.proofs.Order.{le-trans, le-antisym, lt-le, le-unless, lt-unless, le-sub, lt-sub-pos, nonneg-add, nonneg-mul, nonneg-cancel}
+use Rattle.whole.proofs.Order.{le-trans, le-antisym, lt-le, le-unless, lt-unless, le-sub, lt-sub-pos, neg-flip, flip-neg, nonneg-add, nonneg-mul, nonneg-cancel}
 use Rattle.geometry.specs.declared.Point.{Point}
 use Rattle.line.specs.Line.{HasPoint, hasPoint}
 use Rattle.line.proofs.Points.{has-start, has-end, has-decides}
 use Rattle.triangle.specs.Triangle.{areaDoubled, isInside, onEdge}
 use Rattle.triangle.specs.Between.{EdgePoint, Between}
 use Rattle.triangle.proofs.Area.{area-from-first, area-from-last, area-level}
-use Rattle.triangle.proofs.Run.{Run}
 use Rattle.triangle.proofs.Edge.{RunOn, run-on, no-gap, edge-rows}
-use Rattle.triangle.proofs.Sides.{Flat, NoneBelow, NoneAbove, Inside, back-below, back-above, inside-rows, inside-decides}
+use Rattle.triangle.proofs.Sides.{Flat, Inside, back-below, back-above, inside-rows, inside-decides}
 
 -- ---- the third side from two: A C = B D + B' D', where no distance C, D, D' is negative
 third-below : (A C B D B' D' : ℤ) → A *ℤ C ≡ B *ℤ D +ℤ B' *ℤ D' → pos 0 <ℤ C → pos 0 ≤ℤ D → pos 0 ≤ℤ D' → pos 0 ≤ℤ B → pos 0 ≤ℤ B' → pos 0 ≤ℤ A
@@ -28,19 +27,13 @@ third-below A C B D B' D' e c d d' b b' =
 
 third-above : (A C B D B' D' : ℤ) → A *ℤ C ≡ B *ℤ D +ℤ B' *ℤ D' → pos 0 <ℤ C → pos 0 ≤ℤ D → pos 0 ≤ℤ D' → B ≤ℤ pos 0 → B' ≤ℤ pos 0 → A ≤ℤ pos 0
 third-above A C B D B' D' e c d d' b b' =
-    above A (third-below (negℤ A) C (negℤ B) D (negℤ B') D' (neg-times A C ∙ ap negℤ e ∙ neg-sum B D B' D') c d d' (below B b) (below B' b'))
+    flip-neg A (pos 0) (third-below (negℤ A) C (negℤ B) D (negℤ B') D' (neg-times A C ∙ ap negℤ e ∙ neg-sum B D B' D') c d d' (neg-flip B (pos 0) b) (neg-flip B' (pos 0) b'))
   where
     neg-times : (a c : ℤ) → negℤ a *ℤ c ≡ negℤ (a *ℤ c)
     neg-times a c = rw (as-mk a, as-mk c) (simp mks (mk-eq _ _ _ _ (omega arith)))
 
     neg-sum : (b d b' d' : ℤ) → negℤ (b *ℤ d +ℤ b' *ℤ d') ≡ negℤ b *ℤ d +ℤ negℤ b' *ℤ d'
     neg-sum b d b' d' = rw (as-mk b, as-mk d, as-mk b', as-mk d') (simp mks (mk-eq _ _ _ _ (omega arith)))
-
-    below : (z : ℤ) → z ≤ℤ pos 0 → pos 0 ≤ℤ negℤ z
-    below z h = rw (as-mk z) (simp mks (mk-le _ _ _ _ (omega (arith, le-nat h))))
-
-    above : (z : ℤ) → pos 0 ≤ℤ negℤ z → z ≤ℤ pos 0
-    above z h = let g = le-mk _ _ _ _ (simp mks at (rw (as-mk z) at h)) in nat-le (omega arith)
 
 -- ---- a row of two edges that are not level, s to e and f to g
 -- p is on opposite sides of the two
@@ -55,10 +48,21 @@ record Spanned (s e f g : Point) (x y : ℤ) : Type 0 where
   to : x ≤ℤ hi
   ends : (HasPoint s e (lo, y) × HasPoint f g (hi, y)) ⊎ (HasPoint f g (lo, y) × HasPoint s e (hi, y))
 
--- it is on opposite sides of the two, which share no point of the row
+-- a point that both have on row y
+record Shared (s e f g : Point) (y : ℤ) : Type 0 where
+  j : ℤ
+  one : HasPoint s e (j, y)
+  other : HasPoint f g (j, y)
+
+-- an end of both that stands on the row
+shared : {s e f g : Point} {y : ℤ} (q : Point) → q .1 ≡ y → HasPoint s e q → HasPoint f g q → Shared s e f g y
+shared {s} {e} {f} {g} q h a b =
+    record { j = q .0; one = subst (λ (z : ℤ). HasPoint s e (q .0, z)) h a; other = subst (λ (z : ℤ). HasPoint f g (q .0, z)) h b }
+
+-- x is on opposite sides of the two, which share no point of the row
 record Parted (s e f g : Point) (x y : ℤ) : Type 0 where
   sides : Opposite s e f g (x, y)
-  apart : (j : ℤ) → HasPoint s e (j, y) → HasPoint f g (j, y) → ⊥
+  apart : Shared s e f g y → ⊥
 
 -- left of, in or right of a run
 place : (lo hi x : ℤ) → (x <ℤ lo) ⊎ (((lo ≤ℤ x) × (x ≤ℤ hi)) ⊎ (hi <ℤ x))
@@ -91,7 +95,7 @@ module _ (s e f g : Point) (x y : ℤ) (E : RunOn s e y) (F : RunOn f g y) (tall
       record { lo = E .lo; hi = F .hi; from = at-least s e x y E tall-e (h .0); to = at-most f g x y F tall-f (h .1); ends = inl (at-lo s e x y E tall-e, at-hi f g x y F tall-f) }
 
   -- among the points of the two edges and of a third, which meets s to e wherever it is on the row
-  module _ (k m : Point) (down : k .1 ≤ℤ m .1) (meets : (z : ℤ) → HasPoint k m (z, y) → (j : ℤ) × HasPoint s e (j, y) × HasPoint k m (j, y)) where
+  module _ (k m : Point) (down : k .1 ≤ℤ m .1) (meets : (z : ℤ) → HasPoint k m (z, y) → Shared s e k m y) where
     abbrev On : ℤ → Type 0
     On z = HasPoint s e (z, y) ⊎ (HasPoint f g (z, y) ⊎ HasPoint k m (z, y))
 
@@ -100,14 +104,14 @@ module _ (s e f g : Point) (x y : ℤ) (E : RunOn s e y) (F : RunOn f g y) (tall
     outer-left lo l a b (inr (inl h)) = absurd (omega (arith, le-nat l, lt-nat b, le-nat (F .run .has lo h .0)))
     outer-left lo l a b (inr (inr h)) =
         let j = meets lo h in
-        inr (inr (no-gap k m y lo x (j .0) down h (j .2) l (nat-le (omega (arith, lt-nat a, le-nat (E .run .has (j .0) (j .1) .0))))))
+        inr (inr (no-gap k m y lo x (j .j) down h (j .other) l (nat-le (omega (arith, lt-nat a, le-nat (E .run .has (j .j) (j .one) .0))))))
 
     outer-right : (hi : ℤ) → x ≤ℤ hi → E .hi <ℤ x → F .hi <ℤ x → On hi → On x
     outer-right hi l a b (inl h) = absurd (omega (arith, le-nat l, lt-nat a, le-nat (E .run .has hi h .1)))
     outer-right hi l a b (inr (inl h)) = absurd (omega (arith, le-nat l, lt-nat b, le-nat (F .run .has hi h .1)))
     outer-right hi l a b (inr (inr h)) =
         let j = meets hi h in
-        inr (inr (no-gap k m y (j .0) x hi down (j .2) h (nat-le (omega (arith, lt-nat a, le-nat (E .run .has (j .0) (j .1) .1)))) l))
+        inr (inr (no-gap k m y (j .j) x hi down (j .other) h (nat-le (omega (arith, lt-nat a, le-nat (E .run .has (j .j) (j .one) .1)))) l))
 
     on-or-parted : (lo hi : ℤ) → lo ≤ℤ x → x ≤ℤ hi → On lo → On hi → On x ⊎ Parted s e f g x y
     on-or-parted lo hi l u p q = by (place (E .lo) (E .hi) x) (place (F .lo) (F .hi) x)
@@ -121,13 +125,20 @@ module _ (s e f g : Point) (x y : ℤ) (E : RunOn s e y) (F : RunOn f g y) (tall
         by (inl a) (inr (inr b)) =
             inr (record {
               sides = inl (lt-le (E .run .left tall-e x a), lt-le (F .run .right tall-f x b));
-              apart = λ j v w. absurd (omega (arith, lt-nat a, lt-nat b, le-nat (E .run .has j v .0), le-nat (F .run .has j w .1)));
+              apart = λ j. omega (arith, lt-nat a, lt-nat b, le-nat (E .run .has (j .j) (j .one) .0), le-nat (F .run .has (j .j) (j .other) .1));
             })
         by (inr (inr a)) (inl b) =
             inr (record {
               sides = inr (lt-le (E .run .right tall-e x a), lt-le (F .run .left tall-f x b));
-              apart = λ j v w. absurd (omega (arith, lt-nat a, lt-nat b, le-nat (E .run .has j v .1), le-nat (F .run .has j w .0)));
+              apart = λ j. omega (arith, lt-nat a, lt-nat b, le-nat (E .run .has (j .j) (j .one) .1), le-nat (F .run .has (j .j) (j .other) .0));
             })
+
+-- ---- the rows of an edge point
+pub edge-point-rows : (p1 p2 p3 : Point) → p1 .1 ≤ℤ p2 .1 → p2 .1 ≤ℤ p3 .1 → (b : Bool) (p : Point) → EdgePoint b p1 p2 p3 p → (p1 .1 ≤ℤ p .1) × (p .1 ≤ℤ p3 .1)
+edge-point-rows p1 p2 p3 u l true p q = edge-rows p1 p3 p (le-trans u l) q
+edge-point-rows p1 p2 p3 u l false p (inl q) = let r = edge-rows p1 p2 p u q in (r .0, le-trans (r .1) l)
+edge-point-rows p1 p2 p3 u l false p (inr (inl q)) = edge-rows p1 p3 p (le-trans u l) q
+edge-point-rows p1 p2 p3 u l false p (inr (inr q)) = let r = edge-rows p2 p3 p l q in (le-trans u (r .0), r .1)
 
 -- ---- a triangle with area: contained is the same as between two edge points
 module _ (p1 p2 p3 p : Point) (u : p1 .1 ≤ℤ p2 .1) (l : p2 .1 ≤ℤ p3 .1) (solid : Flat p1 p2 p3 → ⊥) where
@@ -180,14 +191,12 @@ module _ (p1 p2 p3 p : Point) (u : p1 .1 ≤ℤ p2 .1) (l : p2 .1 ≤ℤ p3 .1) 
         (on-or-parted p1 p2 p1 p3 (p .0) (p .1) (run-on p1 p2 (p .1) a (h .0)) long (h .1) tall p2 p3 l meets (w .first) (w .last) (w .from) (w .to) (w .at-first) (w .at-last))
       where
         -- the lower edge is on the row only where that is the row of p2
-        meets : (z : ℤ) → HasPoint p2 p3 (z, p .1) → (j : ℤ) × HasPoint p1 p2 (j, p .1) × HasPoint p2 p3 (j, p .1)
-        meets z q =
-            let e : p2 .1 ≡ p .1 = le-antisym (edge-rows p2 p3 (z, p .1) l q .0) (h .0) in
-            (p2 .0, subst (λ (y : ℤ). HasPoint p1 p2 (p2 .0, y)) e (has-end p1 p2), subst (λ (y : ℤ). HasPoint p2 p3 (p2 .0, y)) e (has-start p2 p3))
+        meets : (z : ℤ) → HasPoint p2 p3 (z, p .1) → Shared p1 p2 p2 p3 (p .1)
+        meets z q = shared p2 (le-antisym (edge-rows p2 p3 (z, p .1) l q .0) (h .0)) (has-end p1 p2) (has-start p2 p3)
 
         -- both edges have p1
         at-apex : p1 .1 ≡ p .1 → Parted p1 p2 p1 p3 (p .0) (p .1) → ⊥
-        at-apex e q = q .apart (p1 .0) (subst (λ (y : ℤ). HasPoint p1 p2 (p1 .0, y)) e (has-start p1 p2)) (subst (λ (y : ℤ). HasPoint p1 p3 (p1 .0, y)) e (has-start p1 p3))
+        at-apex e q = q .apart (shared p1 e (has-start p1 p2) (has-start p1 p3))
 
         inside : p1 .1 <ℤ p .1 → Opposite p1 p2 p1 p3 p → Inside p1 p2 p3 p
         inside c (inl s) =
@@ -216,14 +225,12 @@ module _ (p1 p2 p3 p : Point) (u : p1 .1 ≤ℤ p2 .1) (l : p2 .1 ≤ℤ p3 .1) 
         around (inr (inr q)) = inl q
 
         -- the upper edge is on the row only where that is the row of p2
-        meets : (z : ℤ) → HasPoint p1 p2 (z, p .1) → (j : ℤ) × HasPoint p2 p3 (j, p .1) × HasPoint p1 p2 (j, p .1)
-        meets z q =
-            let e : p2 .1 ≡ p .1 = le-antisym (h .0) (edge-rows p1 p2 (z, p .1) u q .1) in
-            (p2 .0, subst (λ (y : ℤ). HasPoint p2 p3 (p2 .0, y)) e (has-start p2 p3), subst (λ (y : ℤ). HasPoint p1 p2 (p2 .0, y)) e (has-end p1 p2))
+        meets : (z : ℤ) → HasPoint p1 p2 (z, p .1) → Shared p2 p3 p1 p2 (p .1)
+        meets z q = shared p2 (le-antisym (h .0) (edge-rows p1 p2 (z, p .1) u q .1)) (has-start p2 p3) (has-end p1 p2)
 
         -- both edges have p3
         at-apex : p3 .1 ≡ p .1 → Parted p2 p3 p1 p3 (p .0) (p .1) → ⊥
-        at-apex e q = q .apart (p3 .0) (subst (λ (y : ℤ). HasPoint p2 p3 (p3 .0, y)) e (has-end p2 p3)) (subst (λ (y : ℤ). HasPoint p1 p3 (p3 .0, y)) e (has-end p1 p3))
+        at-apex e q = q .apart (shared p3 e (has-end p2 p3) (has-end p1 p3))
 
         inside : p .1 <ℤ p3 .1 → Opposite p2 p3 p1 p3 p → Inside p1 p2 p3 p
         inside c (inl s) =
@@ -233,11 +240,6 @@ module _ (p1 p2 p3 p : Point) (u : p1 .1 ≤ℤ p2 .1) (l : p2 .1 ≤ℤ p3 .1) 
             let ca = back-below p p1 p3 (s .1) in
             inr (record { ab = third-above _ _ _ _ _ _ (area-from-last p1 p2 p3 p) (lt-sub-pos _ _ c) (le-sub _ _ a) (le-sub _ _ (h .0)) (s .0) ca; bc = s .0; ca = ca })
 
-  edge-row : (z : ℤ) → EdgePoint false p1 p2 p3 (z, p .1) → (p1 .1 ≤ℤ p .1) × (p .1 ≤ℤ p3 .1)
-  edge-row z (inl q) = let r = edge-rows p1 p2 (z, p .1) u q in (r .0, le-trans (r .1) l)
-  edge-row z (inr (inl q)) = edge-rows p1 p3 (z, p .1) (le-trans u l) q
-  edge-row z (inr (inr q)) = let r = edge-rows p2 p3 (z, p .1) l q in (le-trans u (r .0), r .1)
-
   solid-in : Inside p1 p2 p3 p ⊎ EdgePoint false p1 p2 p3 p → Between false p1 p2 p3 p
   solid-in (inl i) =
       let r = inside-rows p1 p2 p3 p u l solid i in
@@ -246,7 +248,7 @@ module _ (p1 p2 p3 p : Point) (u : p1 .1 ≤ℤ p2 .1) (l : p2 .1 ≤ℤ p3 .1) 
 
   solid-out : Between false p1 p2 p3 p → Inside p1 p2 p3 p ⊎ EdgePoint false p1 p2 p3 p
   solid-out w =
-      let r = edge-row (w .first) (w .at-first) in
+      let r = edge-point-rows p1 p2 p3 u l false (w .first, p .1) (w .at-first) in
       ⊎-elim (λ h. out-upper (r .0) (r .1) h w) (λ h. out-lower (r .0) (r .1) h w) (halves (r .0) (r .1))
 
 -- ---- a triangle of zero area: the points of the line p1 to p3 have no gap on a row

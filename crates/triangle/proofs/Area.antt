@@ -1,5 +1,5 @@
--- Laws of the doubled area: the form that the code computes, turning and swapping the vertices, and a pixel's three areas as weights of the
--- vertices, which place it among them. Assumes nothing.
+-- Laws of the doubled area: by the distances of a pixel from an edge, with the vertices in another order or moved, and a pixel's three areas as weights
+-- of the vertices, which place it among them. Assumes nothing.
 use mathlib.Core.Path.{_≡_, refl, _∙_}
 use mathlib.Core.List.{List, [], _∷_}
 use Prim.Native.Nat.{ℕ, suc}
@@ -15,7 +15,7 @@ use Rattle.triangle.specs.Triangle.{areaDoubled}
 abbrev area : ℕ → ℕ → ℕ → E
 area i j k = ((v j ⊟ v i) ⊠ (v (suc k) ⊟ v (suc i))) ⊟ ((v k ⊟ v i) ⊠ (v (suc j) ⊟ v (suc i)))
 
--- every product has a factor no longer than the edge from a to b, so it stays small for a pixel p that is far away
+-- by the distances of p from the start of the edge a to b
 pub area-near : (p a b : Point) → areaDoubled p a b ≡ ((b .0 -ℤ a .0) *ℤ (p .1 -ℤ a .1)) -ℤ ((b .1 -ℤ a .1) *ℤ (p .0 -ℤ a .0))
 unfolding areaDoubled
 area-near p a b =

@@ -1,5 +1,6 @@
--- Laws of the bounding box: what lies beyond all three vertices is not contained; and the test by the side of the first vertex. Assumes nothing.
-use mathlib.Core.Path.{_≡_, refl, sym, ap, _∙_}
+-- Laws of the bounding box: what is contained lies in it, so what lies beyond all three vertices is not contained; the test by the side of the first
+-- vertex; and a pixel that is not outside is in bounds, so that its areas are small. Assumes nothing.
+use mathlib.Core.Path.{_≡_, refl}
 use mathlib.Core.Bool.{Bool, true, false, _&&_, _||_, true≢false}
 use mathlib.Core.Logic.{_⊎_, inl, inr, ⊎-elim}
 use Prim.Native.Nat.{_≤_}
@@ -10,16 +11,67 @@ use Rattle.whole.specs.Decides.{Decides}
 use Rattle.whole.proofs.Decides.{decides-and, decides-or, decides-lt, decides-no}
 use Rattle.whole.proofs.Difference.{as-mk, mks, mk-eq, le-mk, le-nat, lt-nat, nat-le, nat-lt, sum-nat}
 use Rattle.whole.proofs.Machine.{lt-yes}
-use Rattle.whole.proofs.Order.{le-unless}
+use Rattle.whole.proofs.Order.{le-trans, le-unless}
 use Rattle.whole.proofs.Sizes.{Sz, sizes}
 use Rattle.geometry.specs.declared.Point.{Point}
 use Rattle.geometry.specs.Bound.{Coord, Bounded}
 use Rattle.geometry.proofs.Bound.{sz-coord}
-use Rattle.triangle.specs.Triangle.{areaDoubled, contained}
+use Rattle.line.specs.Line.{HasPoint}
+use Rattle.triangle.specs.declared.Sorted.{Sorted}
+use Rattle.triangle.specs.Order.{sorted}
+use Rattle.triangle.specs.Triangle.{areaDoubled, isFlat, contained}
+use Rattle.triangle.specs.Between.{EdgePoint, Between}
 use Rattle.triangle.specs.Box.{isBeyond, isOutside}
-use Rattle.triangle.proofs.Triangle.{box-left, box-right, box-top, box-bottom}
+use Rattle.triangle.proofs.Edge.{edge-left, edge-right, edge-top, edge-bottom}
+use Rattle.triangle.proofs.Order.{All, sorted-all}
+use Rattle.triangle.proofs.Triangle.{contained-decides}
 
--- ---- by the side of the first
+-- ---- WHAT IS CONTAINED LIES IN THE BOX: in every box that holds the vertices
+-- an edge point is one of an edge whose ends are vertices
+record Ended (P : Point → Type 0) (p : Point) : Type 0 where
+  s : Point
+  e : Point
+  start : P s
+  end : P e
+  has : HasPoint s e p
+
+ended : (P : Point → Type 0) (t : Sorted) → All P t → (b : Bool) (p : Point) → EdgePoint b (t .p1) (t .p2) (t .p3) p → Ended P p
+ended P t all true p q = record { s = t .p1; e = t .p3; start = all .first; end = all .third; has = q }
+ended P t all false p (inl q) = record { s = t .p1; e = t .p2; start = all .first; end = all .second; has = q }
+ended P t all false p (inr (inl q)) = record { s = t .p1; e = t .p3; start = all .first; end = all .third; has = q }
+ended P t all false p (inr (inr q)) = record { s = t .p2; e = t .p3; start = all .second; end = all .third; has = q }
+
+module _ (v1 v2 v3 p : Point) (c : contained v1 v2 v3 p ≡ true) (z : ℤ) where
+  abbrev t : Sorted
+  t = sorted v1 v2 v3
+
+  in-row : Between (isFlat v1 v2 v3) (t .p1) (t .p2) (t .p3) p
+  in-row = contained-decides v1 v2 v3 p .yes c
+
+  -- the row's first and last edge point
+  first : (P : Point → Type 0) → P v1 → P v2 → P v3 → Ended P (in-row .first, p .1)
+  first P h1 h2 h3 = ended P t (sorted-all P v1 v2 v3 h1 h2 h3) (isFlat v1 v2 v3) (in-row .first, p .1) (in-row .at-first)
+
+  last : (P : Point → Type 0) → P v1 → P v2 → P v3 → Ended P (in-row .last, p .1)
+  last P h1 h2 h3 = ended P t (sorted-all P v1 v2 v3 h1 h2 h3) (isFlat v1 v2 v3) (in-row .last, p .1) (in-row .at-last)
+
+  pub box-left : z ≤ℤ v1 .0 → z ≤ℤ v2 .0 → z ≤ℤ v3 .0 → z ≤ℤ p .0
+  box-left h1 h2 h3 =
+      let q = first (λ v. z ≤ℤ v .0) h1 h2 h3 in
+      le-trans (edge-left (q .s) (q .e) (in-row .first, p .1) (q .has) z (q .start) (q .end)) (in-row .from)
+
+  pub box-right : v1 .0 ≤ℤ z → v2 .0 ≤ℤ z → v3 .0 ≤ℤ z → p .0 ≤ℤ z
+  box-right h1 h2 h3 =
+      let q = last (λ v. v .0 ≤ℤ z) h1 h2 h3 in
+      le-trans (in-row .to) (edge-right (q .s) (q .e) (in-row .last, p .1) (q .has) z (q .start) (q .end))
+
+  pub box-top : z ≤ℤ v1 .1 → z ≤ℤ v2 .1 → z ≤ℤ v3 .1 → z ≤ℤ p .1
+  box-top h1 h2 h3 = let q = first (λ v. z ≤ℤ v .1) h1 h2 h3 in edge-top (q .s) (q .e) (in-row .first, p .1) (q .has) z (q .start) (q .end)
+
+  pub box-bottom : v1 .1 ≤ℤ z → v2 .1 ≤ℤ z → v3 .1 ≤ℤ z → p .1 ≤ℤ z
+  box-bottom h1 h2 h3 = let q = first (λ v. v .1 ≤ℤ z) h1 h2 h3 in edge-bottom (q .s) (q .e) (in-row .first, p .1) (q .has) z (q .start) (q .end)
+
+-- ---- the test, by the side of the first
 not-both : (x a : ℤ) → ltZ x a ≡ true → ltZ a x ≡ false
 not-both x a h = let k : x <ℤ a = lt-yes h in decides-no (decides-lt a x) (λ l. omega (arith, lt-nat l, lt-nat k))
 
@@ -48,7 +100,7 @@ module _ (x a b c : ℤ) where
       (decides-and (ltZ x a) _ (decides-lt x a) (decides-and (ltZ x b) (ltZ x c) (decides-lt x b) (decides-lt x c)))
       (decides-and (ltZ a x) _ (decides-lt a x) (decides-and (ltZ b x) (ltZ c x) (decides-lt b x) (decides-lt c x)))
 
--- ---- not contained
+-- ---- what lies outside is not contained
 no-if : (s : Bool) → (s ≡ true → ⊥) → s ≡ false
 no-if true n = absurd (n refl)
 no-if false n = refl

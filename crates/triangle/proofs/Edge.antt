@@ -1,19 +1,19 @@
 -- What a triangle's edges give: a point of an edge lies in the box of its ends, each row of an edge that runs down has a run of points, points of
 -- one row have no gap between them, and rows along such an edge never go up. Assumes nothing.
-use mathlib.Core.Path.{_≡_, refl, sym, ap, subst, _∙_}
-use mathlib.Core.Bool.{Bool, true, false, cond}
+use mathlib.Core.Path.{_≡_, refl, sym, ap, _∙_}
+use mathlib.Core.Bool.{Bool, true, false}
 use Prim.Native.Nat.{ℕ, _+_, _*_, _≤_, _<_}
 use native.Mathlib.Omega.{arith}
-use lib.IntN.{ℤ, pos, negsuc, negℤ, natAbs, _+ℤ_, _-ℤ_, _*ℤ_}
+use lib.IntN.{ℤ, pos, negℤ, natAbs, _+ℤ_, _-ℤ_, _*ℤ_}
 use lib.Signed.{_≤ℤ_, _<ℤ_, leZ, ≤ℤ-refl}
 use Rattle.whole.proofs.Decides.{decides-le, decides-yes}
-use Rattle.whole.proofs.Difference.{up, dn, as-mk, mks, mk-eq, le-nat, lt-nat, nat-le, nat-eq, sum-nat}
+use Rattle.whole.proofs.Difference.{as-mk, mks, mk-eq, le-nat, nat-le, sum-nat}
 use Rattle.whole.proofs.Machine.{le-yes, le-no, size-neg}
 use Rattle.whole.proofs.Order.{lt-sub, le-trans}
 use Rattle.geometry.specs.declared.Point.{Point}
-use Rattle.line.specs.Line.{toward, wide, high, steep, major, moves, xMoves, yMoves, pointAt, HasPoint}
+use Rattle.line.specs.Line.{toward, wide, high, steep, xMoves, yMoves, pointAt, HasPoint}
 use Rattle.line.proofs.Moves.{moves-minor, moves-mono}
-use Rattle.line.proofs.Lengths.{y-by, major-by}
+use Rattle.line.proofs.Lengths.{y-by}
 use Rattle.line.proofs.Closed.{OnLine, has-off, off-moves, closed→}
 use Rattle.triangle.specs.Offsets.{firstOffset, lastOffset}
 use Rattle.triangle.proofs.Offsets.{Offsets, offsets}

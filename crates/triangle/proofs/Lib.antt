@@ -7,6 +7,7 @@ pub mod Sides
 pub mod Agree
 pub mod Spans
 pub mod Triangle
+pub mod AnyOrder
 pub mod Moved
 pub mod Box
 pub mod Refusals

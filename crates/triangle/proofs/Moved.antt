@@ -1,24 +1,23 @@
 -- Moving a triangle and a pixel together changes nothing: containment is the same, and the span of a row moves along. Assumes nothing.
-use mathlib.Core.Path.{_≡_, refl, sym, ap, ap₂, subst, _∙_}
+use mathlib.Core.Path.{_≡_, refl, sym, ap, subst, _∙_}
 use mathlib.Core.Bool.{Bool, true, false, cond, _||_}
-use mathlib.Core.Logic.{_⊎_, inl, inr, ⊎-elim}
+use mathlib.Core.Logic.{inl, inr}
 use Prim.Native.Nat.{ℕ, _≤_}
 use native.Mathlib.Omega.{arith}
 use lib.IntN.{ℤ, pos, _+ℤ_, _-ℤ_}
-use lib.Signed.{_≤ℤ_, _<ℤ_}
-use Rattle.whole.specs.Decides.{Decides}
+use lib.Signed.{_≤ℤ_}
 use Rattle.whole.specs.Equal.{eqZ}
 use Rattle.whole.proofs.Decides.{decides-map, decides-one}
 use Rattle.whole.proofs.Difference.{as-mk, mks, mk-eq}
 use Rattle.whole.proofs.Order.{le-move, move-le, lt-move, move-lt, move-eq}
 use Rattle.geometry.specs.declared.Point.{Point}
 use Rattle.geometry.specs.Place.{moved}
-use Rattle.line.specs.Line.{major, HasPoint, hasPoint}
+use Rattle.line.specs.Line.{HasPoint, hasPoint}
 use Rattle.line.proofs.Points.{major-moved, point-moved, has-moved, has-decides}
 use Rattle.triangle.specs.declared.Sorted.{Sorted}
 use Rattle.triangle.specs.declared.Columns.{Columns}
 use Rattle.triangle.specs.Order.{before, three, placed, sorted}
-use Rattle.triangle.specs.Triangle.{areaDoubled, noneBelow, noneAbove, isFlat, isInside, onEdge, contained}
+use Rattle.triangle.specs.Triangle.{noneBelow, noneAbove, isFlat, isInside, onEdge, contained}
 use Rattle.triangle.specs.Between.{EdgePoint}
 use Rattle.triangle.specs.Row.{rowSpan}
 use Rattle.triangle.proofs.Area.{area-moved}
@@ -76,6 +75,24 @@ module _ (d : Point) where
       by true = refl
       by false = refl
 
+  -- ---- the bounds of a row, by its columns
+  bounds-moved : (E F : ℤ → Type 0) (s : Columns) → ((x : ℤ) → E x → F (x +ℤ d .0)) → ((x : ℤ) → F (x +ℤ d .0) → E x) → Bounds E s → Bounds F (s .0 +ℤ d .0, s .1 +ℤ d .0)
+  bounds-moved E F s to from b =
+      record {
+        last = b .last +ℤ d .0;
+        past = ap (λ (z : ℤ). z +ℤ d .0) (b .past) ∙ later (b .last) (d .0);
+        at-first = to (s .0) (b .at-first);
+        at-last = to (b .last) (b .at-last);
+        least = λ x q. subst (λ (z : ℤ). (s .0 +ℤ d .0) ≤ℤ z) (sym (back x (d .0))) (le-move (s .0) (x -ℤ d .0) (d .0) (b .least (x -ℤ d .0) (from (x -ℤ d .0) (subst F (back x (d .0)) q))));
+        largest = λ x q. subst (λ (z : ℤ). z ≤ℤ (b .last +ℤ d .0)) (sym (back x (d .0))) (le-move (x -ℤ d .0) (b .last) (d .0) (b .largest (x -ℤ d .0) (from (x -ℤ d .0) (subst F (back x (d .0)) q))));
+      }
+    where
+      later : (y v : ℤ) → (y +ℤ pos 1) +ℤ v ≡ (y +ℤ v) +ℤ pos 1
+      later y v = rw (as-mk y, as-mk v) (simp mks (mk-eq _ _ _ _ (omega arith)))
+
+      back : (x v : ℤ) → x ≡ (x -ℤ v) +ℤ v
+      back x v = rw (as-mk x, as-mk v) (simp mks (mk-eq _ _ _ _ (omega arith)))
+
   -- ---- CONTAINMENT is the same
   module _ (v1 v2 v3 : Point) where
     abbrev t : Sorted
@@ -112,23 +129,6 @@ module _ (d : Point) where
     edge-unmoved false p (inl q) = inl (unmoved (t .p1) (t .p2) p q)
     edge-unmoved false p (inr (inl q)) = inr (inl (unmoved (t .p1) (t .p3) p q))
     edge-unmoved false p (inr (inr q)) = inr (inr (unmoved (t .p2) (t .p3) p q))
-
-    bounds-moved : (E F : ℤ → Type 0) (s : Columns) → ((x : ℤ) → E x → F (x +ℤ d .0)) → ((x : ℤ) → F (x +ℤ d .0) → E x) → Bounds E s → Bounds F (s .0 +ℤ d .0, s .1 +ℤ d .0)
-    bounds-moved E F s to from b =
-        record {
-          last = b .last +ℤ d .0;
-          past = ap (λ (z : ℤ). z +ℤ d .0) (b .past) ∙ later (b .last) (d .0);
-          at-first = to (s .0) (b .at-first);
-          at-last = to (b .last) (b .at-last);
-          least = λ x q. subst (λ (z : ℤ). (s .0 +ℤ d .0) ≤ℤ z) (sym (back x (d .0))) (le-move (s .0) (x -ℤ d .0) (d .0) (b .least (x -ℤ d .0) (from (x -ℤ d .0) (subst F (back x (d .0)) q))));
-          largest = λ x q. subst (λ (z : ℤ). z ≤ℤ (b .last +ℤ d .0)) (sym (back x (d .0))) (le-move (x -ℤ d .0) (b .last) (d .0) (b .largest (x -ℤ d .0) (from (x -ℤ d .0) (subst F (back x (d .0)) q))));
-        }
-      where
-        later : (y v : ℤ) → (y +ℤ pos 1) +ℤ v ≡ (y +ℤ v) +ℤ pos 1
-        later y v = rw (as-mk y, as-mk v) (simp mks (mk-eq _ _ _ _ (omega arith)))
-
-        back : (x v : ℤ) → x ≡ (x -ℤ v) +ℤ v
-        back x v = rw (as-mk x, as-mk v) (simp mks (mk-eq _ _ _ _ (omega arith)))
 
     pub span-moved : (y : ℤ) → t .p1 .1 ≤ℤ y → y ≤ℤ t .p3 .1 → rowSpan (moved d v1) (moved d v2) (moved d v3) (y +ℤ d .1) ≡ (rowSpan v1 v2 v3 y .0 +ℤ d .0, rowSpan v1 v2 v3 y .1 +ℤ d .0)
     unfolding all-moved

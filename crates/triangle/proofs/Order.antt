@@ -1,7 +1,7 @@
 -- Laws of the order by y, then x, and of sorting: the sorted vertices are in order, what does not mind the order of the vertices is the same of the
 -- sorted ones, and any order of the vertices sorts to the same. Assumes nothing.
-use mathlib.Core.Path.{_≡_, refl, sym, ap, ap₂, subst, _∙_}
-use mathlib.Core.Bool.{Bool, true, false, cond, true≢false, false≢true}
+use mathlib.Core.Path.{_≡_, refl, sym, ap, _∙_}
+use mathlib.Core.Bool.{Bool, true, false, cond}
 use mathlib.Core.Logic.{_⊎_, inl, inr, ⊎-elim}
 use Prim.Native.Nat.{ℕ, _+_, _≤_, _<_}
 use native.Mathlib.Omega.{arith}
@@ -168,10 +168,18 @@ same-place a b h = before-antisym a b (before-too a b (h b)) (before-too b a (sy
 one-order : (s t : Sorted) → Ordered s → Ordered t → ((z : Point) → count z (s .p1) (s .p2) (s .p3) ≡ count z (t .p1) (t .p2) (t .p3)) → s ≡ t
 unfolding count
 one-order s t os ot h =
-    let eq1 : s .p1 ≡ t .p1 = same-place (s .p1) (t .p1) (λ z. omega (arith, h z, bits _ _ z (os .upper), bits _ _ z (os .lower), bits _ _ z (ot .upper), bits _ _ z (ot .lower))) in
-    let eq2 : s .p2 ≡ t .p2 = same-place (s .p2) (t .p2) (λ z. omega (arith, h z, bits _ _ z (os .upper), bits _ _ z (os .lower), bits _ _ z (ot .upper), bits _ _ z (ot .lower))) in
-    let eq3 : s .p3 ≡ t .p3 = same-place (s .p3) (t .p3) (λ z. omega (arith, h z, bits _ _ z (os .upper), bits _ _ z (os .lower), bits _ _ z (ot .upper), bits _ _ z (ot .lower))) in
-    λ i. three (eq1 i) (eq2 i) (eq3 i)
+    let first : s .p1 ≡ t .p1 = same-place (s .p1) (t .p1) (λ z. places z .0) in
+    let second : s .p2 ≡ t .p2 = same-place (s .p2) (t .p2) (λ z. places z .1) in
+    let third : s .p3 ≡ t .p3 = same-place (s .p3) (t .p3) (λ z. places z .2) in
+    λ i. three (first i) (second i) (third i)
+  where
+    places : (z : Point) → (bit (before (s .p1) z) ≡ bit (before (t .p1) z)) × (bit (before (s .p2) z) ≡ bit (before (t .p2) z)) × (bit (before (s .p3) z) ≡ bit (before (t .p3) z))
+    places z =
+        let s1 = bits (s .p1) (s .p2) z (os .upper) in
+        let s2 = bits (s .p2) (s .p3) z (os .lower) in
+        let t1 = bits (t .p1) (t .p2) z (ot .upper) in
+        let t2 = bits (t .p2) (t .p3) z (ot .lower) in
+        (omega (arith, h z), omega (arith, h z), omega (arith, h z))
 
 same-count : (z a b c : Point) → count z (sorted a b c .p1) (sorted a b c .p2) (sorted a b c .p3) ≡ count z a b c
 same-count z = sorted-same (count z) (count-swap z) (count-turn z)

@@ -8,12 +8,12 @@ use native.Mathlib.Omega.{arith}
 use lib.IntN.{ℤ, pos, negsuc, negℤ, natAbs, _+ℤ_, _-ℤ_, _*ℤ_}
 use lib.Signed.{_≤ℤ_, _<ℤ_, leZ}
 use Rattle.whole.proofs.Decides.{decides-le, decides-yes}
-use Rattle.whole.proofs.Difference.{up, dn, mk, as-mk, mks, mk-eq, mk-lt, mk-pos, lt-mk, le-nat, lt-nat, nat-le, nat-eq, sum-nat, nat-sum}
+use Rattle.whole.proofs.Difference.{up, dn, mk, as-mk, mks, mk-eq, mk-lt, mk-pos, lt-mk, le-nat, lt-nat, nat-le, nat-eq, sum-nat}
 use Rattle.whole.proofs.Machine.{le-yes, le-no, size-pos, size-neg}
-use Rattle.whole.proofs.Order.{le-sub, lt-sub, lt-le}
+use Rattle.whole.proofs.Order.{le-sub, lt-sub, neg-flip-lt}
 use Rattle.geometry.specs.declared.Point.{Point}
-use Rattle.line.specs.Line.{toward, wide, high, steep, xMoves, yMoves, HasPoint}
-use Rattle.line.proofs.Closed.{Off, moves-off, off-moves, has-off, closed→, closed←}
+use Rattle.line.specs.Line.{toward, wide, high, xMoves, HasPoint}
+use Rattle.line.proofs.Closed.{moves-off, off-moves, has-off, closed→, closed←}
 use Rattle.triangle.specs.Triangle.{areaDoubled}
 use Rattle.triangle.proofs.Area.{area-near}
 use Rattle.triangle.proofs.Offsets.{Offsets}
@@ -165,8 +165,8 @@ module _ (s e : Point) (y : ℤ) (v f l : ℕ) (down : s .1 ≤ℤ e .1) (row : 
             let ct = sum-nat (s .0) (col (natAbs (s .0 -ℤ x))) (natAbs (s .0 -ℤ x)) (leftward (s .0) (e .0) (natAbs (s .0 -ℤ x)) r) in
             subst (λ (z : ℤ). HasPoint s e (z, y)) (nat-eq (omega arith))
             (has-col (natAbs (s .0 -ℤ x)) (omega (arith, le-nat b)) (omega (arith, le-nat a)));
-        left = λ d x k. subst (λ (z : ℤ). pos 0 <ℤ z) (sym (area-left x (le-no r))) (above _ (past-last (wide s e) (high s e) v f l o (tall d) (s .0 -ℤ x) (less x (s .0) (pos l) k)));
-        right = λ d x k. subst (λ (z : ℤ). z <ℤ pos 0) (sym (area-left x (le-no r))) (under _ (before-first (wide s e) (high s e) v f l o (tall d) (s .0 -ℤ x) (more x (s .0) (pos f) k)));
+        left = λ d x k. subst (λ (z : ℤ). pos 0 <ℤ z) (sym (area-left x (le-no r))) (neg-flip-lt _ (pos 0) (past-last (wide s e) (high s e) v f l o (tall d) (s .0 -ℤ x) (less x (s .0) (pos l) k)));
+        right = λ d x k. subst (λ (z : ℤ). z <ℤ pos 0) (sym (area-left x (le-no r))) (neg-flip-lt (pos 0) _ (before-first (wide s e) (high s e) v f l o (tall d) (s .0 -ℤ x) (more x (s .0) (pos f) k)));
       }
     where
       fore : (a z : ℤ) → a ≡ (a -ℤ z) +ℤ z
@@ -181,9 +181,3 @@ module _ (s e : Point) (y : ℤ) (v f l : ℕ) (down : s .1 ≤ℤ e .1) (row : 
       more x a f h =
           let g = lt-mk _ _ _ _ (simp mks at (rw (as-mk x, as-mk a, as-mk f) at h)) in
           rw (as-mk x, as-mk a, as-mk f) (simp mks (mk-lt _ _ _ _ (omega arith)))
-
-      above : (z : ℤ) → z <ℤ pos 0 → pos 0 <ℤ negℤ z
-      above z h = rw (as-mk z) (simp mks (mk-lt _ _ _ _ (omega (arith, lt-nat h))))
-
-      under : (z : ℤ) → pos 0 <ℤ z → negℤ z <ℤ pos 0
-      under z h = rw (as-mk z) (simp mks (mk-lt _ _ _ _ (omega (arith, lt-nat h))))

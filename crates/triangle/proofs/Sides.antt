@@ -1,16 +1,15 @@
 -- Laws of the sides that a pixel is on: the tests decide the statements, any order of the vertices gives the same, and a pixel that is on the same
 -- side of all three edges stands on the triangle's rows. Assumes nothing.
-use mathlib.Core.Path.{_≡_, refl, sym, ap, subst, _∙_}
-use mathlib.Core.Bool.{Bool, true, false, _&&_}
+use mathlib.Core.Path.{_≡_, sym, ap, subst, _∙_}
+use mathlib.Core.Bool.{_&&_}
 use mathlib.Core.Logic.{_⊎_, inl, inr, ⊎-elim}
 use native.Mathlib.Omega.{arith}
-use lib.IntN.{ℤ, pos, negℤ, _+ℤ_, _-ℤ_, _*ℤ_}
+use lib.IntN.{ℤ, pos, negℤ, _+ℤ_, _*ℤ_}
 use lib.Signed.{_≤ℤ_, _<ℤ_, leZ, ≤ℤ-refl}
 use Rattle.whole.specs.Decides.{Decides}
-use Rattle.whole.specs.Equal.{eqZ}
 use Rattle.whole.proofs.Decides.{decides-map, decides-and, decides-or, decides-one, decides-le, decides-eq}
-use Rattle.whole.proofs.Difference.{up, dn, as-mk, mks, mk-eq, mk-le, le-nat, nat-lt, nat-eq}
-use Rattle.whole.proofs.Order.{le-trans, le-sub, sub-le, nonneg-add, nonneg-mul, nonneg-cancel}
+use Rattle.whole.proofs.Difference.{up, dn, le-nat, nat-lt, nat-eq}
+use Rattle.whole.proofs.Order.{neg-flip, flip-neg, le-trans, le-sub, sub-le, nonneg-add, nonneg-mul, nonneg-cancel}
 use Rattle.geometry.specs.declared.Point.{Point}
 use Rattle.triangle.specs.Triangle.{areaDoubled, noneBelow, noneAbove, isFlat, isInside}
 use Rattle.triangle.proofs.Area.{area-swap, area-turn, area-back, area-sum, weighed-below, weighed-above}
@@ -54,20 +53,22 @@ inside-decides a b c p =
     C : ℤ
     C = areaDoubled p c a
 
+-- all at most 0 is all at least 0, negated
+pub none-above : (a b c : ℤ) → noneBelow (negℤ a) (negℤ b) (negℤ c) ≡ noneAbove a b c
+unfolding noneBelow noneAbove
+none-above a b c = λ i. turned a i && (turned b i && turned c i)
+  where
+    turned : (z : ℤ) → leZ (pos 0) (negℤ z) ≡ leZ z (pos 0)
+    turned z = decides-one _ _ (decides-le (pos 0) (negℤ z)) (decides-map (decides-le z (pos 0)) (neg-flip z (pos 0)) (flip-neg z (pos 0)))
+
 -- ---- the vertices in another order
 -- seen from its other end, an edge's side turns
 module _ (p a b : Point) where
   pub back-below : pos 0 ≤ℤ areaDoubled p a b → areaDoubled p b a ≤ℤ pos 0
-  back-below h = subst (λ (z : ℤ). z ≤ℤ pos 0) (sym (area-back p a b)) (under (areaDoubled p a b) h)
-    where
-      under : (z : ℤ) → pos 0 ≤ℤ z → negℤ z ≤ℤ pos 0
-      under z k = rw (as-mk z) (simp mks (mk-le _ _ _ _ (omega (arith, le-nat k))))
+  back-below h = subst (λ (z : ℤ). z ≤ℤ pos 0) (sym (area-back p a b)) (neg-flip (pos 0) (areaDoubled p a b) h)
 
   pub back-above : areaDoubled p a b ≤ℤ pos 0 → pos 0 ≤ℤ areaDoubled p b a
-  back-above h = subst (λ (z : ℤ). pos 0 ≤ℤ z) (sym (area-back p a b)) (over (areaDoubled p a b) h)
-    where
-      over : (z : ℤ) → z ≤ℤ pos 0 → pos 0 ≤ℤ negℤ z
-      over z k = rw (as-mk z) (simp mks (mk-le _ _ _ _ (omega (arith, le-nat k))))
+  back-above h = subst (λ (z : ℤ). pos 0 ≤ℤ z) (sym (area-back p a b)) (neg-flip (areaDoubled p a b) (pos 0) h)
 
 above-swap : (a b c p : Point) → NoneAbove a b c p → NoneBelow b a c p
 above-swap a b c p h = record { ab = back-above p a b (h .ab); bc = back-above p c a (h .ca); ca = back-above p b c (h .bc) }

@@ -1,9 +1,9 @@
 -- Laws of spans: a span of columns runs from the smallest to one past the largest, or is 0 to 0 where there are none; there is one such span; the span of
 -- two sets of columns is that of both joined; and a row's span, as it is defined, is the span of the edge points on the row. Assumes nothing.
-use mathlib.Core.Path.{_≡_, refl, sym, ap, subst, _∙_}
-use mathlib.Core.Bool.{Bool, true, false, cond, _&&_}
+use mathlib.Core.Path.{_≡_, refl, sym, ap, _∙_}
+use mathlib.Core.Bool.{Bool, true, false, cond}
 use mathlib.Core.List.{List, [], _∷_, _++_, List·Memᴰ, List·Memᴰ·head, List·Memᴰ·tail, List·Memᴰ·not-nil, List·Memᴰ·cases-cons, List·Memᴰ·append-cases, Memᴰ·append-left, Memᴰ·append-right}
-use mathlib.Core.Logic.{_⊎_, inl, inr, ⊎-elim, _↔_}
+use mathlib.Core.Logic.{_⊎_, inl, inr, ⊎-elim}
 use Prim.Native.Nat.{ℕ, zero, suc, _+_, _≤_, _<_}
 use native.Mathlib.Decide.{decLt}
 use native.Mathlib.Omega.{arith}
@@ -11,12 +11,12 @@ use lib.IntN.{ℤ, pos, _+ℤ_}
 use lib.Signed.{_≤ℤ_, _<ℤ_, leZ, ltZ, ≤ℤ-refl}
 use Rattle.whole.specs.Decides.{Decides}
 use Rattle.whole.specs.Equal.{eqZ}
-use Rattle.whole.proofs.Decides.{decides-map, decides-and, decides-le, decides-lt, decides-eq, decides-yes, decides-no}
+use Rattle.whole.proofs.Decides.{decides-map, decides-and, decides-le, decides-lt, decides-eq, decides-no}
 use Rattle.whole.proofs.Difference.{le-nat, lt-nat, eq-nat, nat-le, nat-lt, sum-nat}
 use Rattle.whole.proofs.Machine.{le-yes, le-no}
 use Rattle.whole.proofs.Order.{le-trans, le-antisym, lt-le}
 use Rattle.geometry.specs.declared.Point.{Point}
-use Rattle.line.specs.Line.{pointAt, points, major, HasPoint}
+use Rattle.line.specs.Line.{pointAt, points, HasPoint}
 use Rattle.triangle.specs.declared.Columns.{Columns}
 use Rattle.triangle.proofs.Run.{Run}
 use Rattle.triangle.specs.Row.{joined, spanOf, inSpan, columnsTo, columns}

@@ -1,4 +1,5 @@
 -- The bounding box: a pixel is outside if it lies beyond all three vertices, on one side of them, by column or by row.
+-- 01 has no box for triangles: proofs/Box.antt has that no pixel outside it is contained.
 use mathlib.Core.Bool.{Bool, _&&_, _||_}
 use lib.IntN.{ℤ}
 use lib.Signed.{ltZ}

@@ -1,4 +1,5 @@
 -- The columns of an edge's points on one of its rows in closed form, counted from its start: the edge is w wide and h high, the row v below the start.
+-- 01 has no such form: proofs/Offsets.antt has that these are the columns that its rule for lines gives.
 use mathlib.Core.Bool.{cond}
 use Prim.Native.Nat.{ℕ, zero, suc, _+_, _*_, _/_, min}
 use lib.Dec.{leb, eqb}

@@ -28,7 +28,7 @@ unfoldable pub spanOf : List ℤ → Columns
 spanOf [] = (pos 0, pos 0)
 spanOf (x ∷ xs) = joined (x, x +ℤ pos 1) (spanOf xs)
 
--- x is one of the columns
+-- the span has the column x
 abbrev pub inSpan : Columns → ℤ → Bool
 inSpan s x = leZ (s .0) x && ltZ x (s .1)
 
@@ -50,7 +50,7 @@ module _ (v1 v2 v3 : Point) where
   unfoldable pub rowSpan : ℤ → Columns
   rowSpan y = spanOf (edgeColumns (isFlat v1 v2 v3) (sorted v1 v2 v3) y)
 
-  -- the first row, and the number of rows
+  -- the first row, y1, and the number of rows, y3 - y1 + 1
   unfoldable pub firstRow : ℤ
   firstRow = sorted v1 v2 v3 .p1 .1
 

@@ -1,13 +1,14 @@
 // Triangles: whether a pixel is contained, the columns of a row, and the rows. Vertices may come in any order, lie on one line or coincide.
 ghost use mathlib.Core.Path.{_≡_};
+ghost use mathlib.Core.Bool.{cond};
 ghost use Prim.Native.Nat.{_<_, _≤_, min};
 ghost use lib.Signed.{_≤ℤ_};
 ghost use Rattle.geometry.specs.Bound.{Bounded};
 ghost use Rattle.geometry.specs.Answer.{verdict, span};
 ghost use Rattle.triangle.specs.Order.{before, placed, sorted, Down};
-ghost use Rattle.triangle.specs.Triangle.{areaDoubled, noneBelow, noneAbove, onEdge, isFlat, contained};
+ghost use Rattle.triangle.specs.Triangle.{areaDoubled, noneBelow, onEdge, isFlat, contained};
 ghost use Rattle.triangle.specs.Offsets.{reach, start, firstOffset, lastOffset};
-ghost use Rattle.triangle.specs.Row.{lesser, greater, joined, spanOf, columns, edgeColumns, rowSpan, firstRow, rowCount};
+ghost use Rattle.triangle.specs.Row.{joined, spanOf, columns, edgeColumns, rowSpan, firstRow, rowCount};
 ghost use Rattle.triangle.specs.Box.{isBeyond, isOutside};
 ghost use Rattle.triangle.specs.Answer.{vertexRefusal, rowsAnswer};
 use geometry::Point;
@@ -54,16 +55,16 @@ pub fn refusal(v1: Point, v2: Point, v3: Point) -> u32
     0
 }
 
-// Inside the library: twice the signed area of p, a, b. Every product has a factor no longer than the edge from a to b, so that a pixel p may be anywhere.
+// Inside the library: twice the signed area of p, a, b. The differences fit 32 bits; their products are taken in 64.
 pub fn area_doubled(p: Point, a: Point, b: Point) -> i64
-    requires { ⌜ Bounded a × Bounded b ⌝ }
+    requires { ⌜ Bounded p × Bounded a × Bounded b ⌝ }
     ensures { λ r. ⌜ r ≡ areaDoubled p a b ⌝ }
 {
-    let x = a.0 as i64;
-    let y = a.1 as i64;
-    let across = b.0 as i64 - x;
-    let down = b.1 as i64 - y;
-    across * (p.1 as i64 - y) - down * (p.0 as i64 - x)
+    let ax = a.0 - p.0;
+    let ay = a.1 - p.1;
+    let bx = b.0 - p.0;
+    let by = b.1 - p.1;
+    ax as i64 * by as i64 - bx as i64 * ay as i64
 }
 
 // Whether a stands before b by y, then x, or in the same place.
@@ -141,16 +142,6 @@ fn none_below(a: i64, b: i64, c: i64) -> bool
     false
 }
 
-// Whether a, b, c are all at most 0.
-fn none_above(a: i64, b: i64, c: i64) -> bool
-    ensures { λ r. ⌜ r ≡ noneAbove a b c ⌝ }
-{
-    if a <= 0 {
-        return b <= 0 && c <= 0;
-    }
-    false
-}
-
 // Whether p is a point of one of the three edges.
 fn on_edge(t: Sorted, p: Point) -> bool
     requires { ⌜ Bounded (t .p1) × Bounded (t .p2) × Bounded (t .p3) ⌝ }
@@ -165,7 +156,8 @@ fn on_edge(t: Sorted, p: Point) -> bool
     line::meets(t.p2, t.p3, p)
 }
 
-// Whether an accepted triangle contains p. Most pixels are answered by the box or by the three areas, whose sum is the whole area.
+// Whether an accepted triangle contains p. A pixel outside the box is answered before any product, which keeps the areas of the others small; most of those
+// are answered by their three areas, whose sum is the whole area.
 fn holds(v1: Point, v2: Point, v3: Point, p: Point) -> bool
     requires { ⌜ Bounded v1 × Bounded v2 × Bounded v3 ⌝ }
     ensures { λ r. ⌜ r ≡ contained v1 v2 v3 p ⌝ }
@@ -176,17 +168,20 @@ fn holds(v1: Point, v2: Point, v3: Point, p: Point) -> bool
     let a = area_doubled(p, v1, v2);
     let b = area_doubled(p, v2, v3);
     let c = area_doubled(p, v3, v1);
-    if a + b + c == 0 {
-        let t = sorted_yx(v1, v2, v3);
+    let whole = a + b + c;
+    if whole != 0 {
+        if none_below(a, b, c) {
+            return true;
+        }
+        if none_below(-a, -b, -c) {
+            return true;
+        }
+    }
+    let t = sorted_yx(v1, v2, v3);
+    if whole == 0 {
         return line::meets(t.p1, t.p3, p);
     }
-    if none_below(a, b, c) {
-        return true;
-    }
-    if none_above(a, b, c) {
-        return true;
-    }
-    on_edge(sorted_yx(v1, v2, v3), p)
+    on_edge(t, p)
 }
 
 // Whether the triangle contains p: any pixel may be asked.
@@ -307,22 +302,14 @@ pub fn bresenham_intersection(start: Point, end: Point, y: i32) -> Columns
     Columns(x - last, x - first + 1)
 }
 
-fn min_column(a: i32, b: i32) -> i32
-    ensures { λ r. ⌜ r ≡ lesser a b ⌝ }
+// One of two columns.
+fn choose(first: bool, a: i32, b: i32) -> i32
+    ensures { λ r. ⌜ r ≡ cond first a b ⌝ }
 {
-    if a <= b {
+    if first {
         return a;
     }
     b
-}
-
-fn max_column(a: i32, b: i32) -> i32
-    ensures { λ r. ⌜ r ≡ greater a b ⌝ }
-{
-    if a <= b {
-        return b;
-    }
-    a
 }
 
 // The span that takes in both; an empty one adds nothing.
@@ -335,8 +322,8 @@ fn extend(a: Columns, b: Columns) -> Columns
     if b.0 == b.1 {
         return a;
     }
-    let first = min_column(a.0, b.0);
-    let past = max_column(a.1, b.1);
+    let first = choose(a.0 <= b.0, a.0, b.0);
+    let past = choose(a.1 <= b.1, b.1, a.1);
     Columns(first, past)
 }
 

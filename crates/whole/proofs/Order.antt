@@ -108,3 +108,11 @@ nonneg-cancel (negsuc m) b h k = absurd (h .lt)
 
 pub neg-flip : (a b : ℤ) → a ≤ℤ b → negℤ b ≤ℤ negℤ a
 neg-flip a b h = rw (as-mk a, as-mk b) (simp mks (mk-le _ _ _ _ (omega (arith, le-nat h))))
+
+pub flip-neg : (a b : ℤ) → negℤ b ≤ℤ negℤ a → a ≤ℤ b
+flip-neg a b h =
+    let g = le-mk _ _ _ _ (simp mks at (rw (as-mk a, as-mk b) at h)) in
+    nat-le (omega arith)
+
+pub neg-flip-lt : (a b : ℤ) → a <ℤ b → negℤ b <ℤ negℤ a
+neg-flip-lt a b h = rw (as-mk a, as-mk b) (simp mks (mk-lt _ _ _ _ (omega (arith, lt-nat h))))

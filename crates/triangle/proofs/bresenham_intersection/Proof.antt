@@ -1,24 +1,22 @@
 -- `triangle::bresenham_intersection` answers none for a row that the edge has not, and else its run, counted from the start in the direction
 -- of the edge. Assumes nothing.
-use mathlib.Core.Path.{_≡_, refl, sym, ap, subst, _∙_}
-use mathlib.Core.Bool.{true, false}
+use mathlib.Core.Path.{_≡_, sym, ap, _∙_}
 use Prim.Native.Nat.{ℕ, _≤_}
 use native.Mathlib.Omega.{arith}
-use lib.IntN.{ℤ, pos, natAbs, _+ℤ_, _-ℤ_}
-use lib.Signed.{_≤ℤ_, _<ℤ_, leZ}
+use lib.IntN.{ℤ, pos, natAbs, _-ℤ_}
+use lib.Signed.{_≤ℤ_}
 use mir.Syntax.{w32}
-use mir.Val.{SFits, toZ, ofZ}
+use mir.Val.{toZ, ofZ}
 use borrow.Author.Needs.{needs}
 use Rattle.whole.proofs.Difference.{le-nat, lt-nat}
-use Rattle.whole.proofs.Machine.{Has, lit, read, same-bits, plus, minus, fits, back, to-nat, nat-is, size-pos, lt-true, lt-false, le-test}
+use Rattle.whole.proofs.Machine.{Has, lit, same-bits, plus, minus, fits, back, to-nat, nat-is, size-pos, lt-true, lt-false, le-test}
 use Rattle.whole.proofs.Order.{le-sub, le-trans}
 use Rattle.geometry.specs.declared.Point.{Point}
-use Rattle.geometry.specs.Bound.{Coord, Bounded}
+use Rattle.geometry.specs.Bound.{Coord}
 use Rattle.geometry.proofs.Bound.{coord, coord-fits}
-use Rattle.line.specs.Line.{wide, high, HasPoint}
-use Rattle.line.proofs.Lengths.{wide-of, wide-size, high-size}
+use Rattle.line.specs.Line.{wide, high}
+use Rattle.line.proofs.Lengths.{wide-of, wide-size}
 use Rattle.triangle.specs.Offsets.{firstOffset, lastOffset}
-use Rattle.triangle.specs.Row.{spanOf, columns}
 use Rattle.triangle.proofs.Edge.{edge-rows, edge-row, edge-offsets, edge-run-right, edge-run-left}
 use Rattle.triangle.proofs.Spans.{run-span, no-span}
 use Rattle.triangle.proofs.bresenham_intersection.Statement.{statement}

@@ -46,25 +46,25 @@ returns-2 c =
     let f = same (g .b) (b0 (c .before)) (b1 (c .before)) (c .if2 .taken) in
     rw (e, f)
 
-min-column-requires : tie.Need-min-column-requires
-min-column-requires c κs = search needs
+choose-requires : tie.Need-choose-requires
+choose-requires c κs = search needs
 
-max-column-requires : tie.Need-max-column-requires
-max-column-requires c κs = search needs
+choose-requires-2 : tie.Need-choose-requires-2
+choose-requires-2 c κs = search needs
 
 returns-3 : tie.Need-returns-3
 unfolding joined
 returns-3 c =
-    let g = c .before .before .before .before .before .before .before .before .before .before .before .before .args in
-    let e = differs (g .a) (c .before .before .before .before .before .before .before .before .before .if1 .left) in
-    let f = differs (g .b) (c .before .before .before .before .before .before .if2 .left) in
-    let a = c .before .before .before .before .before .before .before .before .before .before in
-    let b = c .before .before .before .before .before .before .before in
-    let first-back : toZ w32 (ofZ w32 (c .before .before .before .min-column .result)) ≡ c .before .before .before .min-column .result = search needs in
-    let past-back : toZ w32 (ofZ w32 (c .max-column .result)) ≡ c .max-column .result = search needs in
-    let first = first-back ∙ c .before .before .before .min-column .ensures ∙ (λ i. lesser (toZ-ofZ (a0 a) i) (toZ-ofZ (b0 b) i)) in
-    let past = past-back ∙ c .max-column .ensures ∙ (λ i. greater (toZ-ofZ (a1 a) i) (toZ-ofZ (b1 b) i)) in
+    let g = c .before .before .before .before .before .before .before .before .before .before .before .before .before .before .before .before .before .before .before .before .args in
+    let e = differs (g .a) (c .before .before .before .before .before .before .before .before .before .before .before .before .before .before .before .before .before .if1 .left) in
+    let f = differs (g .b) (c .before .before .before .before .before .before .before .before .before .before .before .before .before .before .if2 .left) in
+    let a = c .before .before .before .before .before .before .before .before .before .before .before .before .before .before .before .before .before .before in
+    let b = c .before .before .before .before .before .before .before .before .before .before .before .before .before .before .before in
+    let first-back : toZ w32 (ofZ w32 (c .before .before .before .before .before .before .before .choose .result)) ≡ c .before .before .before .before .before .before .before .choose .result = search needs in
+    let past-back : toZ w32 (ofZ w32 (c .choose2 .result)) ≡ c .choose2 .result = search needs in
+    let first = first-back ∙ c .before .before .before .before .before .before .before .choose .ensures ∙ (λ i. lesser (toZ-ofZ (a0 a) i) (toZ-ofZ (b0 b) i)) in
+    let past = past-back ∙ c .choose2 .ensures ∙ (λ i. greater (toZ-ofZ (a1 a) i) (toZ-ofZ (b1 b) i)) in
     rw (e, f) (λ i. (first i, past i))
 
 pub extend-spec : {M : Type 1} → statement M
-extend-spec = tie.close (tie.spec returns returns-2 min-column-requires max-column-requires returns-3)
+extend-spec = tie.close (tie.spec returns returns-2 choose-requires choose-requires-2 returns-3)

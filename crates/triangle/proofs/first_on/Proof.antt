@@ -1,9 +1,9 @@
 -- `triangle::first_on` is one past the last column of the row above, and no further than the edge. Assumes nothing.
-use mathlib.Core.Path.{_≡_, refl, sym, ap, _∙_}
-use Prim.Native.Nat.{ℕ, suc, _+_, _-_, _≤_, _<_}
+use mathlib.Core.Path.{_≡_, sym, ap, _∙_}
+use Prim.Native.Nat.{ℕ, _+_, _-_}
 use native.Mathlib.Omega.{arith}
 use borrow.Author.Needs.{needs}
-use Rattle.triangle.specs.Offsets.{reach, start}
+use Rattle.triangle.specs.Offsets.{start}
 use Rattle.triangle.proofs.Offsets.{start-wide, start-past}
 use Rattle.triangle.proofs.first_on.Statement.{statement}
 use Rattle.triangle.proofs.first_on.Tie as tie

@@ -1,11 +1,10 @@
 -- `triangle::in_order` compares rows, and columns where the rows are the same. Assumes nothing.
 use mathlib.Core.Path.{_≡_, sym, ap, _∙_}
-use mathlib.Core.Bool.{Bool, true, false, cond}
+use mathlib.Core.Bool.{Bool, cond}
 use lib.Signed.{leZ, ltZ}
 use mir.Syntax.{w32}
 use mir.Val.{SFits, ofZ}
 use borrow.Author.Needs.{sfits-of}
-use Rattle.whole.specs.Equal.{eqZ}
 use Rattle.whole.proofs.Decides.{decides-eq, decides-yes, decides-no}
 use Rattle.whole.proofs.Machine.{le-test, lt-test, eq-bits}
 use Rattle.geometry.specs.declared.Point.{Point}

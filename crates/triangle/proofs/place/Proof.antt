@@ -1,9 +1,8 @@
 -- `triangle::place` asks whether c comes before a, then whether it comes before b. Assumes nothing.
-use mathlib.Core.Path.{_≡_, sym, ap, _∙_}
-use mathlib.Core.Bool.{Bool, true, false, cond}
+use mathlib.Core.Path.{_≡_, sym, _∙_}
+use mathlib.Core.Bool.{true, false, cond}
 use borrow.Author.Needs.{needs}
-use Rattle.geometry.specs.declared.Point.{Point}
-use Rattle.triangle.specs.Order.{before, three, placed}
+use Rattle.triangle.specs.Order.{before, three}
 use Rattle.triangle.proofs.place.Statement.{statement}
 use Rattle.triangle.proofs.place.Tie as tie
 

@@ -1,16 +1,12 @@
 -- `triangle::row_span` refuses by 5, and else asks the sorted vertices. Assumes nothing.
 use mathlib.Core.Path.{_≡_, sym, ap, subst, _∙_}
-use mathlib.Core.Bool.{Bool}
 use Prim.Native.Nat.{ℕ}
-use lib.IntN.{ℤ}
 use mir.Syntax.{w32}
 use mir.Facts.{toZ-ofZ}
 use borrow.Author.Needs.{needs}
 use Rattle.whole.proofs.Machine.{field-back}
 use Rattle.geometry.specs.Answer.{span}
 use Rattle.geometry.proofs.Answer.{span-refused}
-use Rattle.triangle.specs.declared.Sorted.{Sorted}
-use Rattle.triangle.specs.declared.Columns.{Columns}
 use Rattle.triangle.specs.Order.{sorted, Down}
 use Rattle.triangle.specs.Triangle.{isFlat}
 use Rattle.triangle.specs.Row.{spanOf, edgeColumns, rowSpan}

@@ -1,5 +1,5 @@
 -- `triangle::sorted_yx` orders two vertices and puts the third into its place. Assumes nothing.
-use mathlib.Core.Path.{_≡_, sym, ap, _∙_}
+use mathlib.Core.Path.{sym, ap, _∙_}
 use mathlib.Core.Bool.{Bool, cond}
 use borrow.Author.Needs.{needs}
 use Rattle.triangle.specs.Order.{before, placed, sorted}

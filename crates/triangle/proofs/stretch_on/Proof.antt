@@ -1,6 +1,5 @@
 -- `triangle::stretch_on` tells level, steep and low edges apart, as the definition does. Assumes nothing.
-use mathlib.Core.Path.{_≡_, refl, _∙_}
-use Prim.Native.Nat.{ℕ, _*_}
+use mathlib.Core.Path.{refl}
 use borrow.Author.Needs.{needs}
 use borrow.Author.Tests.{eq-eqb, ne-eqb, le-leb, lt-leb}
 use Rattle.triangle.specs.Offsets.{firstOffset, lastOffset}

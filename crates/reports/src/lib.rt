@@ -1,0 +1,6 @@
+// What the programs report of their input: the spans of a triangle.
+mod spans;
+
+pub use spans::rows_of;
+pub use spans::write_heading;
+pub use spans::write_rows;

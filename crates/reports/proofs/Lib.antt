@@ -1,2 +1,2 @@
-pub mod Within
 pub mod Report
+pub mod Within

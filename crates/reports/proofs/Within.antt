@@ -1,25 +1,27 @@
 -- The rows and columns of an accepted triangle stay within 32 bits, and so a row's line is at most 36 bytes long. Assumes nothing.
 use mathlib.Core.Path.{_≡_, refl, sym, ap, subst, _∙_}
-use mathlib.Core.Bool.{Bool, true, false, cond}
+use mathlib.Core.Bool.{Bool, true, false, cond, _&&_}
 use mathlib.Core.Logic.{inl, inr}
 use Prim.Native.Nat.{ℕ, zero, suc, _+_, _*_, _-_, _≤_, _<_}
 use native.Mathlib.Omega.{arith}
+use lib.Dec.{eqb}
 use lib.IntN.{ℤ, pos, negsuc, _+ℤ_, _-ℤ_}
 use lib.Signed.{_≤ℤ_}
 use lib.ListN.{length, length-append}
+use borrow.Author.Tests.{ne-eqb}
 use mir.Syntax.{w32}
 use mir.Val.{SFits}
 use Rattle.whole.proofs.Decides.{decides-yes}
 use Rattle.whole.proofs.Difference.{up, dn, mk, as-mk, mks, mk-eq, le-nat, sum-nat, nat-le}
-use Rattle.whole.proofs.Machine.{mk-fits, fits-dn}
+use Rattle.whole.proofs.Machine.{one, minus, mk-fits, fits-dn}
 use Rattle.whole.proofs.Order.{le-self, le-move}
 use Rattle.geometry.specs.declared.Point.{Point}
 use Rattle.geometry.specs.Answer.{span}
-use Rattle.geometry.specs.Bound.{Coord}
-use Rattle.geometry.proofs.Bound.{coord-fits}
+use Rattle.geometry.specs.Bound.{Coord, inBounds}
+use Rattle.geometry.proofs.Bound.{coord-size, coord-fits}
 use Rattle.triangle.specs.declared.Columns.{Columns}
 use Rattle.triangle.specs.declared.RowRange.{RowRange}
-use Rattle.triangle.specs.Answer.{rowsAnswer}
+use Rattle.triangle.specs.Answer.{vertexRefusal, rowsAnswer}
 use Rattle.triangle.specs.Between.{EdgePoint}
 use Rattle.triangle.specs.Row.{rowSpan, firstRow, rowCount}
 use Rattle.triangle.specs.Triangle.{contained}
@@ -28,7 +30,9 @@ use Rattle.triangle.proofs.Spans.{Spans}
 use Rattle.triangle.proofs.Triangle.{p1, p2, p3, flat, contained-decides, row-spans, last-row, box-left, box-right}
 use Rattle.text.specs.declared.Vertices.{Vertices}
 use Rattle.text.proofs.Showing.{zero-fits, triple-short}
-use Rattle.reports.specs.Spans.{corner1, corner2, corner3, refusalOf, rowsOf, rowOf, rowLine, rowLines}
+use Rattle.reports.specs.Words.{badLine, refused, rows, counted}
+use Rattle.reports.specs.Spans.{corner1, corner2, corner3, refusalOf, rowsOf, heading, rowOf, rowLine, rowLines}
+use Rattle.reports.proofs.Report.{counted-short}
 
 -- ---- m rows further on, of n that end at 131,072 or before
 module _ (y : ℤ) (n m : ℕ) (some : m ≤ n) (below : (y +ℤ pos n) ≤ℤ pos 131072) where
@@ -104,6 +108,9 @@ module _ (v1 v2 v3 : Point) (a : Accepted v1 v2 v3) where
       one-more : firstRow v1 v2 v3 +ℤ pos (rowCount v1 v2 v3) ≡ p3 v1 v2 v3 .1 +ℤ pos 1
       one-more = more (p3 v1 v2 v3 .1) (firstRow v1 v2 v3 +ℤ pos (rowCount v1 v2 v3)) (last-row v1 v2 v3)
 
+abbrev asked : Vertices → Bool → ℕ → RowRange
+asked v t n = cond t (rowsAnswer n (firstRow (corner1 v) (corner2 v) (corner3 v)) (rowCount (corner1 v) (corner2 v) (corner3 v))) (rowsAnswer 0 (pos 0) 0)
+
 pub rows-below : (v : Vertices) → (rowsOf v .first +ℤ pos (rowsOf v .count)) ≤ℤ pos 131072
 unfolding rowsOf
 rows-below v = by (v .ok) (refusalOf v) refl
@@ -111,8 +118,34 @@ rows-below v = by (v .ok) (refusalOf v) refl
     none : (pos 0 +ℤ pos 0) ≤ℤ pos 131072
     none = nat-le (omega arith)
 
-    by : (t : Bool) (n : ℕ) → refusalOf v ≡ n
-        → (cond t (rowsAnswer n (firstRow (corner1 v) (corner2 v) (corner3 v)) (rowCount (corner1 v) (corner2 v) (corner3 v))) (rowsAnswer 0 (pos 0) 0) .first +ℤ pos (cond t (rowsAnswer n (firstRow (corner1 v) (corner2 v) (corner3 v)) (rowCount (corner1 v) (corner2 v) (corner3 v))) (rowsAnswer 0 (pos 0) 0) .count)) ≤ℤ pos 131072
+    by : (t : Bool) (n : ℕ) → refusalOf v ≡ n → (asked v t n .first +ℤ pos (asked v t n .count)) ≤ℤ pos 131072
     by true zero e = rows-end (corner1 v) (corner2 v) (corner3 v) (is-accepted (corner1 v) (corner2 v) (corner3 v) e)
     by true (suc n) e = none
     by false n e = none
+
+-- ---- and they are few, so the first line is at most 19 bytes long
+rows-few : (v1 v2 v3 : Point) → Accepted v1 v2 v3 → rowCount v1 v2 v3 ≤ 262145
+unfolding rowCount
+rows-few v1 v2 v3 a =
+    let b = sorted-bounded v1 v2 v3 _ refl a in
+    omega (arith, minus (one {w = w32} (p3 v1 v2 v3 .1) (coord-size (b .third .y)) tt) (one (p1 v1 v2 v3 .1) (coord-size (b .first .y)) tt) tt .size)
+
+refusal-few : (v1 v2 v3 : Point) → vertexRefusal v1 v2 v3 ≤ 5
+unfolding vertexRefusal
+refusal-few v1 v2 v3 = by (inBounds v1 && (inBounds v2 && inBounds v3))
+  where
+    by : (t : Bool) → cond t 0 5 ≤ 5
+    by true = omega arith
+    by false = omega arith
+
+pub heading-short : (v : Vertices) → length (heading (v .ok) (rowsOf v)) ≤ 19
+unfolding rowsOf heading
+heading-short v = by (v .ok) (refusalOf v) refl
+  where
+    by : (t : Bool) (n : ℕ) → refusalOf v ≡ n
+        → length (cond t (cond (eqb (asked v t n .number) 0) (counted rows (asked v t n .count)) (counted refused (asked v t n .number))) badLine) ≤ 19
+    by true zero e =
+        let few : rowCount (corner1 v) (corner2 v) (corner3 v) ≤ 262145 = rows-few (corner1 v) (corner2 v) (corner3 v) (is-accepted (corner1 v) (corner2 v) (corner3 v) e) in
+        omega (arith, counted-short rows (rowCount (corner1 v) (corner2 v) (corner3 v)) (record { fits = omega arith }))
+    by true (suc n) e = rw (ne-eqb (suc n) 0 (λ q. omega arith)) (omega (arith, counted-short refused (suc n) (record { fits = omega (arith, refusal-few (corner1 v) (corner2 v) (corner3 v)) })))
+    by false n e = omega arith

@@ -2,7 +2,7 @@
 use mathlib.Core.Path.{_≡_, refl, sym, ap, subst, _∙_}
 use mathlib.Core.Bool.{Bool, true, false, cond, _&&_}
 use mathlib.Core.Logic.{inl, inr}
-use Prim.Native.Nat.{ℕ, zero, suc, _+_, _*_, _-_, _≤_, _<_}
+use Prim.Native.Nat.{ℕ, zero, suc, _+_, _*_, _-_, _≤_}
 use native.Mathlib.Omega.{arith}
 use lib.Dec.{eqb}
 use lib.IntN.{ℤ, pos, negsuc, _+ℤ_, _-ℤ_}
@@ -122,6 +122,15 @@ rows-below v = by (v .ok) (refusalOf v) refl
     by true zero e = rows-end (corner1 v) (corner2 v) (corner3 v) (is-accepted (corner1 v) (corner2 v) (corner3 v) e)
     by true (suc n) e = none
     by false n e = none
+
+pub first-fits : (v : Vertices) → SFits w32 (rowsOf v .first)
+unfolding rowsOf firstRow
+first-fits v = by (v .ok) (refusalOf v) refl
+  where
+    by : (t : Bool) (n : ℕ) → refusalOf v ≡ n → SFits w32 (asked v t n .first)
+    by true zero e = coord-fits (sorted-bounded (corner1 v) (corner2 v) (corner3 v) _ refl (is-accepted (corner1 v) (corner2 v) (corner3 v) e) .first .y)
+    by true (suc n) e = zero-fits
+    by false n e = zero-fits
 
 -- ---- and they are few, so the first line is at most 19 bytes long
 rows-few : (v1 v2 v3 : Point) → Accepted v1 v2 v3 → rowCount v1 v2 v3 ≤ 262145

@@ -1,6 +1,6 @@
 // The report of `spans`: a first line, and a line a row.
 ghost use mathlib.Core.Path.{_≡_};
-ghost use Prim.Native.Nat.{_+_, _*_, _≤_};
+ghost use Prim.Native.Nat.{_+_, _*_, _≤_, min};
 ghost use lib.IntN.{pos, _+ℤ_};
 ghost use lib.Signed.{_≤ℤ_};
 ghost use lib.ListN.{length};
@@ -11,6 +11,13 @@ use geometry::Point;
 use geometry::Span;
 use text::Vertices;
 use triangle::RowRange;
+
+// The smaller of two numbers.
+pub fn least(a: u32, b: u32) -> u32
+    ensures { λ r. ⌜ r ≡ min a b ⌝ }
+{
+    if a < b { a } else { b }
+}
 
 // The rows that a line of six coordinates asks for: none where the line is another, or the triangle is refused.
 pub fn rows_of(v: Vertices) -> RowRange

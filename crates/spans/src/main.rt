@@ -1,7 +1,7 @@
 // Lists the spans of a triangle: the first line of the standard input is its six coordinates, parted by tabs. What is written is the definition
 // `spans` of the crate `reports`: `bad line`, or `refused` and the number, or `rows`, how many, and a line a row.
 ghost use mathlib.Core.Path.{_≡_};
-ghost use Prim.Native.Nat.{_≤_, _<_, min};
+ghost use Prim.Native.Nat.{_≤_, _<_};
 ghost use lib.IntN.{pos, _+ℤ_};
 ghost use lib.Signed.{_≤ℤ_};
 ghost use lib.ListN.{length};
@@ -27,12 +27,6 @@ fn read_line(input: &mut [u8]) -> usize
     }
 }
 
-fn least(a: u32, b: u32) -> u32
-    ensures { λ r. ⌜ r ≡ min a b ⌝ }
-{
-    if a < b { a } else { b }
-}
-
 // Writes the rows, as many at once as surely have room, and answers how far the output is filled then. Parts of the rows, one behind the other, are
 // all of them: `rows-append` in `reports`.
 fn list(out: &mut [u8], at: usize, v: Vertices, rows: RowRange) -> usize
@@ -43,7 +37,7 @@ fn list(out: &mut [u8], at: usize, v: Vertices, rows: RowRange) -> usize
     let mut left = rows.count;
     let mut filled = at;
     while left > 0 {
-        let count = least(left, 512);
+        let count = reports::least(left, 512);
         let end = reports::write_rows(out, filled, v, y, count);
         filled = console::flush(out, end);
         y += count as i32;

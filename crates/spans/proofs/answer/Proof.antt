@@ -1,5 +1,5 @@
 -- `spans::answer` writes the first line and the rows of the line that was read; what is left is written at the end. Assumes nothing.
-use mathlib.Core.Path.{_≡_, sym, ap, subst, _∙_}
+use mathlib.Core.Path.{sym, ap, subst, _∙_}
 use native.Mathlib.Omega.{arith}
 use lib.IntN.{pos, _+ℤ_}
 use lib.Signed.{_≤ℤ_}

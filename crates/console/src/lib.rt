@@ -17,6 +17,20 @@ pub fn read_more(input: &mut [u8], kept: usize) -> usize
     io::count(got, space)
 }
 
+// Reads until the input ends or `input` is full, and answers how many bytes came.
+pub fn read_all(input: &mut [u8]) -> usize
+    ensures { λ r. ⌜ r ≤ length (now (input .entry)) ⌝ }
+{
+    let mut end = 0;
+    loop {
+        let got = read_more(input, end);
+        if got == 0 {
+            return end;
+        }
+        end += got;
+    }
+}
+
 // Inside the library: writes an output that is filled up to `at` once that is half of 64 KiB, and answers how far it is filled then.
 pub fn flush(out: &[u8], at: usize) -> usize
     requires { ⌜ at ≤ length (now out) ⌝ }

@@ -6,7 +6,7 @@ use Prim.Native.Nat.{ℕ, zero, suc, _+_, _-_, _/_, _≤_, _<_, _^_}
 use native.Mathlib.Nat.{le-trans, pow-suc}
 use native.Mathlib.Numerals.{add-one}
 use native.Mathlib.Omega.{arith}
-use lib.Dec.{leb, ltb, lit≤}
+use lib.Dec.{leb, ltb, lit≤, lit<}
 use lib.IntN.{ℤ, pos, negsuc, natAbs}
 use lib.Signed.{_≤ℤ_, _<ℤ_}
 use lib.ListN.{length, getD, length-append}
@@ -16,7 +16,8 @@ use mir.Val.{Fits, SFits}
 use Rattle.whole.proofs.Difference.{lt-nat}
 use Rattle.text.specs.Digits.{isDigit, allDigits, withDigit, valueFrom, digitsValue}
 use Rattle.text.proofs.Reading.{digit-yes, signed-plain}
-use Rattle.text.specs.Show.{lastDigit, shownBy, shown, lastDigits, shownSigned}
+use Rattle.text.proofs.Writing.{triple-parts}
+use Rattle.text.specs.Show.{lastDigit, shownBy, shown, lastDigits, shownSigned, field, triple}
 use Rattle.text.specs.Read.{unsigned, readDigits, readU32, readSigned, readI32, negated}
 
 -- ---- turns to spare change nothing
@@ -155,3 +156,13 @@ shown-plus (negsuc n) h = absurd (h .le)
 pub shown-eleven : (z : ℤ) → SFits w32 z → length (shownSigned z) ≤ 11
 shown-eleven (pos n) f = omega (arith, shown-ten n (omega (arith, f .sfits)))
 shown-eleven (negsuc n) f = omega (arith, shown-ten (suc n) (omega (arith, f .sfits)))
+
+-- ---- how long numbers are with what stands behind them
+pub zero-fits : SFits w32 (pos 0)
+zero-fits = record { sfits = lit< tt }
+
+pub field-short : (z : ℤ) (stop : ℕ) → SFits w32 z → length (field z stop) ≤ 12
+field-short z stop f = omega (arith, shown-eleven z f, length-append (shownSigned z) (stop ∷ []))
+
+pub triple-short : (a b c : ℤ) (stop : ℕ) → SFits w32 a → SFits w32 b → SFits w32 c → length (triple a b c stop) ≤ 36
+triple-short a b c stop f g h = omega (arith, triple-parts a b c stop, field-short a 9 f, field-short b 9 g, field-short c stop h)

@@ -31,6 +31,13 @@ first-line b (c ∷ s) = by (eqb b 10) refl (first-line c s)
         more : (u : ℕ) → suc (u + 1) ≡ suc u + 1
         more u = omega arith
 
+-- a line, as the code lends it
+pub line-is : (s : List ℕ) (at end : ℕ) → end ≡ lineEnd s at → take (end - at) (drop at s) ≡ lineAt s at
+line-is s at end e = ap (λ (k : ℕ). take k (drop at s)) count
+  where
+    count : end - at ≡ until 10 (drop at s)
+    count = omega arith
+
 -- ---- where the first `stop` stands in a text and what comes behind it
 until-in : (stop : ℕ) (s t : List ℕ) → until stop s < length s → until stop (s ++ t) ≡ until stop s
 until-in stop [] t h = absurd (omega arith)

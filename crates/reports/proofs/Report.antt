@@ -1,0 +1,100 @@
+-- Laws of a report: which first line and which rows a line gets, and its rows one after the other. Assumes nothing.
+use mathlib.Core.Path.{_≡_, refl, sym, ap, ap₂, _∙_}
+use mathlib.Core.Bool.{Bool, true, false}
+use mathlib.Core.List.{List, [], _∷_, _++_, append-assoc}
+use Prim.Native.Nat.{ℕ, zero, suc, _+_, _-_, _≤_, _<_}
+use native.Mathlib.Omega.{arith}
+use lib.IntN.{ℤ, pos, _+ℤ_}
+use lib.ListN.{length, length-append}
+use lib.Seq.{sets}
+use borrow.Author.Tests.{eq-eqb, ne-eqb}
+use mir.Syntax.{w32}
+use mir.Val.{Fits}
+use Rattle.whole.proofs.Difference.{as-mk, mks, mk-eq}
+use Rattle.geometry.specs.Answer.{span}
+use Rattle.triangle.specs.declared.RowRange.{RowRange}
+use Rattle.triangle.specs.Answer.{vertexRefusal, rowsAnswer}
+use Rattle.triangle.specs.Row.{rowSpan, firstRow, rowCount}
+use Rattle.text.specs.declared.Vertices.{Vertices}
+use Rattle.text.specs.Show.{shown}
+use Rattle.text.proofs.Showing.{shown-ten}
+use Rattle.text.proofs.Writing.{Wrote, sets-append}
+use Rattle.reports.specs.Words.{badLine, refused, rows, counted}
+use Rattle.reports.specs.Spans.{rowsOf, heading, rowOf, rowLine, rowLines}
+
+-- ---- which rows: the numbers as the code reads them back
+pub no-rows : (v : Vertices) → v .ok ≡ false → rowsAnswer 0 (pos 0) 0 ≡ rowsOf v
+unfolding rowsOf
+no-rows v e = rw e
+
+module _ (v : Vertices) {x1 y1 x2 y2 x3 y3 : ℤ} (a : x1 ≡ v .x1) (b : y1 ≡ v .y1) (c : x2 ≡ v .x2) (d : y2 ≡ v .y2) (e : x3 ≡ v .x3) (f : y3 ≡ v .y3) where
+  pub some-rows : v .ok ≡ true → rowsAnswer (vertexRefusal (x1, y1) (x2, y2) (x3, y3)) (firstRow (x1, y1) (x2, y2) (x3, y3)) (rowCount (x1, y1) (x2, y2) (x3, y3)) ≡ rowsOf v
+  unfolding rowsOf
+  some-rows o =
+      (λ i. rowsAnswer (vertexRefusal (a i, b i) (c i, d i) (e i, f i)) (firstRow (a i, b i) (c i, d i) (e i, f i)) (rowCount (a i, b i) (c i, d i) (e i, f i)))
+      ∙ rw o
+
+  pub a-row : {y z : ℤ} → y ≡ z → span (vertexRefusal (x1, y1) (x2, y2) (x3, y3)) (rowSpan (x1, y1) (x2, y2) (x3, y3) y .0) (rowSpan (x1, y1) (x2, y2) (x3, y3) y .1) ≡ rowOf v z
+  unfolding rowOf
+  a-row q = λ i. span (vertexRefusal (a i, b i) (c i, d i) (e i, f i)) (rowSpan (a i, b i) (c i, d i) (e i, f i) (q i) .0) (rowSpan (a i, b i) (c i, d i) (e i, f i) (q i) .1)
+
+-- ---- which first line, and how long it is
+module _ (ok : Bool) (r : RowRange) where
+  pub heading-bad : ok ≡ false → badLine ≡ heading ok r
+  unfolding heading
+  heading-bad e = rw e
+
+  pub heading-refused : ok ≡ true → (r .number ≡ 0 → ⊥) → counted refused (r .number) ≡ heading ok r
+  unfolding heading
+  heading-refused e n = rw (e, ne-eqb (r .number) 0 n)
+
+  pub heading-rows : ok ≡ true → r .number ≡ 0 → counted rows (r .count) ≡ heading ok r
+  unfolding heading
+  heading-rows e n = rw (e, eq-eqb (r .number) 0 n)
+
+pub counted-length : (word : List ℕ) (n : ℕ) → length (counted word n) ≡ length word + (length (shown n) + 1)
+counted-length word n = length-append word (shown n ++ (10 ∷ [])) ∙ ap (λ (k : ℕ). length word + k) (length-append (shown n) (10 ∷ []))
+
+pub counted-short : (word : List ℕ) (n : ℕ) → Fits w32 n → length (counted word n) ≤ length word + 11
+counted-short word n f = omega (arith, counted-length word n, shown-ten n (f .fits))
+
+-- ---- the first row, and those below it
+pub rows-first : (v : Vertices) (y : ℤ) (n : ℕ) → 0 < n → rowLines v y n ≡ rowLine v y ++ rowLines v (y +ℤ pos 1) (n - 1)
+rows-first v y zero h = absurd (omega arith)
+rows-first v y (suc n) h = ap (λ (k : ℕ). rowLine v y ++ rowLines v (y +ℤ pos 1) k) less
+  where
+    less : n ≡ suc n - 1
+    less = omega arith
+
+pub rows-none : (v : Vertices) (y : ℤ) (n : ℕ) → n ≤ 0 → rowLines v y n ≡ []
+rows-none v y zero h = refl
+rows-none v y (suc n) h = absurd (omega arith)
+
+-- writing one leaves those below it to be written
+module _ (v : Vertices) (y : ℤ) (n : ℕ) (some : 0 < n) (out mid : List ℕ) (at next : ℕ) (w : Wrote out at (rowLine v y) next mid) where
+  pub row-goes : (z : ℤ) → z ≡ y +ℤ pos 1
+      → (next + length (rowLines v z (n - 1)) ≡ at + length (rowLines v y n)) × (sets mid next (rowLines v z (n - 1)) ≡ sets out at (rowLines v y n))
+  row-goes z e = rw (e, rows-first v y n some) (
+    omega (arith, w .0, length-append (rowLine v y) (rowLines v (y +ℤ pos 1) (n - 1))),
+    ap₂ (λ (l : List ℕ) (k : ℕ). sets l k (rowLines v (y +ℤ pos 1) (n - 1))) (w .1) (w .0) ∙ sym (sets-append out at (rowLine v y) (rowLines v (y +ℤ pos 1) (n - 1))),
+  )
+
+-- ---- in how many parts the rows are written does not matter
+pub rows-append : (v : Vertices) (y : ℤ) (m n : ℕ) → rowLines v y (m + n) ≡ rowLines v y m ++ rowLines v (y +ℤ pos m) n
+rows-append v y zero n = ap₂ (λ (z : ℤ) (k : ℕ). rowLines v z k) start count
+  where
+    start : y ≡ y +ℤ pos 0
+    start = rw (as-mk y) (simp mks (mk-eq _ _ _ _ (omega arith)))
+
+    count : 0 + n ≡ n
+    count = omega arith
+rows-append v y (suc m) n =
+    ap (rowLines v y) count
+    ∙ ap (λ (l : List ℕ). rowLine v y ++ l) (rows-append v (y +ℤ pos 1) m n ∙ ap (λ (z : ℤ). rowLines v (y +ℤ pos 1) m ++ rowLines v z n) row)
+    ∙ sym (append-assoc (rowLine v y) (rowLines v (y +ℤ pos 1) m) (rowLines v (y +ℤ pos (suc m)) n))
+  where
+    count : suc m + n ≡ suc (m + n)
+    count = omega arith
+
+    row : (y +ℤ pos 1) +ℤ pos m ≡ y +ℤ pos (suc m)
+    row = rw (as-mk y) (simp mks (mk-eq _ _ _ _ (omega arith)))

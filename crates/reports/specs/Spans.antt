@@ -1,0 +1,60 @@
+-- What `spans` says of a line (01, the end of "Known small answers").
+use mathlib.Core.Bool.{Bool, cond}
+use mathlib.Core.List.{List, [], _++_}
+use Prim.Native.Nat.{ℕ, zero, suc}
+use lib.Dec.{eqb}
+use lib.IntN.{ℤ, pos, _+ℤ_}
+use Rattle.geometry.specs.declared.Point.{Point}
+use Rattle.geometry.specs.declared.Span.{Span}
+use Rattle.geometry.specs.Answer.{span}
+use Rattle.triangle.specs.declared.RowRange.{RowRange}
+use Rattle.triangle.specs.Answer.{vertexRefusal, rowsAnswer}
+use Rattle.triangle.specs.Row.{rowSpan, firstRow, rowCount}
+use Rattle.text.specs.declared.Vertices.{Vertices}
+use Rattle.text.specs.Fields.{fields, readVertices}
+use Rattle.text.specs.Lines.{firstLine}
+use Rattle.text.specs.Show.{triple}
+use Rattle.reports.specs.Words.{badLine, refused, rows, counted}
+
+-- the triangle of six coordinates
+abbrev pub corner1 : Vertices → Point
+corner1 v = (v .x1, v .y1)
+
+abbrev pub corner2 : Vertices → Point
+corner2 v = (v .x2, v .y2)
+
+abbrev pub corner3 : Vertices → Point
+corner3 v = (v .x3, v .y3)
+
+abbrev pub refusalOf : Vertices → ℕ
+refusalOf v = vertexRefusal (corner1 v) (corner2 v) (corner3 v)
+
+-- its rows; none where the line is another
+unfoldable pub rowsOf : Vertices → RowRange
+rowsOf v =
+    cond (v .ok)
+    (rowsAnswer (refusalOf v) (firstRow (corner1 v) (corner2 v) (corner3 v)) (rowCount (corner1 v) (corner2 v) (corner3 v)))
+    (rowsAnswer 0 (pos 0) 0)
+
+-- the first line: `bad line`, or `refused` and the number, or `rows` and how many
+unfoldable pub heading : Bool → RowRange → List ℕ
+heading ok r = cond ok (cond (eqb (r .number) 0) (counted rows (r .count)) (counted refused (r .number))) badLine
+
+-- a row's line: the row, its first column, one past the last
+unfoldable pub rowOf : Vertices → ℤ → Span
+rowOf v y = span (refusalOf v) (rowSpan (corner1 v) (corner2 v) (corner3 v) y .0) (rowSpan (corner1 v) (corner2 v) (corner3 v) y .1)
+
+abbrev pub rowLine : Vertices → ℤ → List ℕ
+rowLine v y = triple y (rowOf v y .start) (rowOf v y .end) 10
+
+-- the lines of so many rows from y on
+abbrev pub rowLines : Vertices → ℤ → ℕ → List ℕ
+rowLines v y zero = []
+rowLines v y (suc n) = rowLine v y ++ rowLines v (y +ℤ pos 1) n
+
+-- all that is said of six coordinates, and of the first line of an input
+abbrev pub report : Vertices → List ℕ
+report v = heading (v .ok) (rowsOf v) ++ rowLines v (rowsOf v .first) (rowsOf v .count)
+
+abbrev pub spans : List ℕ → List ℕ
+spans input = report (readVertices (fields (firstLine input)))

@@ -1,0 +1,91 @@
+// The report of `spans`: a first line, and a line a row.
+ghost use mathlib.Core.Path.{_≡_};
+ghost use Prim.Native.Nat.{_+_, _*_, _≤_, min};
+ghost use lib.IntN.{pos, _+ℤ_};
+ghost use lib.Signed.{_≤ℤ_};
+ghost use lib.ListN.{length};
+ghost use lib.Seq.{sets};
+ghost use Rattle.reports.specs.Words.{counted};
+ghost use Rattle.reports.specs.Spans.{rowsOf, heading, rowOf, rowLine, rowLines};
+use geometry::Point;
+use geometry::Span;
+use text::Vertices;
+use triangle::RowRange;
+
+// The smaller of two numbers.
+pub fn least(a: u32, b: u32) -> u32
+    ensures { λ r. ⌜ r ≡ min a b ⌝ }
+{
+    if a < b { a } else { b }
+}
+
+// The rows that a line of six coordinates asks for: none where the line is another, or the triangle is refused.
+pub fn rows_of(v: Vertices) -> RowRange
+    ensures { λ r. ⌜ r ≡ rowsOf v ⌝ }
+{
+    if !v.ok {
+        return RowRange {
+            number: 0,
+            first: 0,
+            count: 0,
+        };
+    }
+    triangle::rows(Point(v.x1, v.y1), Point(v.x2, v.y2), Point(v.x3, v.y3))
+}
+
+// The columns of row `y`.
+fn row_of(v: Vertices, y: i32) -> Span
+    ensures { λ r. ⌜ r ≡ rowOf v y ⌝ }
+{
+    triangle::row_span(Point(v.x1, v.y1), Point(v.x2, v.y2), Point(v.x3, v.y3), y)
+}
+
+// A word, and a number behind it, in a line.
+fn write_counted(out: &mut [u8], at: usize, word: &[u8], n: u32) -> usize
+    requires { ⌜ at + length (counted (now word) n) ≤ length (now out) ⌝ }
+    ensures { λ r. ⌜ (r ≡ at + length (counted (now (word .entry)) n)) × (now (out .exit) ≡ sets (now (out .entry)) at (counted (now (word .entry)) n)) ⌝ }
+{
+    let middle = text::write_bytes(out, at, word);
+    let end = text::write_u32(out, middle, n);
+    out[end] = b'\n';
+    end + 1
+}
+
+// Inside the library: the first line of a report, of at most 19 bytes: what kind of line was read, or how many rows follow.
+pub fn write_heading(out: &mut [u8], at: usize, ok: bool, rows: RowRange) -> usize
+    requires { ⌜ at + 19 ≤ length (now out) ⌝ }
+    ensures { λ r. ⌜ (r ≡ at + length (heading ok rows)) × (now (out .exit) ≡ sets (now (out .entry)) at (heading ok rows)) ⌝ }
+{
+    if !ok {
+        return text::write_bytes(out, at, b"bad line\n");
+    }
+    if rows.number != 0 {
+        return write_counted(out, at, b"refused\t", rows.number);
+    }
+    write_counted(out, at, b"rows\t", rows.count)
+}
+
+// The line of row `y`, of at most 36 bytes: the row, its first column, and one past the last.
+fn write_row(out: &mut [u8], at: usize, v: Vertices, y: i32) -> usize
+    requires { ⌜ at + 36 ≤ length (now out) ⌝ }
+    ensures { λ r. ⌜ (r ≡ at + length (rowLine v y)) × (now (out .exit) ≡ sets (now (out .entry)) at (rowLine v y)) ⌝ }
+{
+    let s = row_of(v, y);
+    text::write_triple(out, at, y, s.start, s.end, b'\n')
+}
+
+// Inside the library: the lines of `count` rows from `first` on.
+pub fn write_rows(out: &mut [u8], at: usize, v: Vertices, first: i32, count: u32) -> usize
+    requires { ⌜ (at + 36 * count ≤ length (now out)) × ((first +ℤ pos count) ≤ℤ pos 131072) ⌝ }
+    ensures { λ r. ⌜ (r ≡ at + length (rowLines v first count)) × (now (out .exit) ≡ sets (now (out .entry)) at (rowLines v first count)) ⌝ }
+{
+    let mut y = first;
+    let mut left = count;
+    let mut filled = at;
+    while left > 0 {
+        filled = write_row(out, filled, v, y);
+        y += 1;
+        left -= 1;
+    }
+    filled
+}

@@ -27,7 +27,8 @@ use Rattle.triangle.specs.Row.{rowSpan, firstRow, rowCount}
 use Rattle.triangle.specs.Triangle.{contained}
 use Rattle.triangle.proofs.Refusals.{Accepted, is-accepted, sorted-bounded}
 use Rattle.triangle.proofs.Spans.{Spans}
-use Rattle.triangle.proofs.Triangle.{p1, p2, p3, flat, contained-decides, row-spans, last-row, box-left, box-right}
+use Rattle.triangle.proofs.Triangle.{p1, p2, p3, flat, contained-decides, row-spans, last-row}
+use Rattle.triangle.proofs.Box.{box-left, box-right}
 use Rattle.text.specs.declared.Vertices.{Vertices}
 use Rattle.text.proofs.Showing.{zero-fits, triple-short}
 use Rattle.reports.specs.Words.{badLine, refused, rows, counted}

@@ -16,7 +16,7 @@ use Rattle.replay.specs.Dump.{dumpLine}
 use Rattle.replay.specs.Fields.{isLast}
 use Rattle.replay.specs.Lines.{Left, Session, wordOf, turned, answer, answered, room}
 use Rattle.replay.specs.Reply.{badLine}
-use Rattle.replay.specs.Screen.{after, turn, framed, describedBy, frameTurn, nextScreen, presetCall, readReply, lentTurn, response}
+use Rattle.replay.specs.Screen.{after, turn, framed, frameTurn, nextScreen, presetCall, readReply, lentTurn, response}
 use Rattle.replay.specs.Words.{sameWord, dumpWord, frameWord, presetWord, readWord}
 
 screen-lent : (said : List ℕ) (at : ℕ) → nextScreen said at .ok ≡ true → nextScreen said at .screen .lent ≤ 65536

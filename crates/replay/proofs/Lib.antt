@@ -4,3 +4,4 @@ pub mod Hexadecimal
 pub mod Lent
 pub mod Answers
 pub mod Standing
+pub mod Parts

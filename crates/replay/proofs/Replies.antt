@@ -28,6 +28,10 @@ module _ {A : Type 0} (r bad : A) {t last : Bool} (d : t ≡ last) where
   pub is-said : {s : A} → not t ≡ false → s ≡ r → s ≡ cond last r bad
   is-said n q = q ∙ at-last (not-false t n)
 
+-- ---- what is made of two readings, the second from the place behind the first
+pub then-read : {A B C : Type 0} (made : A → B → C) (next : A → B) {a found : A} {b : B} → a ≡ found → b ≡ next a → made a b ≡ made found (next found)
+then-read made next e q = ap₂ made e (q ∙ ap next e)
+
 -- ---- what a drawing call answers and leaves
 pub is-drawn : (f : Frame) (figure : ℤ → ℤ → Bool) (colour : ℕ) (b : List ℕ) {number : ℕ} {d : Drawn} {left : List ℕ}
     → d ≡ drawn number → left ≡ afterDraw f (d .number) figure colour b

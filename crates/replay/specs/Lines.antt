@@ -1,6 +1,6 @@
 -- What a line is answered and what it leaves, and the same of the lines of an input.
 use mathlib.Core.Bool.{Bool, false, cond}
-use mathlib.Core.List.{List, _++_}
+use mathlib.Core.List.{List, [], _++_}
 use Prim.Native.Nat.{ℕ, _+_}
 use lib.Dec.{leb}
 use lib.ListN.{length, take}
@@ -46,9 +46,12 @@ abbrev pub room : Session → Bool
 room s = leb (s .0 .0 + 8193) (length (s .0 .1))
 
 -- ---- what the program writes for an input: the answers to its lines, from the state at the start on
-abbrev pub said : List ℕ × Left → List ℕ → List ℕ × Left
-said o line = (o .0 ++ answer line (o .1) .0, answer line (o .1) .1)
+abbrev pub told : List ℕ × Left → List ℕ → List ℕ × Left
+told o said = (o .0 ++ answer said (o .1) .0, answer said (o .1) .1)
 
 -- width 0, height 0, depth 1, little end first, length 0
 abbrev pub start : Screen
 start = screenOf (described 0 0 1 false) 0
+
+abbrev pub output : List ℕ → List ℕ → List ℕ
+output memory input = over told ([], (start, memory)) input .0

@@ -1,5 +1,5 @@
 -- The buffer's bytes, the description of the frame and the lent length: what `frame`, `preset` and `read` answer and leave.
-use mathlib.Core.Bool.{Bool, cond, _&&_}
+use mathlib.Core.Bool.{cond, _&&_}
 use mathlib.Core.List.{List, _++_}
 use Prim.Native.Nat.{ℕ}
 use lib.Dec.{eqb, leb}

@@ -1,12 +1,11 @@
 -- `replay::ask::disc` hands on what the library answers, where the line ends behind the last number. Assumes nothing.
-use mathlib.Core.Path.{ap, ap₂, _∙_}
+use mathlib.Core.Path.{ap, _∙_}
 use borrow.Author.Needs.{needs}
 use Rattle.replay.specs.declared.fields.NextCircle.{NextCircle}
 use Rattle.replay.specs.Fields.{nextPoint}
 use Rattle.replay.specs.Reply.{verdictReply}
 use Rattle.replay.specs.Ask.{discOf, discReply}
-use Rattle.replay.specs.Lines.{said}
-use Rattle.replay.proofs.Replies.{is-bad, is-said}
+use Rattle.replay.proofs.Replies.{is-bad, is-said, then-read}
 use Rattle.replay.proofs.ask.disc.Statement.{statement}
 use Rattle.replay.proofs.ask.disc.Tie as tie
 
@@ -24,7 +23,7 @@ unfolding discReply
 returns c =
     let said = c .before .before .before .before .before .args .said .now in
     is-bad _ _ (c .before .ends-at .ensures) (c .if1 .taken)
-    ∙ ap₂ (discOf said) (c .before .before .before .next-circle .ensures) (c .before .before .next-point .ensures ∙ ap (λ (n : NextCircle). nextPoint said (n .next)) (c .before .before .before .next-circle .ensures))
+    ∙ then-read (discOf said) (λ (n : NextCircle). nextPoint said (n .next)) (c .before .before .before .next-circle .ensures) (c .before .before .next-point .ensures)
 
 contains-requires : tie.Need-contains-requires
 contains-requires c κs = search needs
@@ -38,7 +37,7 @@ returns-2 c =
     let said = c .before .before .before .before .before .before .before .args .said .now in
     is-said _ _ (c .before .before .before .ends-at .ensures) (c .before .before .if1 .left)
     (c .verdict-reply .ensures ∙ ap verdictReply (c .before .contains .ensures))
-    ∙ ap₂ (discOf said) (c .before .before .before .before .before .next-circle .ensures) (c .before .before .before .before .next-point .ensures ∙ ap (λ (n : NextCircle). nextPoint said (n .next)) (c .before .before .before .before .before .next-circle .ensures))
+    ∙ then-read (discOf said) (λ (n : NextCircle). nextPoint said (n .next)) (c .before .before .before .before .before .next-circle .ensures) (c .before .before .before .before .next-point .ensures)
 
 pub disc-spec : {M : Type 1} → statement M
 disc-spec =

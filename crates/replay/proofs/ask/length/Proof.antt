@@ -2,7 +2,6 @@
 use mathlib.Core.Path.{ap, _∙_}
 use borrow.Author.Needs.{needs}
 use Rattle.replay.specs.Ask.{lengthSaid, lengthOf, lengthReply}
-use Rattle.replay.specs.Lines.{said}
 use Rattle.replay.proofs.Replies.{is-bad, is-said}
 use Rattle.replay.proofs.ask.length.Statement.{statement}
 use Rattle.replay.proofs.ask.length.Tie as tie

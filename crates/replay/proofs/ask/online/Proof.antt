@@ -1,12 +1,11 @@
 -- `replay::ask::online` hands on what the library answers, where the line ends behind the last number. Assumes nothing.
-use mathlib.Core.Path.{ap, ap₂, _∙_}
+use mathlib.Core.Path.{ap, _∙_}
 use borrow.Author.Needs.{needs}
 use Rattle.replay.specs.declared.fields.NextEnds.{NextEnds}
 use Rattle.replay.specs.Fields.{nextPoint}
 use Rattle.replay.specs.Reply.{verdictReply}
 use Rattle.replay.specs.Ask.{onlineOf, onlineReply}
-use Rattle.replay.specs.Lines.{said}
-use Rattle.replay.proofs.Replies.{is-bad, is-said}
+use Rattle.replay.proofs.Replies.{is-bad, is-said, then-read}
 use Rattle.replay.proofs.ask.online.Statement.{statement}
 use Rattle.replay.proofs.ask.online.Tie as tie
 
@@ -24,7 +23,7 @@ unfolding onlineReply
 returns c =
     let said = c .before .before .before .before .before .args .said .now in
     is-bad _ _ (c .before .ends-at .ensures) (c .if1 .taken)
-    ∙ ap₂ (onlineOf said) (c .before .before .before .next-ends .ensures) (c .before .before .next-point .ensures ∙ ap (λ (n : NextEnds). nextPoint said (n .next)) (c .before .before .before .next-ends .ensures))
+    ∙ then-read (onlineOf said) (λ (n : NextEnds). nextPoint said (n .next)) (c .before .before .before .next-ends .ensures) (c .before .before .next-point .ensures)
 
 has-point-requires : tie.Need-has-point-requires
 has-point-requires c κs = search needs
@@ -38,7 +37,7 @@ returns-2 c =
     let said = c .before .before .before .before .before .before .before .args .said .now in
     is-said _ _ (c .before .before .before .ends-at .ensures) (c .before .before .if1 .left)
     (c .verdict-reply .ensures ∙ ap verdictReply (c .before .has-point .ensures))
-    ∙ ap₂ (onlineOf said) (c .before .before .before .before .before .next-ends .ensures) (c .before .before .before .before .next-point .ensures ∙ ap (λ (n : NextEnds). nextPoint said (n .next)) (c .before .before .before .before .before .next-ends .ensures))
+    ∙ then-read (onlineOf said) (λ (n : NextEnds). nextPoint said (n .next)) (c .before .before .before .before .before .next-ends .ensures) (c .before .before .before .before .next-point .ensures)
 
 pub online-spec : {M : Type 1} → statement M
 online-spec =

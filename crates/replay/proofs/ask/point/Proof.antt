@@ -1,13 +1,12 @@
 -- `replay::ask::point` hands on what the library answers, where the line ends behind the last number. Assumes nothing.
-use mathlib.Core.Path.{ap, ap₂, _∙_}
+use mathlib.Core.Path.{ap, _∙_}
 use borrow.Author.Needs.{needs}
 use mir.Syntax.{w32}
 use Rattle.whole.proofs.Machine.{field-back}
 use Rattle.text.specs.Fields.{nextU32}
 use Rattle.replay.specs.declared.fields.NextEnds.{NextEnds}
 use Rattle.replay.specs.Ask.{stepSaid, pointOf, pointReply}
-use Rattle.replay.specs.Lines.{said}
-use Rattle.replay.proofs.Replies.{is-bad, is-said}
+use Rattle.replay.proofs.Replies.{is-bad, is-said, then-read}
 use Rattle.replay.proofs.ask.point.Statement.{statement}
 use Rattle.replay.proofs.ask.point.Tie as tie
 
@@ -25,7 +24,7 @@ unfolding pointReply
 returns c =
     let said = c .before .before .before .before .before .args .said .now in
     is-bad _ _ (c .before .ends-at .ensures) (c .if1 .taken)
-    ∙ ap₂ (pointOf said) (c .before .before .before .next-ends .ensures) (c .before .before .next-u32 .ensures ∙ ap (λ (n : NextEnds). nextU32 said (n .next)) (c .before .before .before .next-ends .ensures))
+    ∙ then-read (pointOf said) (λ (n : NextEnds). nextU32 said (n .next)) (c .before .before .before .next-ends .ensures) (c .before .before .next-u32 .ensures)
 
 point-requires : tie.Need-point-requires
 point-requires c κs = search needs
@@ -37,7 +36,7 @@ returns-2 c =
     rw (field-back w32 (c .before .before .point .result .point .0) (c .struct-told .given .0 .1), field-back w32 (c .before .before .point .result .point .1) (c .struct-told .given .1 .0 .1))
     (is-said _ _ (c .before .before .before .before .ends-at .ensures) (c .before .before .before .if1 .left)
     (ap stepSaid (c .before .before .point .ensures))
-    ∙ ap₂ (pointOf said) (c .before .before .before .before .before .before .next-ends .ensures) (c .before .before .before .before .before .next-u32 .ensures ∙ ap (λ (n : NextEnds). nextU32 said (n .next)) (c .before .before .before .before .before .before .next-ends .ensures)))
+    ∙ then-read (pointOf said) (λ (n : NextEnds). nextU32 said (n .next)) (c .before .before .before .before .before .before .next-ends .ensures) (c .before .before .before .before .before .next-u32 .ensures))
 
 pub point-spec : {M : Type 1} → statement M
 point-spec =

@@ -4,7 +4,6 @@ use borrow.Author.Needs.{needs}
 use mir.Syntax.{w32}
 use Rattle.whole.proofs.Machine.{field-back}
 use Rattle.replay.specs.Ask.{rowsSaid, rowsOf, rowsReply}
-use Rattle.replay.specs.Lines.{said}
 use Rattle.replay.proofs.Replies.{is-bad, is-said}
 use Rattle.replay.proofs.ask.rows.Statement.{statement}
 use Rattle.replay.proofs.ask.rows.Tie as tie

@@ -1,11 +1,10 @@
 -- `replay::draw::circle` hands on what the library answers and leaves, where the line ends behind the colour. Assumes nothing.
-use mathlib.Core.Path.{ap, ap₂, _∙_}
+use mathlib.Core.Path.{_∙_}
 use borrow.Author.Needs.{needs}
 use Rattle.text.specs.Fields.{nextU32}
 use Rattle.replay.specs.declared.fields.NextCircle.{NextCircle}
 use Rattle.replay.specs.Draw.{circleOf, circleCall}
-use Rattle.replay.specs.Lines.{said}
-use Rattle.replay.proofs.Replies.{is-bad, is-said, is-drawn}
+use Rattle.replay.proofs.Replies.{is-bad, is-said, is-drawn, then-read}
 use Rattle.drawing.specs.Figure.{circleFigure}
 use Rattle.replay.proofs.draw.circle.Statement.{statement}
 use Rattle.replay.proofs.draw.circle.Tie as tie
@@ -25,7 +24,7 @@ returns c =
     let a = c .before .before .before .before .before .before .args in
     let said = a .said .now in
     is-bad _ _ (c .before .ends-at .ensures) (c .if1 .taken)
-    ∙ ap₂ (circleOf said (a .frame) (a .buf .now)) (c .before .before .before .next-circle .ensures) (c .before .before .next-u32 .ensures ∙ ap (λ (n : NextCircle). nextU32 said (n .next)) (c .before .before .before .next-circle .ensures))
+    ∙ then-read (circleOf said (a .frame) (a .buf .now)) (λ (n : NextCircle). nextU32 said (n .next)) (c .before .before .before .next-circle .ensures) (c .before .before .next-u32 .ensures)
 
 draw-circle-requires : tie.Need-draw-circle-requires
 draw-circle-requires c κs = search needs
@@ -41,7 +40,7 @@ returns-2 c =
     let d = c .before .before .draw-circle .ensures in
     is-said _ _ (c .before .before .before .before .before .ends-at .ensures) (c .before .before .before .before .if1 .left)
     (is-drawn (a .frame) (circleFigure (c .before .before .before .before .before .before .before .next-circle .result .topleft) (c .before .before .before .before .before .before .before .next-circle .result .diameter)) (c .before .before .before .before .before .before .next-u32 .result .value) (a .buf .now) (d .0) (d .1))
-    ∙ ap₂ (circleOf said (a .frame) (a .buf .now)) (c .before .before .before .before .before .before .before .next-circle .ensures) (c .before .before .before .before .before .before .next-u32 .ensures ∙ ap (λ (n : NextCircle). nextU32 said (n .next)) (c .before .before .before .before .before .before .before .next-circle .ensures))
+    ∙ then-read (circleOf said (a .frame) (a .buf .now)) (λ (n : NextCircle). nextU32 said (n .next)) (c .before .before .before .before .before .before .before .next-circle .ensures) (c .before .before .before .before .before .before .next-u32 .ensures)
 
 pub circle-spec : {M : Type 1} → statement M
 circle-spec =

@@ -1,11 +1,10 @@
 -- `replay::draw::line` hands on what the library answers and leaves, where the line ends behind the colour. Assumes nothing.
-use mathlib.Core.Path.{ap, ap₂, _∙_}
+use mathlib.Core.Path.{_∙_}
 use borrow.Author.Needs.{needs}
 use Rattle.text.specs.Fields.{nextU32}
 use Rattle.replay.specs.declared.fields.NextEnds.{NextEnds}
 use Rattle.replay.specs.Draw.{lineOf, lineCall}
-use Rattle.replay.specs.Lines.{said}
-use Rattle.replay.proofs.Replies.{is-bad, is-said, is-drawn}
+use Rattle.replay.proofs.Replies.{is-bad, is-said, is-drawn, then-read}
 use Rattle.drawing.specs.Figure.{lineFigure}
 use Rattle.replay.proofs.draw.line.Statement.{statement}
 use Rattle.replay.proofs.draw.line.Tie as tie
@@ -25,7 +24,7 @@ returns c =
     let a = c .before .before .before .before .before .before .args in
     let said = a .said .now in
     is-bad _ _ (c .before .ends-at .ensures) (c .if1 .taken)
-    ∙ ap₂ (lineOf said (a .frame) (a .buf .now)) (c .before .before .before .next-ends .ensures) (c .before .before .next-u32 .ensures ∙ ap (λ (n : NextEnds). nextU32 said (n .next)) (c .before .before .before .next-ends .ensures))
+    ∙ then-read (lineOf said (a .frame) (a .buf .now)) (λ (n : NextEnds). nextU32 said (n .next)) (c .before .before .before .next-ends .ensures) (c .before .before .next-u32 .ensures)
 
 draw-line-requires : tie.Need-draw-line-requires
 draw-line-requires c κs = search needs
@@ -41,7 +40,7 @@ returns-2 c =
     let d = c .before .before .draw-line .ensures in
     is-said _ _ (c .before .before .before .before .before .ends-at .ensures) (c .before .before .before .before .if1 .left)
     (is-drawn (a .frame) (lineFigure (c .before .before .before .before .before .before .before .next-ends .result .start) (c .before .before .before .before .before .before .before .next-ends .result .end)) (c .before .before .before .before .before .before .next-u32 .result .value) (a .buf .now) (d .0) (d .1))
-    ∙ ap₂ (lineOf said (a .frame) (a .buf .now)) (c .before .before .before .before .before .before .before .next-ends .ensures) (c .before .before .before .before .before .before .next-u32 .ensures ∙ ap (λ (n : NextEnds). nextU32 said (n .next)) (c .before .before .before .before .before .before .before .next-ends .ensures))
+    ∙ then-read (lineOf said (a .frame) (a .buf .now)) (λ (n : NextEnds). nextU32 said (n .next)) (c .before .before .before .before .before .before .before .next-ends .ensures) (c .before .before .before .before .before .before .next-u32 .ensures)
 
 pub line-spec : {M : Type 1} → statement M
 line-spec =

@@ -1,11 +1,10 @@
 -- `replay::draw::pixel` hands on what the library answers and leaves, where the line ends behind the colour. Assumes nothing.
-use mathlib.Core.Path.{ap, ap₂, _∙_}
+use mathlib.Core.Path.{_∙_}
 use borrow.Author.Needs.{needs}
 use Rattle.text.specs.Fields.{nextU32}
 use Rattle.replay.specs.declared.fields.NextPoint.{NextPoint}
 use Rattle.replay.specs.Draw.{pixelOf, pixelCall}
-use Rattle.replay.specs.Lines.{said}
-use Rattle.replay.proofs.Replies.{is-bad, is-said, is-drawn}
+use Rattle.replay.proofs.Replies.{is-bad, is-said, is-drawn, then-read}
 use Rattle.layout.specs.Figure.{single}
 use Rattle.replay.proofs.draw.pixel.Statement.{statement}
 use Rattle.replay.proofs.draw.pixel.Tie as tie
@@ -25,7 +24,7 @@ returns c =
     let a = c .before .before .before .before .before .before .args in
     let said = a .said .now in
     is-bad _ _ (c .before .ends-at .ensures) (c .if1 .taken)
-    ∙ ap₂ (pixelOf said (a .frame) (a .buf .now)) (c .before .before .before .next-point .ensures) (c .before .before .next-u32 .ensures ∙ ap (λ (n : NextPoint). nextU32 said (n .next)) (c .before .before .before .next-point .ensures))
+    ∙ then-read (pixelOf said (a .frame) (a .buf .now)) (λ (n : NextPoint). nextU32 said (n .next)) (c .before .before .before .next-point .ensures) (c .before .before .next-u32 .ensures)
 
 set-pixel-requires : tie.Need-set-pixel-requires
 set-pixel-requires c κs = search needs
@@ -41,7 +40,7 @@ returns-2 c =
     let d = c .before .before .set-pixel .ensures in
     is-said _ _ (c .before .before .before .before .before .ends-at .ensures) (c .before .before .before .before .if1 .left)
     (is-drawn (a .frame) (single (c .before .before .before .before .before .before .before .next-point .result .point .0) (c .before .before .before .before .before .before .before .next-point .result .point .1)) (c .before .before .before .before .before .before .next-u32 .result .value) (a .buf .now) (d .0) (d .1))
-    ∙ ap₂ (pixelOf said (a .frame) (a .buf .now)) (c .before .before .before .before .before .before .before .next-point .ensures) (c .before .before .before .before .before .before .next-u32 .ensures ∙ ap (λ (n : NextPoint). nextU32 said (n .next)) (c .before .before .before .before .before .before .before .next-point .ensures))
+    ∙ then-read (pixelOf said (a .frame) (a .buf .now)) (λ (n : NextPoint). nextU32 said (n .next)) (c .before .before .before .before .before .before .before .next-point .ensures) (c .before .before .before .before .before .before .next-u32 .ensures)
 
 pub pixel-spec : {M : Type 1} → statement M
 pixel-spec =

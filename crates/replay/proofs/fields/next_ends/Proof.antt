@@ -1,9 +1,8 @@
 -- `replay::fields::next_ends` reads two places, one behind the other. Assumes nothing.
-use mathlib.Core.Path.{ap, ap₂, _∙_}
 use borrow.Author.Needs.{needs}
 use Rattle.replay.specs.declared.fields.NextPoint.{NextPoint}
 use Rattle.replay.specs.Fields.{nextPoint, nextEnds, endsBy}
-use Rattle.replay.specs.Lines.{said}
+use Rattle.replay.proofs.Replies.{then-read}
 use Rattle.replay.proofs.fields.next_ends.Statement.{statement}
 use Rattle.replay.proofs.fields.next_ends.Tie as tie
 
@@ -19,7 +18,7 @@ returns c =
     let said = c .before .before .before .before .before .args .said .now in
     let a = c .before .before .before .next-point in
     let b = c .before .before .next-point2 in
-    ap₂ endsBy (a .ensures) (b .ensures ∙ ap (λ (n : NextPoint). nextPoint said (n .next)) (a .ensures))
+    then-read endsBy (λ (n : NextPoint). nextPoint said (n .next)) (a .ensures) (b .ensures)
 
 pub next-ends-spec : {M : Type 1} → statement M
 next-ends-spec = tie.close (tie.spec next-point-requires next-point-requires-2 returns)

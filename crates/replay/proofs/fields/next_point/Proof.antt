@@ -1,12 +1,11 @@
 -- `replay::fields::next_point` reads two coordinates, one behind the other. Assumes nothing.
-use mathlib.Core.Path.{ap, ap₂, _∙_}
 use borrow.Author.Needs.{needs}
 use mir.Syntax.{w32}
 use Rattle.whole.proofs.Machine.{field-back}
 use Rattle.text.specs.declared.NextI32.{NextI32}
 use Rattle.text.specs.Fields.{nextI32}
 use Rattle.replay.specs.Fields.{nextPoint, pointBy}
-use Rattle.replay.specs.Lines.{said}
+use Rattle.replay.proofs.Replies.{then-read}
 use Rattle.replay.proofs.fields.next_point.Statement.{statement}
 use Rattle.replay.proofs.fields.next_point.Tie as tie
 
@@ -23,7 +22,7 @@ returns c =
     let x = c .before .before .before .next-i32 in
     let y = c .before .before .next-i322 in
     rw (field-back w32 (x .result .value) (c .before .struct-told .given .0 .1), field-back w32 (y .result .value) (c .struct-told2 .given .0 .1))
-    (ap₂ pointBy (x .ensures) (y .ensures ∙ ap (λ (n : NextI32). nextI32 said (n .next)) (x .ensures)))
+    (then-read pointBy (λ (n : NextI32). nextI32 said (n .next)) (x .ensures) (y .ensures))
 
 pub next-point-spec : {M : Type 1} → statement M
 next-point-spec = tie.close (tie.spec next-i32-requires next-i32-requires-2 returns)

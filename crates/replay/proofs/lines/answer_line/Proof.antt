@@ -8,7 +8,7 @@ use lib.Seq.{length-take-le}
 use borrow.Author.Needs.{needs}
 use Rattle.replay.specs.Screen.{response}
 use Rattle.replay.specs.Dump.{dumpLine}
-use Rattle.replay.specs.Lines.{Left, turned, Session, said}
+use Rattle.replay.specs.Lines.{Left, turned, Session}
 use Rattle.replay.specs.Words.{sameWord, dumpWord}
 use Rattle.text.proofs.Parting.{part-end-within}
 use Rattle.replay.proofs.Answers.{answer-long, answer-dump, answer-turn, is-answered}

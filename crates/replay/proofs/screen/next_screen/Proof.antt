@@ -10,7 +10,6 @@ use Rattle.text.specs.declared.NextU32.{NextU32}
 use Rattle.replay.specs.declared.screen.Described.{Described}
 use Rattle.replay.specs.Fields.{isLast}
 use Rattle.replay.specs.Screen.{screenOf, describedBy, after, nextScreen}
-use Rattle.replay.specs.Lines.{said}
 use Rattle.framebuffer.specs.declared.Frame.{Frame}
 use Rattle.replay.proofs.screen.next_screen.Statement.{statement}
 use Rattle.replay.proofs.screen.next_screen.Tie as tie

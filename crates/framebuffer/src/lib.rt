@@ -376,8 +376,8 @@ pub fn pixel(buf: &[u8], frame: Frame, p: geometry::Point) -> Read
 
 // ---- runs of bytes
 
-// Every byte of a part of the buffer set to v: one plain store a turn.
-fn set_all(part: &mut [u8], v: u8)
+// Inside the library: every byte of a part of a buffer set to v, by one plain store a turn.
+pub fn set_all(part: &mut [u8], v: u8)
     ensures { λ r. ⌜ now (part .exit) ≡ setRun 0 (length (now (part .entry))) (λ j. v) (now (part .entry)) ⌝ }
 {
     let mut i = 0usize;

@@ -1,2 +1,3 @@
 pub mod Report
 pub mod Within
+pub mod Counting

@@ -19,24 +19,24 @@ use Rattle.text.specs.declared.Vertices.{Vertices}
 use Rattle.text.specs.Show.{shown}
 use Rattle.text.proofs.Showing.{shown-ten}
 use Rattle.text.proofs.Writing.{Wrote, sets-append}
-use Rattle.reports.specs.Words.{badLine, refused, rows, counted}
+use Rattle.reports.specs.declared.corners.Corners.{Corners}
+use Rattle.reports.specs.Words.{badLine, refused, rows, numbered, counted}
+use Rattle.reports.specs.Corners.{corners}
 use Rattle.reports.specs.Spans.{rowsOf, heading, rowOf, rowLine, rowLines}
 
--- ---- which rows: the numbers as the code reads them back
+-- ---- which rows
 pub no-rows : (v : Vertices) → v .ok ≡ false → rowsAnswer 0 (pos 0) 0 ≡ rowsOf v
 unfolding rowsOf
 no-rows v e = rw e
 
-module _ (v : Vertices) {x1 y1 x2 y2 x3 y3 : ℤ} (a : x1 ≡ v .x1) (b : y1 ≡ v .y1) (c : x2 ≡ v .x2) (d : y2 ≡ v .y2) (e : x3 ≡ v .x3) (f : y3 ≡ v .y3) where
-  pub some-rows : v .ok ≡ true → rowsAnswer (vertexRefusal (x1, y1) (x2, y2) (x3, y3)) (firstRow (x1, y1) (x2, y2) (x3, y3)) (rowCount (x1, y1) (x2, y2) (x3, y3)) ≡ rowsOf v
+module _ (v : Vertices) (t : Corners) (e : t ≡ corners v) where
+  pub some-rows : v .ok ≡ true → rowsAnswer (vertexRefusal (t .a) (t .b) (t .c)) (firstRow (t .a) (t .b) (t .c)) (rowCount (t .a) (t .b) (t .c)) ≡ rowsOf v
   unfolding rowsOf
-  some-rows o =
-      (λ i. rowsAnswer (vertexRefusal (a i, b i) (c i, d i) (e i, f i)) (firstRow (a i, b i) (c i, d i) (e i, f i)) (rowCount (a i, b i) (c i, d i) (e i, f i)))
-      ∙ rw o
+  some-rows o = (λ i. rowsAnswer (vertexRefusal (e i .a) (e i .b) (e i .c)) (firstRow (e i .a) (e i .b) (e i .c)) (rowCount (e i .a) (e i .b) (e i .c))) ∙ rw o
 
-  pub a-row : {y z : ℤ} → y ≡ z → span (vertexRefusal (x1, y1) (x2, y2) (x3, y3)) (rowSpan (x1, y1) (x2, y2) (x3, y3) y .0) (rowSpan (x1, y1) (x2, y2) (x3, y3) y .1) ≡ rowOf v z
+  pub a-row : {y z : ℤ} → y ≡ z → span (vertexRefusal (t .a) (t .b) (t .c)) (rowSpan (t .a) (t .b) (t .c) y .0) (rowSpan (t .a) (t .b) (t .c) y .1) ≡ rowOf v z
   unfolding rowOf
-  a-row q = λ i. span (vertexRefusal (a i, b i) (c i, d i) (e i, f i)) (rowSpan (a i, b i) (c i, d i) (e i, f i) (q i) .0) (rowSpan (a i, b i) (c i, d i) (e i, f i) (q i) .1)
+  a-row q = λ i. span (vertexRefusal (e i .a) (e i .b) (e i .c)) (rowSpan (e i .a) (e i .b) (e i .c) (q i) .0) (rowSpan (e i .a) (e i .b) (e i .c) (q i) .1)
 
 -- ---- which first line, and how long it is
 module _ (ok : Bool) (r : RowRange) where
@@ -52,11 +52,17 @@ module _ (ok : Bool) (r : RowRange) where
   unfolding heading
   heading-rows e n = rw (e, eq-eqb (r .number) 0 n)
 
-pub counted-length : (word : List ℕ) (n : ℕ) → length (counted word n) ≡ length word + (length (shown n) + 1)
-counted-length word n = length-append word (shown n ++ (10 ∷ [])) ∙ ap (λ (k : ℕ). length word + k) (length-append (shown n) (10 ∷ []))
+pub numbered-length : (n stop : ℕ) → length (numbered n stop) ≡ length (shown n) + 1
+numbered-length n stop = length-append (shown n) (stop ∷ [])
+
+pub numbered-short : (n stop : ℕ) → Fits w32 n → length (numbered n stop) ≤ 11
+numbered-short n stop f = omega (arith, numbered-length n stop, shown-ten n (f .fits))
+
+pub counted-length : (word : List ℕ) (n : ℕ) → length (counted word n) ≡ length word + length (numbered n 10)
+counted-length word n = length-append word (numbered n 10)
 
 pub counted-short : (word : List ℕ) (n : ℕ) → Fits w32 n → length (counted word n) ≤ length word + 11
-counted-short word n f = omega (arith, counted-length word n, shown-ten n (f .fits))
+counted-short word n f = omega (arith, counted-length word n, numbered-short n 10 f)
 
 -- ---- the first row, and those below it
 pub rows-first : (v : Vertices) (y : ℤ) (n : ℕ) → 0 < n → rowLines v y n ≡ rowLine v y ++ rowLines v (y +ℤ pos 1) (n - 1)

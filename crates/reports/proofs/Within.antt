@@ -32,7 +32,8 @@ use Rattle.triangle.proofs.Box.{box-left, box-right}
 use Rattle.text.specs.declared.Vertices.{Vertices}
 use Rattle.text.proofs.Showing.{zero-fits, triple-short}
 use Rattle.reports.specs.Words.{badLine, refused, rows, counted}
-use Rattle.reports.specs.Spans.{corner1, corner2, corner3, refusalOf, rowsOf, heading, rowOf, rowLine, rowLines}
+use Rattle.reports.specs.Corners.{corner1, corner2, corner3, refusalOf}
+use Rattle.reports.specs.Spans.{rowsOf, heading, rowOf, rowLine, rowLines}
 use Rattle.reports.proofs.Report.{counted-short}
 
 -- ---- m rows further on, of n that end at 131,072 or before

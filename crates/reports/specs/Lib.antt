@@ -1,2 +1,4 @@
 pub mod Words
+pub mod Corners
 pub mod Spans
+pub mod Minutes

@@ -4,32 +4,19 @@ use mathlib.Core.List.{List, [], _++_}
 use Prim.Native.Nat.{ℕ, zero, suc}
 use lib.Dec.{eqb}
 use lib.IntN.{ℤ, pos, _+ℤ_}
-use Rattle.geometry.specs.declared.Point.{Point}
 use Rattle.geometry.specs.declared.Span.{Span}
 use Rattle.geometry.specs.Answer.{span}
 use Rattle.triangle.specs.declared.RowRange.{RowRange}
-use Rattle.triangle.specs.Answer.{vertexRefusal, rowsAnswer}
+use Rattle.triangle.specs.Answer.{rowsAnswer}
 use Rattle.triangle.specs.Row.{rowSpan, firstRow, rowCount}
 use Rattle.text.specs.declared.Vertices.{Vertices}
 use Rattle.text.specs.Fields.{fields, readVertices}
 use Rattle.text.specs.Lines.{firstLine}
 use Rattle.text.specs.Show.{triple}
 use Rattle.reports.specs.Words.{badLine, refused, rows, counted}
+use Rattle.reports.specs.Corners.{corner1, corner2, corner3, refusalOf}
 
--- the triangle of six coordinates
-abbrev pub corner1 : Vertices → Point
-corner1 v = (v .x1, v .y1)
-
-abbrev pub corner2 : Vertices → Point
-corner2 v = (v .x2, v .y2)
-
-abbrev pub corner3 : Vertices → Point
-corner3 v = (v .x3, v .y3)
-
-abbrev pub refusalOf : Vertices → ℕ
-refusalOf v = vertexRefusal (corner1 v) (corner2 v) (corner3 v)
-
--- its rows; none where the line is another
+-- the rows of the triangle; none where the line is another
 unfoldable pub rowsOf : Vertices → RowRange
 rowsOf v =
     cond (v .ok)

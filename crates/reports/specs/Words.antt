@@ -1,4 +1,4 @@
--- The words that the programs print (01, the end of "Known small answers"), and a number behind one.
+-- The words that the programs print (those of `spans`: 01, the end of "Known small answers"), and numbers behind them.
 use mathlib.Core.List.{List, [], _∷_, _++_}
 use Prim.Native.Nat.{ℕ}
 use Rattle.text.specs.Show.{shown}
@@ -15,6 +15,22 @@ refused = 114 ∷ 101 ∷ 102 ∷ 117 ∷ 115 ∷ 101 ∷ 100 ∷ 9 ∷ []
 abbrev pub rows : List ℕ
 rows = 114 ∷ 111 ∷ 119 ∷ 115 ∷ 9 ∷ []
 
--- a number behind it, and LF
+-- `bad line`, a tab
+abbrev pub badTab : List ℕ
+badTab = 98 ∷ 97 ∷ 100 ∷ 32 ∷ 108 ∷ 105 ∷ 110 ∷ 101 ∷ 9 ∷ []
+
+-- `inside`, a tab
+abbrev pub inside : List ℕ
+inside = 105 ∷ 110 ∷ 115 ∷ 105 ∷ 100 ∷ 101 ∷ 9 ∷ []
+
+-- `too long`, LF
+abbrev pub tooLong : List ℕ
+tooLong = 116 ∷ 111 ∷ 111 ∷ 32 ∷ 108 ∷ 111 ∷ 110 ∷ 103 ∷ 10 ∷ []
+
+-- a number and the byte behind it
+abbrev pub numbered : ℕ → ℕ → List ℕ
+numbered n stop = shown n ++ (stop ∷ [])
+
+-- a word, and a number and LF behind it
 abbrev pub counted : List ℕ → ℕ → List ℕ
-counted word n = word ++ (shown n ++ (10 ∷ []))
+counted word n = word ++ numbered n 10

@@ -5,9 +5,9 @@ ghost use lib.IntN.{pos, _+ℤ_};
 ghost use lib.Signed.{_≤ℤ_};
 ghost use lib.ListN.{length};
 ghost use lib.Seq.{sets};
-ghost use Rattle.reports.specs.Words.{counted};
 ghost use Rattle.reports.specs.Spans.{rowsOf, heading, rowOf, rowLine, rowLines};
-use geometry::Point;
+use crate::corners::corners_of;
+use crate::words::write_counted;
 use geometry::Span;
 use text::Vertices;
 use triangle::RowRange;
@@ -30,25 +30,16 @@ pub fn rows_of(v: Vertices) -> RowRange
             count: 0,
         };
     }
-    triangle::rows(Point(v.x1, v.y1), Point(v.x2, v.y2), Point(v.x3, v.y3))
+    let t = corners_of(v);
+    triangle::rows(t.a, t.b, t.c)
 }
 
 // The columns of row `y`.
 fn row_of(v: Vertices, y: i32) -> Span
     ensures { λ r. ⌜ r ≡ rowOf v y ⌝ }
 {
-    triangle::row_span(Point(v.x1, v.y1), Point(v.x2, v.y2), Point(v.x3, v.y3), y)
-}
-
-// A word, and a number behind it, in a line.
-fn write_counted(out: &mut [u8], at: usize, word: &[u8], n: u32) -> usize
-    requires { ⌜ at + length (counted (now word) n) ≤ length (now out) ⌝ }
-    ensures { λ r. ⌜ (r ≡ at + length (counted (now (word .entry)) n)) × (now (out .exit) ≡ sets (now (out .entry)) at (counted (now (word .entry)) n)) ⌝ }
-{
-    let middle = text::write_bytes(out, at, word);
-    let end = text::write_u32(out, middle, n);
-    out[end] = b'\n';
-    end + 1
+    let t = corners_of(v);
+    triangle::row_span(t.a, t.b, t.c, y)
 }
 
 // Inside the library: the first line of a report, of at most 19 bytes: what kind of line was read, or how many rows follow.

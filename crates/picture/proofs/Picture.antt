@@ -28,7 +28,7 @@ use Rattle.framebuffer.specs.Description.{raster, size, descriptionRefusal, buf
 use Rattle.framebuffer.proofs.Refusals.{Accepted, is-accepted, is-drawable, sound, frame-nest, refused}
 use Rattle.drawing.proofs.Calls.{number-zero}
 use Rattle.picture.specs.Calls.{Call, setPixel, fillFrame, drawLine, drawTriangle, drawOutline, drawCircle, figureOf, colourOf, numberOf, afterCall, afterCalls, Picture, shown, blank, pictureAfter}
-use Rattle.picture.proofs.Blank.{zeros-read, colour-fits}
+use Rattle.picture.proofs.Blank.{blank-read, colour-fits}
 
 -- a zero-filled buffer of n bytes
 abbrev pub zeros : ℕ → List ℕ
@@ -120,7 +120,7 @@ module _ (f : Frame) (n : ℕ) where
     numbered : (xs ys : List Call)
         → (acts act xs (zeros n) ≡ acts act ys (zeros n)) ↔ ((p : ℕ) → p < f .height * f .width → pictured shows xs (λ q. 0) p ≡ pictured shows ys (λ q. 0) p)
     numbered =
-        abstract.one-picture-one-frame (raster-laws (raster f) (sound f (A .described))) act shows law cols (zeros n) room (λ p l. zeros-read (raster f) n p) (one-le-pow (parts (f .depth)) (2 ^ field (f .depth)) (pow-pos (field (f .depth))))
+        abstract.one-picture-one-frame (raster-laws (raster f) (sound f (A .described))) act shows law cols (zeros n) room (λ p l. blank-read (raster f) n p) (one-le-pow (parts (f .depth)) (2 ^ field (f .depth)) (pow-pos (field (f .depth))))
 
     accepted-case : (xs ys : List Call)
         → (acts act xs (zeros n) ≡ acts act ys (zeros n)) ↔ ((x y : ℕ) → x < f .width → y < f .height → pictureAfter f n xs blank x y ≡ pictureAfter f n ys blank x y)

@@ -1,21 +1,21 @@
 -- Laws of the program's answers: which one a line gets, and that each is at most 72 bytes long. Assumes nothing.
-use mathlib.Core.Path.{_≡_, ap}
+use mathlib.Core.Path.{_≡_}
 use mathlib.Core.Bool.{Bool, true, false, cond}
 use mathlib.Core.List.{List, [], _∷_, _++_}
-use Prim.Native.Nat.{ℕ, _+_, _-_, _≤_, _<_}
+use Prim.Native.Nat.{ℕ, _+_, _≤_, _<_}
 use native.Mathlib.Omega.{arith}
 use lib.Dec.{leb, eqb, lit<}
 use lib.IntN.{ℤ, pos}
-use lib.ListN.{length, take, drop, length-append}
+use lib.ListN.{length, length-append}
 use lib.Seq.{length-sets}
 use borrow.Author.Tests.{le-leb, lt-leb, eq-eqb, ne-eqb, leb-true}
 use mir.Syntax.{w32}
 use mir.Val.{Fits, SFits}
-use Rattle.text.specs.Fields.{until, fields, fieldAt, nextU32, number, exactly, readPlace, readVertices}
-use Rattle.text.specs.Lines.{lineEnd, lineAt, handled}
-use Rattle.text.specs.Show.{shown, shownSigned, field, triple}
+use Rattle.text.specs.Fields.{fields, fieldAt, nextU32, number, exactly, readPlace, readVertices}
+use Rattle.text.specs.Lines.{handled}
+use Rattle.text.specs.Show.{shown, field, triple}
 use Rattle.text.proofs.Reading.{i32-fits, u32-fits}
-use Rattle.text.proofs.Showing.{shown-ten, shown-eleven}
+use Rattle.text.proofs.Showing.{shown-ten, field-twelve}
 use Rattle.text.proofs.Streaming.{handled-keeps}
 use Rattle.text.proofs.Writing.{triple-parts}
 use Rattle.numbers.specs.Answer.{badLine, verticesLine, placeLine, countLine, answer, answered, room}
@@ -44,11 +44,8 @@ module _ (line : List ℕ) (short : length line ≤ 128) where
   answer-bad e p q = rw (le-leb (length line) 128 short, e, p, ne-eqb (nextU32 line 0 .next) (length line + 1) q)
 
 -- ---- how long it is
-field-short : (z : ℤ) (stop : ℕ) → SFits w32 z → length (field z stop) ≤ 12
-field-short z stop f = omega (arith, shown-eleven z f, length-append (shownSigned z) (stop ∷ []))
-
 triple-short : (a b c : ℤ) (stop : ℕ) → SFits w32 a → SFits w32 b → SFits w32 c → length (triple a b c stop) ≤ 36
-triple-short a b c stop f g h = omega (arith, triple-parts a b c stop, field-short a 9 f, field-short b 9 g, field-short c stop h)
+triple-short a b c stop f g h = omega (arith, triple-parts a b c stop, field-twelve a 9 f, field-twelve b 9 g, field-twelve c stop h)
 
 zero-fits : SFits w32 (pos 0)
 zero-fits = record { sfits = lit< tt }
@@ -71,7 +68,7 @@ unfolding readPlace
 place-short fs = by (exactly 2 fs)
   where
     two : (a b : ℤ) → SFits w32 a → SFits w32 b → length (field a 9 ++ field b 10) ≤ 24
-    two a b f g = omega (arith, length-append (field a 9) (field b 10), field-short a 9 f, field-short b 10 g)
+    two a b f g = omega (arith, length-append (field a 9) (field b 10), field-twelve a 9 f, field-twelve b 10 g)
 
     by : (t : Bool) → length (placeLine (cond t (record { ok = true; x = number fs 0 .value; y = number fs 1 .value }) (record { ok = false; x = pos 0; y = pos 0 }))) ≤ 24
     by true = two _ _ (i32-fits _) (i32-fits _)
@@ -102,10 +99,3 @@ answered-within o line r = rw (length-sets (o .1) (o .0) (answer line)) (omega (
 
 pub lines-within : (s : List ℕ) (turns at : ℕ) (o : ℕ × List ℕ) → o .0 ≤ length (o .1) → handled room answered s turns at o .1 .0 ≤ length (handled room answered s turns at o .1 .1)
 lines-within s turns at o h = handled-keeps answered room (λ (p : ℕ × List ℕ). p .0 ≤ length (p .1)) (λ p l r q. answered-within p l r) s turns at o h
-
--- ---- a line, as the code lends it
-pub line-is : (s : List ℕ) (at end : ℕ) → end ≡ lineEnd s at → take (end - at) (drop at s) ≡ lineAt s at
-line-is s at end e = ap (λ (k : ℕ). take k (drop at s)) count
-  where
-    count : end - at ≡ until 10 (drop at s)
-    count = omega arith

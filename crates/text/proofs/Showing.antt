@@ -16,7 +16,7 @@ use mir.Val.{Fits, SFits}
 use Rattle.whole.proofs.Difference.{lt-nat}
 use Rattle.text.specs.Digits.{isDigit, allDigits, withDigit, valueFrom, digitsValue}
 use Rattle.text.proofs.Reading.{digit-yes, signed-plain}
-use Rattle.text.specs.Show.{lastDigit, shownBy, shown, lastDigits, shownSigned}
+use Rattle.text.specs.Show.{lastDigit, shownBy, shown, lastDigits, shownSigned, field}
 use Rattle.text.specs.Read.{unsigned, readDigits, readU32, readSigned, readI32, negated}
 
 -- ---- turns to spare change nothing
@@ -155,3 +155,7 @@ shown-plus (negsuc n) h = absurd (h .le)
 pub shown-eleven : (z : ℤ) → SFits w32 z → length (shownSigned z) ≤ 11
 shown-eleven (pos n) f = omega (arith, shown-ten n (omega (arith, f .sfits)))
 shown-eleven (negsuc n) f = omega (arith, shown-ten (suc n) (omega (arith, f .sfits)))
+
+-- with the byte behind it
+pub field-twelve : (z : ℤ) (stop : ℕ) → SFits w32 z → length (field z stop) ≤ 12
+field-twelve z stop f = omega (arith, shown-eleven z f, length-append (shownSigned z) (stop ∷ []))

@@ -9,10 +9,9 @@ use borrow.Author.Needs.{needs}
 use borrow.Author.Tests.{leb-true, not-true, not-false}
 use Rattle.text.specs.Lines.{lineEnd, handled}
 use Rattle.text.proofs.Parting.{part-end-within}
-use Rattle.text.proofs.Streaming.{handled-turn, handled-none, handled-full}
+use Rattle.text.proofs.Streaming.{handled-turn, handled-none, handled-full, line-is}
 use Rattle.text.proofs.Writing.{wrote-as}
 use Rattle.numbers.specs.Answer.{answer, answered, room}
-use Rattle.numbers.proofs.Answers.{line-is}
 use Rattle.numbers.proofs.lines.answer_lines.Statement.{statement}
 use Rattle.numbers.proofs.lines.answer_lines.Tie as tie
 

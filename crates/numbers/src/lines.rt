@@ -1,7 +1,6 @@
 // The lines of a part of the input, answered one after the other.
 ghost use mathlib.Core.Path.{_≡_};
-ghost use Prim.Native.Nat.{_+_, _≤_};
-ghost use lib.Dec.{leb};
+ghost use Prim.Native.Nat.{_≤_};
 ghost use lib.ListN.{length};
 ghost use Rattle.text.specs.Lines.{handled};
 ghost use Rattle.numbers.specs.Answer.{answered, room};
@@ -11,16 +10,6 @@ use crate::answer::answer_line;
 pub struct Progress {
     pub next: usize,
     pub at: usize,
-}
-
-// Whether an output of `length` bytes, filled up to `at`, has room for the longest answer.
-fn has_room(length: usize, at: usize) -> bool
-    ensures { λ r. ⌜ r ≡ leb (at + 72) length ⌝ }
-{
-    if length < 72 {
-        return false;
-    }
-    at <= length - 72
 }
 
 // Inside the library: answers the lines of `input` that an LF ends, from `from` on, as long as there is room for the longest answer; `out` is filled up to `at`.
@@ -35,7 +24,7 @@ pub fn answer_lines(input: &[u8], from: usize, out: &mut [u8], at: usize) -> Pro
         if end == input.len() {
             return Progress { next, at: filled };
         }
-        if !has_room(out.len(), filled) {
+        if !text::has_room(out.len(), filled, 72) {
             return Progress { next, at: filled };
         }
         filled = answer_line(&input[next..end], out, filled);

@@ -2,13 +2,11 @@
 use mathlib.Core.Path.{_≡_, ap, ap₂, _∙_}
 use mathlib.Core.Bool.{true, false}
 use mathlib.Core.List.{List}
-use Prim.Native.Nat.{ℕ, _+_, _-_, _≤_, _<_}
-use native.Mathlib.Omega.{arith}
-use lib.ListN.{length, take, drop}
+use Prim.Native.Nat.{ℕ, _+_, _≤_, _<_}
+use lib.ListN.{length}
 use lib.Seq.{sets}
 use borrow.Author.Tests.{le-leb, lt-leb}
 use Rattle.text.specs.Fields.{until}
-use Rattle.text.specs.Lines.{lineEnd, lineAt}
 use Rattle.text.proofs.Writing.{Wrote}
 use Rattle.replay.specs.Dump.{dumpLine}
 use Rattle.replay.specs.Lines.{Left, Session, wordOf, turned, answer, answered}
@@ -35,10 +33,3 @@ pub is-answered : (s : Session) (said : List ℕ) {bytes : List ℕ} {left : Lef
 is-answered s said {bytes} {left} {r} {out} e w =
     ap₂ {C = Session} (λ k o. ((k, o), left)) (w .0) (w .1)
     ∙ ap {B = Session} (λ (a : List ℕ × Left). ((s .0 .0 + length (a .0), sets (s .0 .1) (s .0 .0) (a .0)), a .1)) e
-
--- ---- a line, as the code lends it
-pub line-is : (s : List ℕ) (at end : ℕ) → end ≡ lineEnd s at → take (end - at) (drop at s) ≡ lineAt s at
-line-is s at end e = ap (λ (k : ℕ). take k (drop at s)) count
-  where
-    count : end - at ≡ until 10 (drop at s)
-    count = omega arith

@@ -1,16 +1,10 @@
 -- A line that ends where its last number does is answered, and any other is bad. Assumes nothing.
 use mathlib.Core.Path.{_≡_, sym, ap, ap₂, _∙_}
 use mathlib.Core.Bool.{Bool, true, false, cond, not}
-use mathlib.Core.List.{List, [], _∷_}
-use Prim.Native.Nat.{ℕ, _≤_}
-use native.Mathlib.Omega.{arith}
+use mathlib.Core.List.{List}
+use Prim.Native.Nat.{ℕ}
 use lib.IntN.{ℤ}
-use lib.ListN.{length, length-append}
 use borrow.Author.Tests.{not-true, not-false}
-use mir.Syntax.{w32}
-use mir.Val.{SFits}
-use Rattle.text.specs.Show.{shownSigned, field}
-use Rattle.text.proofs.Showing.{shown-eleven}
 use Rattle.framebuffer.specs.declared.Drawn.{Drawn}
 use Rattle.framebuffer.specs.declared.Frame.{Frame}
 use Rattle.framebuffer.specs.Answer.{drawn}
@@ -38,7 +32,3 @@ pub is-drawn : (f : Frame) (figure : ℤ → ℤ → Bool) (colour : ℕ) (b : L
     → _≡_ {A = Reply × List ℕ} (Number (d .number), left) (Number number, afterDraw f number figure colour b)
 is-drawn f figure colour b e l =
     ap₂ {C = Reply × List ℕ} (λ n m. (Number n, m)) (ap (λ (x : Drawn). x .number) e) (l ∙ ap (λ (x : Drawn). afterDraw f (x .number) figure colour b) e)
-
--- ---- how long a signed number is, with the byte behind it
-pub field-short : (z : ℤ) (stop : ℕ) → SFits w32 z → length (field z stop) ≤ 12
-field-short z stop f = omega (arith, shown-eleven z f, length-append (shownSigned z) (stop ∷ []))

@@ -1,7 +1,6 @@
 // The lines of a part of the input, answered one after the other.
 ghost use mathlib.Core.Path.{_≡_};
 ghost use Prim.Native.Nat.{_+_, _≤_};
-ghost use lib.Dec.{leb};
 ghost use lib.ListN.{length};
 ghost use Rattle.text.specs.Lines.{handled};
 ghost use Rattle.replay.specs.Lines.{answered, room};
@@ -56,16 +55,6 @@ pub fn answer_line(
     }
 }
 
-// Whether an output of `length` bytes, filled up to `at`, has room for the longest answer.
-fn has_room(length: usize, at: usize) -> bool
-    ensures { λ r. ⌜ r ≡ leb (at + 8193) length ⌝ }
-{
-    if length < 8193 {
-        return false;
-    }
-    at <= length - 8193
-}
-
 // Inside the library: answers the lines of `input` that an LF ends, from `from` on, as long as there is room for the longest answer; `out` is filled up to `at`.
 pub fn answer_lines(
     input: &[u8],
@@ -90,7 +79,7 @@ pub fn answer_lines(
                 at: filled,
             };
         }
-        if !has_room(out.len(), filled) {
+        if !text::has_room(out.len(), filled, 8193) {
             return Progress {
                 next,
                 screen: current,

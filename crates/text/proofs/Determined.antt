@@ -1,8 +1,10 @@
 -- Any two results that a contract of this crate allows are equal: each gives the result, and the buffer afterwards, as the value of a definition.
 -- Assumes nothing.
 use mathlib.Core.Path.{_≡_, sym, _∙_}
+use mathlib.Core.Bool.{Bool}
 use mathlib.Core.List.{List}
 use Prim.Native.Nat.{ℕ, _+_}
+use lib.Dec.{leb}
 use lib.IntN.{ℤ}
 use lib.ListN.{length, drop}
 use lib.Seq.{sets}
@@ -54,6 +56,9 @@ read-vertices line = one
 
 pub first-vertices : (input : List ℕ) (r q : Vertices) → r ≡ readVertices (fields (firstLine input)) → q ≡ readVertices (fields (firstLine input)) → r ≡ q
 first-vertices input = one
+
+pub has-room : (length at most : ℕ) (r q : Bool) → r ≡ leb (at + most) length → q ≡ leb (at + most) length → r ≡ q
+has-room length at most = one
 
 -- ---- writing: the next place and the buffer, for a text s
 written : (buf : List ℕ) (at : ℕ) (s : List ℕ) (r q : ℕ) (out end : List ℕ) → Wrote buf at s r out → Wrote buf at s q end → (r ≡ q) × (out ≡ end)

@@ -215,3 +215,10 @@ module _ {S : Type 0} (f : S → List ℕ → S) where
       ∙ sym (over-cut cut blind (taken f s st .1) (drop (taken f s st .0) s) (whole more) (handled-all s (length s) 0 st (omega arith) (omega arith)))
       ∙ sym (handled-over (λ (x : S). true) s (whole more) (length s) 0 st)
       ∙ ap (over f st) (append-assoc kept part (whole more))
+
+-- ---- a line, as code lends it
+pub line-is : (s : List ℕ) (at end : ℕ) → end ≡ lineEnd s at → take (end - at) (drop at s) ≡ lineAt s at
+line-is s at end e = ap (λ (k : ℕ). take k (drop at s)) count
+  where
+    count : end - at ≡ until 10 (drop at s)
+    count = omega arith

@@ -16,6 +16,7 @@ pub use read::read_digits;
 pub use read::read_i32;
 pub use read::read_signed;
 pub use read::read_u32;
+pub use write::has_room;
 pub use write::write_bytes;
 pub use write::write_field;
 pub use write::write_i32;

@@ -1,10 +1,21 @@
 // Writing text into a lent buffer, from a place on. Each function answers the next place, and leaves every byte but its own as it was.
 ghost use mathlib.Core.Path.{_≡_};
 ghost use Prim.Native.Nat.{_+_, _≤_};
+ghost use lib.Dec.{leb};
 ghost use lib.IntN.{natAbs};
 ghost use lib.ListN.{length};
 ghost use lib.Seq.{sets};
 ghost use Rattle.text.specs.Show.{shown, lastDigits, shownSigned, field, triple};
+
+// Whether a buffer of `length` bytes that is filled up to `at` has room for `most` more.
+pub fn has_room(length: usize, at: usize, most: usize) -> bool
+    ensures { λ r. ⌜ r ≡ leb (at + most) length ⌝ }
+{
+    if length < most {
+        return false;
+    }
+    at <= length - most
+}
 
 // How many digits the text of `v` has.
 fn digit_count(v: u32) -> usize

@@ -27,7 +27,7 @@ returns c =
     let said = s .args .said .now in
     let l : Left = (s .args .screen, s .args .memory .now) in
     let o : Session = ((s .args .at, s .args .out .now), l) in
-    (is-answered o said (answer-long said l (c .before .before .before .before .if1 .taken)) (c .before .before .write-bad .ensures), omega (arith, c .before .before .write-bad .ensures .0))
+    (is-answered o said (answer-long said l (omega (arith, c .before .before .before .before .if1 .taken))) (c .before .before .write-bad .ensures), omega (arith, c .before .before .write-bad .ensures .0))
 
 find-requires : tie.Need-find-requires
 find-requires c κs = search needs
@@ -63,7 +63,7 @@ returns-2 c =
     let d = c .before .before .dump .ensures in (
       is-answered o said
           (ap {B = List ℕ × Left} (λ (k : ℕ). (dumpLine said (k + 1) (l .1), l)) e
-          ∙ answer-dump said l (c .before .before .before .before .before .before .before .before .before .before .if1 .left) (ap (λ (k : ℕ). sameWord (take k said) dumpWord) (sym e) ∙ sym (c .before .before .before .before .before .before .same .ensures) ∙ c .before .before .before .before .before .if2 .taken))
+          ∙ answer-dump said l (omega (arith, c .before .before .before .before .before .before .before .before .before .before .if1 .left)) (ap (λ (k : ℕ). sameWord (take k said) dumpWord) (sym e) ∙ sym (c .before .before .before .before .before .before .same .ensures) ∙ c .before .before .before .before .before .if2 .taken))
           (d .0, d .1),
       d .2,
     )
@@ -93,7 +93,7 @@ returns-3 c =
     let d = c .before .before .write-reply .ensures in (
       is-answered o said
           (ap turned (c .before .before .before .before .before .before .before .respond .ensures) ∙ ap (λ (k : ℕ). turned (response (take k said) said (k + 1) (l .0) (l .1))) e
-          ∙ answer-turn said l (c .before .before .before .before .before .before .before .before .before .before .before .before .before .before .if1 .left) (ap (λ (k : ℕ). sameWord (take k said) dumpWord) (sym e) ∙ sym (c .before .before .before .before .before .before .before .before .before .before .same .ensures) ∙ c .before .before .before .before .before .before .before .before .before .if2 .left))
+          ∙ answer-turn said l (omega (arith, c .before .before .before .before .before .before .before .before .before .before .before .before .before .before .if1 .left)) (ap (λ (k : ℕ). sameWord (take k said) dumpWord) (sym e) ∙ sym (c .before .before .before .before .before .before .before .before .before .before .same .ensures) ∙ c .before .before .before .before .before .before .before .before .before .if2 .left))
           (d .0, d .1),
       omega (arith, d .2),
     )

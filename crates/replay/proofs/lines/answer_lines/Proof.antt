@@ -8,10 +8,9 @@ use borrow.Author.Needs.{needs}
 use borrow.Author.Tests.{not-true, not-false, leb-true}
 use Rattle.replay.specs.Lines.{Session, answered, room}
 use Rattle.text.proofs.Parting.{part-end-within}
-use Rattle.replay.proofs.Answers.{line-is}
 use Rattle.replay.proofs.Lent.{answer-lent}
 use Rattle.text.specs.Lines.{lineEnd, lineAt, handled}
-use Rattle.text.proofs.Streaming.{handled-turn, handled-none, handled-full}
+use Rattle.text.proofs.Streaming.{handled-turn, handled-none, handled-full, line-is}
 use Rattle.replay.proofs.lines.answer_lines.Statement.{statement}
 use Rattle.replay.proofs.lines.answer_lines.Tie as tie
 

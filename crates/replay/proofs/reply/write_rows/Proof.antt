@@ -5,7 +5,7 @@ use native.Mathlib.Omega.{arith}
 use Rattle.text.specs.Show.{field}
 use Rattle.text.proofs.Writing.{Wrote, at-field, wrote-then}
 use Rattle.replay.specs.Reply.{natural}
-use Rattle.replay.proofs.Replies.{field-short}
+use Rattle.text.proofs.Showing.{field-short}
 use mir.Facts.{toZ-ofZ}
 use Rattle.replay.proofs.reply.write_rows.Statement.{statement}
 use Rattle.replay.proofs.reply.write_rows.Tie as tie

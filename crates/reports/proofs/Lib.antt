@@ -1,3 +1,4 @@
 pub mod Report
 pub mod Within
 pub mod Counting
+pub mod Determined

@@ -107,7 +107,7 @@ pub fn count_minutes(input: &[u8]) -> Count
 // Inside the library: what `minutes` prints, a line of at most 29 bytes.
 pub fn write_count(out: &mut [u8], at: usize, k: Count) -> usize
     requires { ⌜ at + 29 ≤ length (now out) ⌝ }
-    ensures { λ r. ⌜ (r ≡ at + length (countLine k)) × (now (out .exit) ≡ sets (now (out .entry)) at (countLine k)) ⌝ }
+    ensures { λ r. ⌜ (r ≡ at + length (countLine k)) × (now (out .exit) ≡ sets (now (out .entry)) at (countLine k)) × (r ≤ at + 29) ⌝ }
 {
     if k.long {
         return text::write_bytes(out, at, b"too long\n");

@@ -20,7 +20,10 @@ same-length : tie.Need-same-length
 same-length c = search needs
 
 returns : tie.Need-returns
-returns c = let g = c .before .before .before .before .before .before .before .args in wrote-as (g .out .now) (g .at) (line-long (g .k) (c .before .before .before .before .before .if1 .taken)) (c .before .before .write-bytes .ensures)
+returns c =
+    let g = c .before .before .before .before .before .before .before .args in
+    let w = wrote-as (g .out .now) (g .at) (line-long (g .k) (c .before .before .before .before .before .if1 .taken)) (c .before .before .write-bytes .ensures) in
+    (w .0, w .1, omega (arith, c .before .before .write-bytes .ensures .0))
 
 slice-aggregate-write-counted : tie.Need-slice-aggregate-write-counted
 slice-aggregate-write-counted c = search needs
@@ -34,7 +37,8 @@ same-length-2 c = search needs
 returns-2 : tie.Need-returns-2
 returns-2 c =
     let g = c .before .before .before .before .before .before .before .before .before .args in
-    wrote-as (g .out .now) (g .at) (line-refused (g .k) (c .before .before .before .before .before .before .before .if1 .left) (c .before .before .before .before .before .if2 .taken)) (c .before .before .write-counted .ensures)
+    let w = wrote-as (g .out .now) (g .at) (line-refused (g .k) (c .before .before .before .before .before .before .before .if1 .left) (c .before .before .before .before .before .if2 .taken)) (c .before .before .write-counted .ensures) in
+    (w .0, w .1, omega (arith, c .before .before .write-counted .ensures .0, counted-short refused (g .k .number) (c .before .before .before .before .before .before .struct-known .given .0)))
 
 slice-aggregate-write-counted-2 : tie.Need-slice-aggregate-write-counted-2
 slice-aggregate-write-counted-2 c = search needs
@@ -48,7 +52,8 @@ same-length-3 c = search needs
 returns-3 : tie.Need-returns-3
 returns-3 c =
     let g = c .before .before .before .before .before .before .before .before .before .before .before .args in
-    wrote-as (g .out .now) (g .at) (line-spoiled (g .k) (c .before .before .before .before .before .before .before .before .before .if1 .left) (c .before .before .before .before .before .before .before .if2 .left) (c .before .before .before .before .before .if3 .taken)) (c .before .before .write-counted2 .ensures)
+    let w = wrote-as (g .out .now) (g .at) (line-spoiled (g .k) (c .before .before .before .before .before .before .before .before .before .if1 .left) (c .before .before .before .before .before .before .before .if2 .left) (c .before .before .before .before .before .if3 .taken)) (c .before .before .write-counted2 .ensures) in
+    (w .0, w .1, omega (arith, c .before .before .write-counted2 .ensures .0, counted-short badTab (g .k .bad) (c .before .before .before .before .before .before .struct-known2 .given .1 .1 .0)))
 
 slice-aggregate-write-bytes-2 : tie.Need-slice-aggregate-write-bytes-2
 slice-aggregate-write-bytes-2 c = search needs
@@ -71,9 +76,13 @@ same-length-4 c = c .before .before .write-number2 .kept .0 ∙ (c .before .befo
 returns-4 : tie.Need-returns-4
 returns-4 c =
     let g = c .before .before .before .before .before .before .before .before .before .before .before .before .before .before .before .before .before .before .before .args in
+    let f = c .before .before .before .before .before .before .before .before .before .before .before .before .before .before .struct-known2 .given .1 .1 .1 in
+    let w =
     wrote-as (g .out .now) (g .at) (line-inside (g .k) (c .before .before .before .before .before .before .before .before .before .before .before .before .before .before .before .before .before .if1 .left) (c .before .before .before .before .before .before .before .before .before .before .before .before .before .before .before .if2 .left) (c .before .before .before .before .before .before .before .before .before .before .before .before .before .if3 .left))
     (wrote-then (g .out .now) (g .at) inside (numbered (g .k .inside) 9 ++ numbered (g .k .samples) 10) (c .before .before .before .before .before .before .before .before .before .before .write-bytes2 .ensures)
     (wrote-then (c .before .before .before .before .before .before .before .before .before .before .write-bytes2 .last .0) (c .before .before .before .before .before .before .before .before .before .before .write-bytes2 .result) (numbered (g .k .inside) 9) (numbered (g .k .samples) 10) (c .before .before .before .before .before .before .write-number .ensures) (c .before .before .write-number2 .ensures)))
+    in
+    (w .0, w .1, omega (arith, c .before .before .before .before .before .before .before .before .before .before .write-bytes2 .ensures .0, c .before .before .before .before .before .before .write-number .ensures .0, c .before .before .write-number2 .ensures .0, numbered-short (g .k .inside) 9 (f .0), numbered-short (g .k .samples) 10 (f .1 .0)))
 
 pub write-count-spec : {M : Type 1} → statement M
 write-count-spec =

@@ -7,9 +7,7 @@ use native.Mathlib.Omega.{arith}
 use lib.ListN.{length, drop, length-drop, drop-of-length-le}
 use lib.Seq.{drop-drop}
 use borrow.Author.Tests.{lt-ltb, le-ltb, eq-eqb, ne-eqb}
-use Rattle.geometry.specs.declared.Verdict.{Verdict}
 use Rattle.geometry.specs.Answer.{verdict}
-use Rattle.triangle.specs.Answer.{vertexRefusal}
 use Rattle.triangle.specs.Triangle.{contained}
 use Rattle.text.specs.declared.Place.{Place}
 use Rattle.text.specs.declared.Vertices.{Vertices}
@@ -17,9 +15,8 @@ use Rattle.text.specs.Fields.{until, fields, lines, readPlace}
 use Rattle.text.specs.Lines.{lineEnd, lineAt, firstLine, each}
 use Rattle.text.proofs.Streaming.{first-line}
 use Rattle.reports.specs.declared.Count.{Count}
-use Rattle.reports.specs.declared.corners.Corners.{Corners}
 use Rattle.reports.specs.Words.{tooLong, refused, badTab, inside, numbered, counted}
-use Rattle.reports.specs.Corners.{corners, refusalOf}
+use Rattle.reports.specs.Corners.{refusalOf}
 use Rattle.reports.specs.Minutes.{overlong, refusedBy, badAt, tally, insideOne, withLine, samplesOf, wedge, behindFirst, unless, minutes, countLine}
 
 -- ---- the lines from a place on

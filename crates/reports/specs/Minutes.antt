@@ -1,6 +1,6 @@
 -- What `minutes` counts: the first line of an input is the wedge, six coordinates, and each further line a sample, a pixel of second and Mbit/s.
 -- What goes wrong first is what is said: an input past 65,536 bytes, then the wedge's line, its refusal, and the first line that is no sample.
-use mathlib.Core.Bool.{Bool, true, false, cond}
+use mathlib.Core.Bool.{true, false, cond}
 use mathlib.Core.List.{List, _++_}
 use Prim.Native.Nat.{ℕ, zero, suc, _+_}
 use lib.Dec.{eqb, ltb}

@@ -11,6 +11,7 @@ pub struct Corners {
     pub c: Point,
 }
 
+// Inside the library: the triangle of six coordinates.
 pub fn corners_of(v: Vertices) -> Corners
     ensures { λ r. ⌜ r ≡ corners v ⌝ }
 {

@@ -12,7 +12,7 @@ use borrow.Author.Needs.{needs}
 use Rattle.whole.proofs.Machine.{field-back}
 use Rattle.triangle.specs.declared.RowRange.{RowRange}
 use Rattle.text.proofs.Writing.{wrote-then, wrote-as}
-use Rattle.reports.specs.Spans.{rowsOf, heading, rowLines}
+use Rattle.reports.specs.Spans.{heading, rowLines}
 use Rattle.reports.proofs.Within.{heading-short}
 use Rattle.spans_lines.specs.Answer.{cut}
 use Rattle.spans_lines.proofs.Within.{cut-below}

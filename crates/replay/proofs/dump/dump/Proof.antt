@@ -75,7 +75,7 @@ returns-2 c =
     let n = c .before .before .before .before .before .before .before .before .before .next-u322 .result .value in
     let t = isLast (s .args .said .now) (c .before .before .before .before .before .before .before .before .before .next-u322 .result .next) && leb n 4096 in
     let w = wrote-as (s .args .out .now) (s .args .to)
-    (ap (λ (b : Bool). cond b (hexText (take n (drop f (s .args .memory .now))) ++ (10 ∷ [])) badLine) (sym (ap (λ (b : Bool). t && b) (lt-leb (f + n) (length (s .args .memory .now)) (c .before .before .before .before .if2 .taken)) ∙ and-false t))
+    (ap (λ (b : Bool). cond b (hexText (take n (drop f (s .args .memory .now))) ++ (10 ∷ [])) badLine) (sym (ap (λ (b : Bool). t && b) (lt-leb (f + n) (length (s .args .memory .now)) (omega (arith, c .before .before .before .before .if2 .taken))) ∙ and-false t))
     ∙ then-read (dumpBy (s .args .said .now) (s .args .memory .now)) (λ (n : NextU32). nextU32 (s .args .said .now) (n .next)) (c .before .before .before .before .before .before .before .before .before .before .next-u32 .ensures) (c .before .before .before .before .before .before .before .before .before .next-u322 .ensures))
     (c .before .before .write-bad2 .ensures) in
     (w .0, w .1, omega (arith, c .before .before .write-bad2 .ensures .0))
@@ -117,7 +117,7 @@ returns-3 c =
     let count : f + n - f ≡ n = omega arith in
     let w = wrote-as (s .args .out .now) (s .args .to)
     (ap (λ (n : ℕ). hexText (take n (drop f (s .args .memory .now))) ++ (10 ∷ [])) count
-    ∙ ap₂ (λ (a b : Bool). cond (a && b) (hexText (take n (drop f (s .args .memory .now))) ++ (10 ∷ [])) badLine) (sym (not-false _ (c .before .before .before .before .before .before .before .before .if1 .left)) ∙ c .before .before .before .before .before .before .before .before .before .ends-within .ensures) (sym (le-leb (f + n) (length (s .args .memory .now)) (c .before .before .before .before .before .if2 .left)))
+    ∙ ap₂ (λ (a b : Bool). cond (a && b) (hexText (take n (drop f (s .args .memory .now))) ++ (10 ∷ [])) badLine) (sym (not-false _ (c .before .before .before .before .before .before .before .before .if1 .left)) ∙ c .before .before .before .before .before .before .before .before .before .ends-within .ensures) (sym (le-leb (f + n) (length (s .args .memory .now)) (omega (arith, c .before .before .before .before .before .if2 .left))))
     ∙ then-read (dumpBy (s .args .said .now) (s .args .memory .now)) (λ (n : NextU32). nextU32 (s .args .said .now) (n .next)) (c .before .before .before .before .before .before .before .before .before .before .before .next-u32 .ensures) (c .before .before .before .before .before .before .before .before .before .before .next-u322 .ensures))
     (wrote-byte (s .args .out .now) (s .args .to) (hexText part) 10 (c .before .before .write-hex .ensures)) in
     (w .0, w .1, omega (arith, few (c .before .before .before .before .before .before .before .before), hex-count part, length-take (f + n - f) (drop f (s .args .memory .now)), c .before .before .write-hex .ensures .0))

@@ -60,6 +60,7 @@ fn write_rows(out: &mut [u8], at: usize, number: u32, first: i32, count: u32) ->
     write_natural(out, third, count, b'\n')
 }
 
+// Inside the library: the answer to a line that is no request.
 pub fn write_bad(out: &mut [u8], at: usize) -> usize
     requires { ⌜ at + 9 ≤ length (now out) ⌝ }
     ensures { λ r. ⌜ (r ≡ at + 9) × (now (out .exit) ≡ sets (now (out .entry)) at badLine) ⌝ }

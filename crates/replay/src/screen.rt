@@ -105,7 +105,7 @@ fn read(said: &[u8], at: usize, buf: &[u8], frame: Frame) -> Reply
     Reply::Count(found.number, found.colour)
 }
 
-// Does what the line says that starts with the word, all but `dump`. Calls are made on the lent part of the buffer.
+// Inside the library: does what the line says that starts with the word, all but `dump`. Calls are made on the lent part of the buffer.
 pub fn respond(word: &[u8], said: &[u8], at: usize, memory: &mut [u8], screen: Screen) -> Turn
     requires { ⌜ screen .lent ≤ length (now memory) ⌝ }
     ensures { λ r. ⌜ (r, now (memory .exit)) ≡ response (now (word .entry)) (now (said .entry)) at screen (now (memory .entry)) ⌝ }

@@ -6,7 +6,7 @@ use mathlib.Core.Logic.{_⊎_, inl, inr}
 use Prim.Native.Nat.{ℕ, _≤_, _<_}
 use native.Mathlib.Omega.{arith}
 use lib.Dec.{ltb, le→leb}
-use lib.IntN.{ℤ, pos, negsuc}
+use lib.IntN.{ℤ, pos, negsuc, natAbs}
 use lib.Signed.{leZ, ltZ, _≤ℤ_}
 use borrow.Author.Tests.{ltb-true, leb-true, lt-ltb, le-ltb, le-leb}
 use Rattle.layout.specs.Figure.{rowSpan}
@@ -18,10 +18,10 @@ use Rattle.layout.proofs.Painted.{painted-cong, painted-none}
 use Rattle.framebuffer.specs.declared.Frame.{Frame}
 use Rattle.framebuffer.specs.declared.Pane.{Pane}
 use Rattle.framebuffer.specs.Description.{raster}
-use Rattle.framebuffer.specs.Rectangle.{Within, inPane, inside}
-use Rattle.framebuffer.specs.Words.{columnOf, clipped}
+use Rattle.framebuffer.specs.Rectangle.{Within, isBetween, inPane, inside}
+use Rattle.framebuffer.specs.Words.{clipped}
 use Rattle.framebuffer.proofs.Refusals.{Described, sound}
-use Rattle.framebuffer.proofs.Panes.{pane-in, in-pane}
+use Rattle.framebuffer.proofs.Panes.{between-pos, between-in, pane-in}
 
 -- ---- the nearest number of low to high
 -- below, above, and between
@@ -86,19 +86,17 @@ module _ (x : ℤ) (low high u : ℕ) (h : low ≤ u) (k : u < high) where
 
 -- ---- the span that is left
 module _ (f : Frame) (D : Described f) (colour : ℕ) (b : List ℕ) (q : Pane) (y start end : ℤ) (W : Within q f) where
+  -- the figure has places on row y alone
+  on-row : (u v : ℕ) → rowSpan y start end (pos u) (pos v) ≡ true → pos v ≡ y
+  on-row u v e = eqZ-true (pos v) y (and-true (leZ start (pos u) && ltZ (pos u) end) (eqZ (pos v) y) e .1)
+
   -- no row of the rectangle
-  pub row-off : (columnOf y < q .top) ⊎ (q .bottom ≤ columnOf y) → b ≡ painted (raster f) (inside q (rowSpan y start end)) colour b
+  pub row-off : isBetween y (q .top) (q .bottom) ≡ false → b ≡ painted (raster f) (inside q (rowSpan y start end)) colour b
   row-off h =
       sym (painted-none (raster f) (sound f D) colour b _ (λ u v hu hv. fails _ (λ e.
       let p = and-true (inPane q (pos u) (pos v)) (rowSpan y start end (pos u) (pos v)) e in
-      let s = and-true (leZ start (pos u) && ltZ (pos u) end) (eqZ (pos v) y) (p .1) in
-      let r = pane-in q u v (p .0) .1 in
-      let i : v ≡ columnOf y = ap columnOf (eqZ-true (pos v) y (s .1)) in
-      no u v r i h)))
-    where
-      no : (u v : ℕ) → (q .top ≤ v) × (v < q .bottom) → v ≡ columnOf y → (columnOf y < q .top) ⊎ (q .bottom ≤ columnOf y) → ⊥
-      no u v r i (inl l) = let s = r .0 in omega arith
-      no u v r i (inr l) = let s = r .1 in omega arith
+      let r = and-true (isBetween (pos u) (q .left) (q .right)) (isBetween (pos v) (q .top) (q .bottom)) (p .0) .1 in
+      true≢false (sym r ∙ ap (λ (z : ℤ). isBetween z (q .top) (q .bottom)) (on-row u v (p .1)) ∙ h))))
 
   abbrev from : ℕ
   from = clipped start (q .left) (q .right)
@@ -106,47 +104,46 @@ module _ (f : Frame) (D : Described f) (colour : ℕ) (b : List ℕ) (q : Pane) 
   abbrev past : ℕ
   past = clipped end (q .left) (q .right)
 
-  module _ (top : q .top ≤ columnOf y) (bottom : columnOf y < q .bottom) where
-    -- the row's number is the row
-    row-is : (y : ℤ) → columnOf y < q .bottom → y ≡ pos (columnOf y)
-    row-is (pos a) h = refl
-    row-is (negsuc a) h = absurd (let k = W .bottom in let m = D .height in omega arith)
+  module _ (row : isBetween y (q .top) (q .bottom) ≡ true) where
+    row-is : y ≡ pos (natAbs y)
+    row-is = between-pos y (q .top) (q .bottom) row
 
-    agree : (u v : ℕ) → columns (columnOf y) from past (pos u) (pos v) ≡ inside q (rowSpan y start end) (pos u) (pos v)
+    agree : (u v : ℕ) → columns (natAbs y) from past (pos u) (pos v) ≡ inside q (rowSpan y start end) (pos u) (pos v)
     agree u v = same-test _ _ there back
       where
-        there : columns (columnOf y) from past (pos u) (pos v) ≡ true → inside q (rowSpan y start end) (pos u) (pos v) ≡ true
+        there : columns (natAbs y) from past (pos u) (pos v) ≡ true → inside q (rowSpan y start end) (pos u) (pos v) ≡ true
         there e =
-            let s = in-span (columnOf y) from past u v e in
+            let s = in-span (natAbs y) from past u v e in
             let a = s .0 in
             let z = s .1 in
             let i = s .2 in
-            let lo = clip-bounds start (q .left) (q .right) (W .order) .0 in
-            let hi = clip-bounds end (q .left) (q .right) (W .order) .1 in
+            let lo = clip-bounds start (q .left) (q .right) (W .columns) .0 in
+            let hi = clip-bounds end (q .left) (q .right) (W .columns) .1 in
             let l : q .left ≤ u = omega arith in
             let r : u < q .right = omega arith in
-            true-and (in-pane q u v l r (omega arith) (omega arith))
+            let here : pos v ≡ y = ap pos i ∙ sym row-is in
+            true-and (true-and (between-in u (q .left) (q .right) l r) (ap (λ (z : ℤ). isBetween z (q .top) (q .bottom)) here ∙ row))
             (true-and (true-and (from-le start (q .left) (q .right) u l r from (nearest start (q .left) (q .right)) .1 a)
             (past-gt end (q .left) (q .right) u l r past (nearest end (q .left) (q .right)) .1 z))
-            (ap₂ eqZ (ap pos i) (row-is y bottom) ∙ eqZ-refl (pos (columnOf y))))
+            (ap (λ (z : ℤ). eqZ z y) here ∙ eqZ-refl y))
 
-        back : inside q (rowSpan y start end) (pos u) (pos v) ≡ true → columns (columnOf y) from past (pos u) (pos v) ≡ true
+        back : inside q (rowSpan y start end) (pos u) (pos v) ≡ true → columns (natAbs y) from past (pos u) (pos v) ≡ true
         back e =
             let p = and-true (inPane q (pos u) (pos v)) (rowSpan y start end (pos u) (pos v)) e in
             let s = and-true (leZ start (pos u) && ltZ (pos u) end) (eqZ (pos v) y) (p .1) in
             let t = and-true (leZ start (pos u)) (ltZ (pos u) end) (s .0) in
             let r = pane-in q u v (p .0) .0 in
-            span-in (columnOf y) from past u v
+            span-in (natAbs y) from past u v
             (from-le start (q .left) (q .right) u (r .0) (r .1) from (nearest start (q .left) (q .right)) .0 (t .0))
             (past-gt end (q .left) (q .right) u (r .0) (r .1) past (nearest end (q .left) (q .right)) .0 (t .1))
-            (ap columnOf (eqZ-true (pos v) y (s .1)))
+            (ap natAbs (on-row u v (p .1)))
 
-    pub span-left : painted (raster f) (columns (columnOf y) from past) colour b ≡ painted (raster f) (inside q (rowSpan y start end)) colour b
+    pub span-left : painted (raster f) (columns (natAbs y) from past) colour b ≡ painted (raster f) (inside q (rowSpan y start end)) colour b
     span-left = painted-cong (raster f) (sound f D) colour b _ _ (λ u v hu hv. agree u v)
 
     pub span-gone : past ≤ from → b ≡ painted (raster f) (inside q (rowSpan y start end)) colour b
     span-gone h =
-        sym (sym span-left ∙ painted-none (raster f) (sound f D) colour b _ (λ u v hu hv. fails _ (λ e. let s = in-span (columnOf y) from past u v e in no u (s .0) (s .1))))
+        sym (sym span-left ∙ painted-none (raster f) (sound f D) colour b _ (λ u v hu hv. fails _ (λ e. let s = in-span (natAbs y) from past u v e in no u (s .0) (s .1))))
       where
         no : (u : ℕ) → from ≤ u → u < past → ⊥
         no u a z = omega arith

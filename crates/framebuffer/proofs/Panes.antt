@@ -1,68 +1,64 @@
--- Places and rectangles: a coordinate as the code reads it, and a pixel of a rectangle as a figure. Assumes nothing.
-use mathlib.Core.Path.{_≡_, refl, sym, ap, ap₂, _∙_}
+-- Ranges and rectangles, and a pixel of a rectangle as a figure. Assumes nothing.
+use mathlib.Core.Path.{_≡_, refl, sym, ap, ap₂, subst, _∙_}
 use mathlib.Core.Bool.{Bool, true, false, _&&_, true≢false}
 use mathlib.Core.List.{List}
 use Prim.Native.Nat.{ℕ, _≤_, _<_}
 use native.Mathlib.Nat.{le-refl}
 use native.Mathlib.Omega.{arith}
-use lib.Dec.{leb, ltb}
+use lib.Dec.{T, leb, ltb, le→leb}
 use lib.IntN.{ℤ, pos, negsuc, natAbs}
-use lib.Signed.{ltZ}
-use borrow.Author.Tests.{ltb-true, leb-true, lt-ltb, le-leb, le-ltb}
-use Rattle.layout.specs.Figure.{single}
+use lib.Signed.{_≤ℤ_, nonNeg}
+use mir.Syntax.{w32}
+use mir.Val.{SFits, Fits, toZ, ofZ}
+use borrow.Author.Tests.{ltb-true, leb-true, lt-ltb, le-leb}
 use Rattle.whole.specs.Equal.{eqZ}
+use Rattle.whole.proofs.Machine.{index-fits}
+use Rattle.layout.specs.Figure.{single}
 use Rattle.layout.specs.Raster.{putPixel, painted}
 use Rattle.layout.proofs.Tests.{same-test, fails, and-true, true-and, eqZ-true}
 use Rattle.layout.proofs.Painted.{painted-cong, painted-none, put-single}
 use Rattle.framebuffer.specs.declared.Frame.{Frame}
 use Rattle.framebuffer.specs.declared.Pane.{Pane}
 use Rattle.framebuffer.specs.Description.{raster}
-use Rattle.framebuffer.specs.Rectangle.{Within, inPane, inside, ownPane}
-use Rattle.framebuffer.specs.Words.{columnOf}
+use Rattle.framebuffer.specs.Rectangle.{Within, isBetween, inPane, inside, ownPane}
 use Rattle.framebuffer.proofs.Refusals.{Described, sound}
 
--- ---- a coordinate's number
-pub column-neg : (x : ℤ) → ltZ x (pos 0) ≡ true → 2048 ≡ columnOf x
-column-neg (pos a) e = let l = ltb-true a 0 e in omega arith
-column-neg (negsuc a) e = refl
+-- ---- what a range and a rectangle say
+-- a number of a range is not negative
+pub between-pos : (x : ℤ) (low high : ℕ) → isBetween x low high ≡ true → x ≡ pos (natAbs x)
+between-pos (pos a) low high e = refl
+between-pos (negsuc a) low high e = absurd (true≢false (sym e))
 
-pub column-pos : (x : ℤ) → ltZ x (pos 0) ≡ false → natAbs x ≡ columnOf x
-column-pos (pos a) e = refl
-column-pos (negsuc a) e = absurd (true≢false e)
+-- and so it can be cast
+pub cast-fits : {x : ℤ} → SFits w32 x → x ≡ pos (natAbs x) → T (nonNeg (toZ w32 (ofZ w32 x))) × Fits w32 (natAbs (toZ w32 (ofZ w32 x)))
+cast-fits {x} f e = index-fits w32 f (subst (λ (z : ℤ). pos 0 ≤ℤ z) (sym e) (record { le = le→leb 0 (natAbs x) (omega arith) })) tt
 
--- it is in a rectangle exactly where the coordinate is
-and-false : (s : Bool) → s && false ≡ false
-and-false true = refl
-and-false false = refl
+pub in-between : (u low high : ℕ) → isBetween (pos u) low high ≡ true → (low ≤ u) × (u < high)
+in-between u low high e = let p = and-true (leb low u) (ltb u high) e in (leb-true _ _ (p .0), ltb-true _ _ (p .1))
 
-pub pane-column : (q : Pane) (x y : ℤ) → q .right ≤ 2048 → q .bottom ≤ 2048 → inPane q (pos (columnOf x)) (pos (columnOf y)) ≡ inPane q x y
-pane-column q (pos x) (pos y) h k = refl
-pane-column q (negsuc x) y h k =
-    ap (λ (t : Bool). (leb (q .left) 2048 && t) && (leb (q .top) (columnOf y) && ltb (columnOf y) (q .bottom))) (le-ltb 2048 (q .right) h)
-    ∙ ap (λ (t : Bool). t && (leb (q .top) (columnOf y) && ltb (columnOf y) (q .bottom))) (and-false (leb (q .left) 2048))
-pane-column q (pos x) (negsuc y) h k =
-    ap (λ (t : Bool). (leb (q .left) x && ltb x (q .right)) && (leb (q .top) 2048 && t)) (le-ltb 2048 (q .bottom) k)
-    ∙ ap (λ (t : Bool). (leb (q .left) x && ltb x (q .right)) && t) (and-false (leb (q .top) 2048))
+pub between-in : (u low high : ℕ) → low ≤ u → u < high → isBetween (pos u) low high ≡ true
+between-in u low high a b = true-and (le-leb _ _ a) (lt-ltb _ _ b)
 
--- and there it is the coordinate
-pub pane-place : (q : Pane) (x y : ℤ) → inPane q x y ≡ true → (x ≡ pos (columnOf x)) × (y ≡ pos (columnOf y))
-pane-place q (pos x) (pos y) e = (refl, refl)
-pane-place q (negsuc x) y e = absurd (true≢false (sym e))
-pane-place q (pos x) (negsuc y) e = absurd (true≢false (sym (sym (and-false (leb (q .left) x && ltb x (q .right))) ∙ e)))
-
--- ---- what a rectangle says
 pub pane-in : (q : Pane) (x y : ℕ) → inPane q (pos x) (pos y) ≡ true → ((q .left ≤ x) × (x < q .right)) × ((q .top ≤ y) × (y < q .bottom))
 pane-in q x y e =
-    let p = and-true (leb (q .left) x && ltb x (q .right)) (leb (q .top) y && ltb y (q .bottom)) e in
-    let a = and-true (leb (q .left) x) (ltb x (q .right)) (p .0) in
-    let b = and-true (leb (q .top) y) (ltb y (q .bottom)) (p .1) in
-    ((leb-true _ _ (a .0), ltb-true _ _ (a .1)), (leb-true _ _ (b .0), ltb-true _ _ (b .1)))
+    let p = and-true (isBetween (pos x) (q .left) (q .right)) (isBetween (pos y) (q .top) (q .bottom)) e in
+    (in-between x (q .left) (q .right) (p .0), in-between y (q .top) (q .bottom) (p .1))
 
 pub in-pane : (q : Pane) (x y : ℕ) → q .left ≤ x → x < q .right → q .top ≤ y → y < q .bottom → inPane q (pos x) (pos y) ≡ true
-in-pane q x y a b c d = true-and (true-and (le-leb _ _ a) (lt-ltb _ _ b)) (true-and (le-leb _ _ c) (lt-ltb _ _ d))
+in-pane q x y a b c d = true-and (between-in x (q .left) (q .right) a b) (between-in y (q .top) (q .bottom) c d)
+
+-- the coordinates of a place in a rectangle are not negative
+pub pane-pos : (q : Pane) (x y : ℤ) → inPane q x y ≡ true → (x ≡ pos (natAbs x)) × (y ≡ pos (natAbs y))
+pane-pos q x y e =
+    let p = and-true (isBetween x (q .left) (q .right)) (isBetween y (q .top) (q .bottom)) e in
+    (between-pos x (q .left) (q .right) (p .0), between-pos y (q .top) (q .bottom) (p .1))
 
 pub own-within : (f : Frame) → Within (ownPane f) f
-own-within f = record { order = omega arith; right = le-refl (f .width); bottom = le-refl (f .height) }
+own-within f = record { columns = omega arith; rows = omega arith; right = le-refl (f .width); bottom = le-refl (f .height) }
+
+-- its ends are few enough for a signed number
+pub within-small : {q : Pane} {f : Frame} → Within q f → Described f → (q .left ≤ q .right) × (q .right ≤ 2048) × (q .top ≤ q .bottom) × (q .bottom ≤ 2048)
+within-small W D = let r = W .right in let b = W .bottom in let w = D .width in let h = D .height in (W .columns, omega arith, W .rows, omega arith)
 
 module _ (f : Frame) (D : Described f) (colour : ℕ) (b : List ℕ) where
   -- the frame's own rectangle takes nothing away
@@ -72,39 +68,31 @@ module _ (f : Frame) (D : Described f) (colour : ℕ) (b : List ℕ) where
       (λ x y hx hy. ap (λ (t : Bool). t && s (pos x) (pos y)) (in-pane (ownPane f) x y (omega arith) hx (omega arith) hy))
 
   -- one pixel, in the rectangle or not
-  module _ (q : Pane) (x y : ℤ) (W : Within q f) where
-    bounds : (q .right ≤ 2048) × (q .bottom ≤ 2048)
-    bounds = let a = W .right in let c = W .bottom in let w = D .width in let h = D .height in (omega arith, omega arith)
-
-    pub point-in : inPane q (pos (columnOf x)) (pos (columnOf y)) ≡ true → (columnOf x < f .width) × (columnOf y < f .height)
-    point-in e =
-        let p = pane-in q (columnOf x) (columnOf y) e in
+  module _ (q : Pane) (x y : ℤ) where
+    pub point-in : Within q f → inPane q x y ≡ true → (natAbs x < f .width) × (natAbs y < f .height)
+    point-in W e =
+        let z = pane-pos q x y e in
+        let p = pane-in q (natAbs x) (natAbs y) (ap₂ (inPane q) (sym (z .0)) (sym (z .1)) ∙ e) in
         let r = p .0 .1 in
         let s = p .1 .1 in
         let a = W .right in
         let c = W .bottom in
         (omega arith, omega arith)
 
-    pub point-put : inPane q (pos (columnOf x)) (pos (columnOf y)) ≡ true
-        → putPixel (raster f) (columnOf x) (columnOf y) colour b ≡ painted (raster f) (inside q (single x y)) colour b
-    point-put e =
-        let w = bounds in
-        let p = point-in e in
-        let z = pane-place q x y (sym (pane-column q x y (w .0) (w .1)) ∙ e) in
-        put-single (raster f) (sound f D) colour b (columnOf x) (columnOf y) (p .0) (p .1)
-        ∙ ap₂ (λ (i j : ℤ). painted (raster f) (single i j) colour b) (sym (z .0)) (sym (z .1))
-        ∙ painted-cong (raster f) (sound f D) colour b _ _ (λ u v hu hv. same-test _ _ (there u v) (λ h. and-true (inPane q (pos u) (pos v)) _ h .1))
-      where
-        there : (u v : ℕ) → single x y (pos u) (pos v) ≡ true → inside q (single x y) (pos u) (pos v) ≡ true
-        there u v h =
-            let p = and-true (eqZ (pos u) x) (eqZ (pos v) y) h in
-            let w = bounds in
-            true-and (ap₂ (λ (i j : ℤ). inPane q i j) (eqZ-true (pos u) x (p .0)) (eqZ-true (pos v) y (p .1)) ∙ sym (pane-column q x y (w .0) (w .1)) ∙ e) h
+    -- where the figure of one pixel has a place, that is the pixel
+    single-is : (u v : ℕ) → single x y (pos u) (pos v) ≡ true → inPane q (pos u) (pos v) ≡ inPane q x y
+    single-is u v h = let p = and-true (eqZ (pos u) x) (eqZ (pos v) y) h in ap₂ (inPane q) (eqZ-true (pos u) x (p .0)) (eqZ-true (pos v) y (p .1))
 
-    pub point-off : inPane q (pos (columnOf x)) (pos (columnOf y)) ≡ false → b ≡ painted (raster f) (inside q (single x y)) colour b
+    pub point-put : Within q f → inPane q x y ≡ true → putPixel (raster f) (natAbs x) (natAbs y) colour b ≡ painted (raster f) (inside q (single x y)) colour b
+    point-put W e =
+        let p = point-in W e in
+        let z = pane-pos q x y e in
+        put-single (raster f) (sound f D) colour b (natAbs x) (natAbs y) (p .0) (p .1)
+        ∙ ap₂ (λ (i j : ℤ). painted (raster f) (single i j) colour b) (sym (z .0)) (sym (z .1))
+        ∙ painted-cong (raster f) (sound f D) colour b _ _ (λ u v hu hv. same-test _ _ (λ h. true-and (single-is u v h ∙ e) h) (λ h. and-true (inPane q (pos u) (pos v)) _ h .1))
+
+    pub point-off : inPane q x y ≡ false → b ≡ painted (raster f) (inside q (single x y)) colour b
     point-off e =
         sym (painted-none (raster f) (sound f D) colour b _ (λ u v hu hv. fails _ (λ h.
         let p = and-true (inPane q (pos u) (pos v)) (single x y (pos u) (pos v)) h in
-        let s = and-true (eqZ (pos u) x) (eqZ (pos v) y) (p .1) in
-        let w = bounds in
-        true≢false (sym (p .0) ∙ ap₂ (λ (i j : ℤ). inPane q i j) (eqZ-true (pos u) x (s .0)) (eqZ-true (pos v) y (s .1)) ∙ sym (pane-column q x y (w .0) (w .1)) ∙ e))))
+        true≢false (sym (p .0) ∙ single-is u v (p .1) ∙ e))))

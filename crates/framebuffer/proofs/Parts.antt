@@ -70,6 +70,32 @@ repeat-turn b b₀ lag i p h l ih j q = go (eq-or-not j i)
         ∙ ap (λ (k : ℕ). getD b₀ k 0) (back ∙ ap (λ (k : ℕ). k % lag) (sym e))
     go (inr f) = getD-set-other b i j (getD b (i - lag) 0) 0 f ∙ ih j (omega arith)
 
+-- the first bytes of b are repeated at a distance of p, and the others stay
+module _ (b t : List ℕ) (head p : ℕ) (h0 : 0 < p) (hh : head ≤ length b) (et : length t ≡ length (take head b)) where
+  head-length : length (take head b) ≡ head
+  head-length = length-take-le head b hh
+
+  pub head-keeps : length (t ++ drop head b) ≡ length b
+  head-keeps = length-append t (drop head b) ∙ ap₂ (λ (i j : ℕ). i + j) (et ∙ head-length) (length-drop head b) ∙ omega arith
+
+  pub head-repeats : ((j : ℕ) → j < length (take head b) → getD t j 0 ≡ getD (take head b) (j % p) 0) → (j : ℕ) → j < head → getD (t ++ drop head b) j 0 ≡ getD b (j % p) 0
+  head-repeats g j l =
+      let m = mod-lt j h0 in
+      List·getD-append t (drop head b) 0 j (subst (λ (k : ℕ). j < k) (sym (et ∙ head-length)) l)
+      ∙ g j (subst (λ (k : ℕ). j < k) (sym head-length) l)
+      ∙ getD-take head b (j % p) 0 (let e = div-add-mod' j p in omega arith)
+
+-- so are these to the end, at a distance of 768: that is a distance of 48
+pub repeated-on : (b t b′ : List ℕ) (head : ℕ) → head ≡ min (length b) 768 → length t ≡ length (take head b)
+    → ((j : ℕ) → j < length (take head b) → getD t j 0 ≡ getD (take head b) (j % 48) 0)
+    → ((j : ℕ) → j < length (t ++ drop head b) → getD b′ j 0 ≡ getD (t ++ drop head b) (j % 768) 0)
+    → (j : ℕ) → j < length b → getD b′ j 0 ≡ getD b (j % 48) 0
+repeated-on b t b′ head hh et gt g j l =
+    let k : head ≤ length b = omega arith in
+    g j (subst (λ (i : ℕ). j < i) (sym (head-keeps b t head 48 (omega arith) k et)) l)
+    ∙ head-repeats b t head 48 (omega arith) k et gt (j % 768) (omega arith)
+    ∙ ap (λ (i : ℕ). getD b i 0) (omega arith)
+
 -- 48 bytes hold whole pixels
 pub whole-pixels : (p j : ℕ) → 0 < p → p ≤ 4 → j % 48 % p ≡ j % p
 whole-pixels zero j h l = absurd (omega arith)
@@ -80,43 +106,35 @@ whole-pixels (suc (suc (suc (suc zero)))) j h l = omega arith
 whole-pixels (suc (suc (suc (suc (suc p))))) j h l = absurd (omega arith)
 
 -- a pixel is stored at the front, repeated within the first bytes, and these to the end
-module _ (b s t : List ℕ) (p head colour : ℕ) (big : Bool) (h0 : 0 < p) (h4 : p ≤ 4) (hp : p ≤ length b) (hh : head ≡ min (length b) 48) where
-  module _ (es : s ≡ setRun 0 (length (take p b)) (λ j. digit 256 (turned big (length (take p b)) j) colour) (take p b)) where
-    stored-length : length s ≡ p
-    stored-length = ap length es ∙ run-length 0 (length (take p b)) _ (take p b) ∙ length-take-le p b hp
+module _ (b s : List ℕ) (p colour : ℕ) (big : Bool) (h0 : 0 < p) (h4 : p ≤ 4) (hp : p ≤ length b) (es : s ≡ setRun 0 (length (take p b)) (λ j. digit 256 (turned big (length (take p b)) j) colour) (take p b)) where
+  stored-length : length s ≡ p
+  stored-length = ap length es ∙ run-length 0 (length (take p b)) _ (take p b) ∙ length-take-le p b hp
 
-    pub front-length : length (s ++ drop p b) ≡ length b
-    front-length = length-append s (drop p b) ∙ ap₂ (λ (i j : ℕ). i + j) stored-length (length-drop p b) ∙ omega arith
+  pub front-length : length (s ++ drop p b) ≡ length b
+  front-length = length-append s (drop p b) ∙ ap₂ (λ (i j : ℕ). i + j) stored-length (length-drop p b) ∙ omega arith
 
-    front-at : (j : ℕ) → j < p → getD (s ++ drop p b) j 0 ≡ digit 256 (turned big p j) colour
-    front-at j l =
-        List·getD-append s (drop p b) 0 j (subst (λ (k : ℕ). j < k) (sym stored-length) l)
-        ∙ ap (λ (z : List ℕ). getD z j 0) (es ∙ ap (λ (k : ℕ). setRun 0 k (λ i. digit 256 (turned big k i) colour) (take p b)) (length-take-le p b hp))
-        ∙ ap (λ (k : ℕ). getD (setRun 0 p (λ i. digit 256 (turned big p i) colour) (take p b)) k 0) (omega arith)
-        ∙ run-in 0 p (λ i. digit 256 (turned big p i) colour) (take p b) j l (let e = length-take-le p b hp in omega arith)
+  front-at : (j : ℕ) → j < p → getD (s ++ drop p b) j 0 ≡ digit 256 (turned big p j) colour
+  front-at j l =
+      List·getD-append s (drop p b) 0 j (subst (λ (k : ℕ). j < k) (sym stored-length) l)
+      ∙ ap (λ (z : List ℕ). getD z j 0) (es ∙ ap (λ (k : ℕ). setRun 0 k (λ i. digit 256 (turned big k i) colour) (take p b)) (length-take-le p b hp))
+      ∙ ap (λ (k : ℕ). getD (setRun 0 p (λ i. digit 256 (turned big p i) colour) (take p b)) k 0) (omega arith)
+      ∙ run-in 0 p (λ i. digit 256 (turned big p i) colour) (take p b) j l (let e = length-take-le p b hp in omega arith)
 
-    module _ (et : length t ≡ length (take head (s ++ drop p b))) (gt : (j : ℕ) → j < length (take head (s ++ drop p b)) → getD t j 0 ≡ getD (take head (s ++ drop p b)) (j % p) 0) where
-      head-length : length (take head (s ++ drop p b)) ≡ head
-      head-length = length-take-le head (s ++ drop p b) (let e = front-length in omega arith)
+  module _ (t : List ℕ) (head : ℕ) (hh : head ≡ min (length b) 48) (et : length t ≡ length (take head (s ++ drop p b))) where
+    fits : head ≤ length (s ++ drop p b)
+    fits = let e = front-length in omega arith
 
-      pub all-length : length (t ++ drop head (s ++ drop p b)) ≡ length b
-      all-length =
-          length-append t (drop head (s ++ drop p b)) ∙ ap₂ (λ (i j : ℕ). i + j) (et ∙ head-length) (length-drop head (s ++ drop p b) ∙ ap (λ (k : ℕ). k - head) front-length) ∙ omega arith
+    pub all-length : length (t ++ drop head (s ++ drop p b)) ≡ length b
+    all-length = head-keeps (s ++ drop p b) t head p h0 fits et ∙ front-length
 
-      head-at : (j : ℕ) → j < head → getD (t ++ drop head (s ++ drop p b)) j 0 ≡ digit 256 (turned big p (j % p)) colour
-      head-at j l =
-          let m = mod-lt j h0 in
-          List·getD-append t (drop head (s ++ drop p b)) 0 j (subst (λ (k : ℕ). j < k) (sym (et ∙ head-length)) l)
-          ∙ gt j (subst (λ (k : ℕ). j < k) (sym head-length) l)
-          ∙ getD-take head (s ++ drop p b) (j % p) 0 (omega arith)
-          ∙ front-at (j % p) m
-
-      pub pixels-repeated : (b′ : List ℕ) → ((j : ℕ) → j < length (t ++ drop head (s ++ drop p b)) → getD b′ j 0 ≡ getD (t ++ drop head (s ++ drop p b)) (j % 48) 0)
-          → (j : ℕ) → j < length b → getD b′ j 0 ≡ digit 256 (turned big p (j % p)) colour
-      pixels-repeated b′ g j l =
-          g j (subst (λ (k : ℕ). j < k) (sym all-length) l)
-          ∙ head-at (j % 48) (omega arith)
-          ∙ ap (λ (k : ℕ). digit 256 (turned big p k) colour) (whole-pixels p j h0 h4)
+    pub pixels-repeated : ((j : ℕ) → j < length (take head (s ++ drop p b)) → getD t j 0 ≡ getD (take head (s ++ drop p b)) (j % p) 0)
+        → (b′ : List ℕ) → ((j : ℕ) → j < length (t ++ drop head (s ++ drop p b)) → getD b′ j 0 ≡ getD (t ++ drop head (s ++ drop p b)) (j % 48) 0)
+        → (j : ℕ) → j < length b → getD b′ j 0 ≡ digit 256 (turned big p (j % p)) colour
+    pixels-repeated gt b′ g j l =
+        g j (subst (λ (k : ℕ). j < k) (sym all-length) l)
+        ∙ head-repeats (s ++ drop p b) t head p h0 fits et gt (j % 48) (omega arith)
+        ∙ front-at (j % 48 % p) (mod-lt (j % 48) h0)
+        ∙ ap (λ (k : ℕ). digit 256 (turned big p k) colour) (whole-pixels p j h0 h4)
 
 -- a byte of a run of pixels
 pub run-of-pixels : (d : ℕ) (big : Bool) (c n : ℕ) (b b′ : List ℕ) → goodDepth d ≡ true → 8 ≤ d → length b ≡ n → length b′ ≡ n

@@ -84,7 +84,7 @@ pub record Described (f : Frame) : Type 0 where
   pub width : f .width ≤ 2048
   pub height : f .height ≤ 2048
 
-pub or-false : (a b : Bool) → a || b ≡ false → (a ≡ false) × (b ≡ false)
+or-false : (a b : Bool) → a || b ≡ false → (a ≡ false) × (b ≡ false)
 or-false true b e = absurd (true≢false e)
 or-false false b e = (refl, e)
 

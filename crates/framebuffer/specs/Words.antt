@@ -3,15 +3,10 @@ use mathlib.Core.Bool.{cond}
 use mathlib.Core.List.{List}
 use Prim.Native.Nat.{ℕ, _+_, _-_, _*_, _^_}
 use lib.Bits.{bitAnd, bitOr}
-use lib.IntN.{ℤ, pos, negsuc, natAbs}
+use lib.IntN.{ℤ, pos, natAbs}
 use lib.ListN.{getD, set}
 use lib.Signed.{ltZ}
 use Rattle.layout.specs.Raster.{field, slotOf}
-
--- a coordinate's number, or one past every frame where it is negative
-abbrev pub columnOf : ℤ → ℕ
-columnOf (pos a) = a
-columnOf (negsuc a) = 2048
 
 -- the nearest number of low to high
 abbrev pub clipped : ℤ → ℕ → ℕ → ℕ

@@ -10,8 +10,8 @@ ghost use Rattle.layout.specs.Figure.{single, rowSpan, everywhere};
 ghost use Rattle.layout.specs.Raster.{goodDepth, rowBytes, field, parts, per, turned, slotOf, putPixel, getPixel, painted, fullByte};
 ghost use Rattle.framebuffer.specs.Answer.{sized, drawn, read};
 ghost use Rattle.framebuffer.specs.Description.{raster, size, described, descriptionRefusal, bufferRefusal, sizeNumber, drawNumber, readNumber, colourAt, afterDraw};
-ghost use Rattle.framebuffer.specs.Rectangle.{Within, inPane, inside, ownPane};
-ghost use Rattle.framebuffer.specs.Words.{columnOf, clipped, pixelMask, onwardMask, merged, mergedAt};
+ghost use Rattle.framebuffer.specs.Rectangle.{Within, isBetween, inPane, inside, ownPane};
+ghost use Rattle.framebuffer.specs.Words.{clipped, pixelMask, onwardMask, merged, mergedAt};
 
 // A frame as its owner describes it. It is made by Frame::new and by nothing else outside this crate.
 pub struct Frame {
@@ -239,17 +239,33 @@ fn turn(big: bool, parts: usize, k: usize) -> usize
     k
 }
 
+// Byte k of a pixel.
+fn byte_of_pixel(big: bool, parts: usize, k: usize, colour: u32) -> u8
+    requires { ⌜ (k < parts) × (parts ≤ 4) ⌝ }
+    ensures { λ r. ⌜ r ≡ digit 256 (turned big parts k) colour ⌝ }
+{
+    (colour >> (8 * turn(big, parts, k) as u32) & 255) as u8
+}
+
 // The colour, written over all of a part of the buffer, a digit a byte.
 fn store(part: &mut [u8], big: bool, colour: u32)
-    requires { ⌜ length (now part) ≤ 4 ⌝ }
+    requires { ⌜ (0 < length (now part)) × (length (now part) ≤ 4) ⌝ }
     ensures { λ r. ⌜ now (part .exit) ≡ setRun 0 (length (now (part .entry))) (λ j. digit 256 (turned big (length (now (part .entry))) j) colour) (now (part .entry)) ⌝ }
 {
     let n = part.len();
-    let mut k = 0usize;
-    while k < n {
-        part[k] = (colour >> (8 * turn(big, n, k) as u32) & 255) as u8;
-        k += 1;
+    part[0] = byte_of_pixel(big, n, 0, colour);
+    if n == 1 {
+        return;
     }
+    part[1] = byte_of_pixel(big, n, 1, colour);
+    if n == 2 {
+        return;
+    }
+    part[2] = byte_of_pixel(big, n, 2, colour);
+    if n == 3 {
+        return;
+    }
+    part[3] = byte_of_pixel(big, n, 3, colour);
 }
 
 fn load(part: &[u8], big: bool) -> u32
@@ -305,22 +321,21 @@ pub fn read_point(buf: &[u8], frame: Frame, x: u32, y: u32) -> u32
     load(&buf[at..end], frame.big)
 }
 
-// A coordinate's number, or one past every frame where it is negative.
-fn column(x: i32) -> u32
-    ensures { λ r. ⌜ r ≡ columnOf x ⌝ }
+// Whether x lies from low to one before high.
+fn is_between(x: i32, low: u32, high: u32) -> bool
+    requires { ⌜ (low ≤ high) × (high ≤ 2048) ⌝ }
+    ensures { λ r. ⌜ r ≡ isBetween x low high ⌝ }
 {
-    if x < 0 {
-        return 2048;
-    }
-    x as u32
+    (low as i32 <= x) & (x < high as i32)
 }
 
 impl Pane {
-    // Inside the library: whether the rectangle holds a place.
-    pub fn holds(self, x: u32, y: u32) -> bool
-        ensures { λ r. ⌜ r ≡ inPane self (pos x) (pos y) ⌝ }
+    // Whether the rectangle of a frame holds a place.
+    fn holds(self, x: i32, y: i32) -> bool
+        requires { ⌜ (self .left ≤ self .right) × (self .right ≤ 2048) × (self .top ≤ self .bottom) × (self .bottom ≤ 2048) ⌝ }
+        ensures { λ r. ⌜ r ≡ inPane self x y ⌝ }
     {
-        ((self.left <= x) & (x < self.right)) & ((self.top <= y) & (y < self.bottom))
+        is_between(x, self.left, self.right) & is_between(y, self.top, self.bottom)
     }
 }
 
@@ -329,12 +344,10 @@ pub fn put_point(buf: &mut [u8], frame: Frame, pane: Pane, p: geometry::Point, c
     requires { ⌜ (drawNumber frame (length (now buf)) colour 0 ≡ 0) × Within pane frame ⌝ }
     ensures { λ r. ⌜ now (buf .exit) ≡ painted (raster frame) (inside pane (single (p .0) (p .1))) colour (now (buf .entry)) ⌝ }
 {
-    let px = p.0;
-    let py = p.1;
-    let x = column(px);
-    let y = column(py);
+    let x = p.0;
+    let y = p.1;
     if pane.holds(x, y) {
-        put_at(buf, frame, x, y, colour);
+        put_at(buf, frame, x as u32, y as u32, colour);
     }
 }
 
@@ -358,10 +371,8 @@ pub fn pixel(buf: &[u8], frame: Frame, p: geometry::Point) -> Read
     if number != 0 {
         return Read { number, colour: 0 };
     }
-    let px = p.0;
-    let py = p.1;
-    let x = column(px);
-    let y = column(py);
+    let x = p.0;
+    let y = p.1;
     if !frame.pane().holds(x, y) {
         return Read {
             number: 8,
@@ -370,7 +381,7 @@ pub fn pixel(buf: &[u8], frame: Frame, p: geometry::Point) -> Read
     }
     Read {
         number: 0,
-        colour: read_point(buf, frame, x, y),
+        colour: read_point(buf, frame, x as u32, y as u32),
     }
 }
 
@@ -399,26 +410,35 @@ fn repeat(part: &mut [u8], lag: usize)
     }
 }
 
-// As many of n bytes as are repeated.
-fn head_of(n: usize) -> usize
-    ensures { λ r. ⌜ r ≡ min n 48 ⌝ }
+fn least(a: usize, b: usize) -> usize
+    ensures { λ r. ⌜ r ≡ min a b ⌝ }
 {
-    if n < 48 {
-        return n;
+    if a < b {
+        return a;
     }
-    48
+    b
+}
+
+// From byte 48 on, each byte takes what stands 48 bytes before it. Past the first 768 bytes it takes what stands 768 before, which is the same and was
+// written long enough ago that the processor does not wait for it.
+fn repeat_on(part: &mut [u8])
+    ensures { λ r. ⌜ ((j : ℕ) → j < length (now (part .entry)) → getD (now (part .exit)) j 0 ≡ getD (now (part .entry)) (j % 48) 0) ⌝ }
+{
+    let head = least(part.len(), 768);
+    repeat(&mut part[..head], 48);
+    repeat(part, 768);
 }
 
 // A part of the buffer filled with the bytes of a pixel, again and again. The first pixel is written, then repeated within the first 48 bytes, which
-// hold whole pixels at every depth; these are repeated to the end at a distance that the processor takes in large pieces.
+// hold whole pixels at every depth; these are repeated to the end.
 fn repeat_pixel(part: &mut [u8], parts: usize, big: bool, colour: u32)
     requires { ⌜ (0 < parts) × (parts ≤ 4) × (parts ≤ length (now part)) ⌝ }
     ensures { λ r. ⌜ ((j : ℕ) → j < length (now (part .entry)) → getD (now (part .exit)) j 0 ≡ digit 256 (turned big parts (j % parts)) colour) ⌝ }
 {
-    let head = head_of(part.len());
+    let head = least(part.len(), 48);
     store(&mut part[..parts], big, colour);
     repeat(&mut part[..head], parts);
-    repeat(part, 48);
+    repeat_on(part);
 }
 
 // A part of the buffer that holds whole pixels, all of them in the colour.
@@ -519,14 +539,13 @@ pub fn paint_span(
     requires { ⌜ (drawNumber frame (length (now buf)) colour 0 ≡ 0) × Within pane frame ⌝ }
     ensures { λ r. ⌜ now (buf .exit) ≡ painted (raster frame) (inside pane (rowSpan y start end)) colour (now (buf .entry)) ⌝ }
 {
-    let row = column(y);
-    if (row < pane.top) | (pane.bottom <= row) {
+    if !is_between(y, pane.top, pane.bottom) {
         return;
     }
     let from = clip(start, pane.left, pane.right);
     let past = clip(end, pane.left, pane.right);
     if from < past {
-        paint_columns(buf, frame, row, from, past, colour);
+        paint_columns(buf, frame, y as u32, from, past, colour);
     }
 }
 

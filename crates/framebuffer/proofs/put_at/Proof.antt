@@ -4,11 +4,11 @@ use mathlib.Core.Bool.{true}
 use Prim.Native.Nat.{ℕ, _+_, _-_, _/_, _^_, _≤_, _<_}
 use native.Mathlib.Nat.{le-of-lt}
 use native.Mathlib.Omega.{arith}
-use lib.ListN.{length, getD, length-take, set}
+use lib.ListN.{length, getD, length-take, length-drop, set}
 use borrow.Author.Needs.{needs}
 use Rattle.layout.specs.Digits.{replaced}
 use Rattle.layout.specs.Raster.{goodDepth, field, parts, per, slotOf}
-use Rattle.layout.proofs.Places.{small, large, depth-pos, depth-le}
+use Rattle.layout.proofs.Places.{small, large, depth-pos, depth-le, parts-pos}
 use Rattle.layout.proofs.Bytes.{pixel-set, pixel-stored}
 use Rattle.framebuffer.specs.Description.{raster}
 use Rattle.framebuffer.proofs.Refusals.{Drawable, is-drawable, frame-passed, description-passed, sound, pixel-room, pixel-small}
@@ -81,9 +81,12 @@ part-store-end c = let t = thick c .1 in omega (arith, room (c .before))
 
 store-requires : tie.Need-store-requires
 store-requires c κs =
-    let a = c .before .before .before .before .args in
-    let h = depth-le (a .frame .depth) (ok (c .before .before .before .before) .accepted .described .depth) in
-    simp length-take (omega arith)
+    let depth = c .before .before .before .before .args .frame .depth in
+    let g = ok (c .before .before .before .before) .accepted .described .depth in
+    let h = depth-le depth g in
+    let p = parts-pos depth g in
+    let t = thick (c .before) .1 in
+    simp (length-take, length-drop) (omega (arith, room (c .before .before)))
 
 same-length-2 : tie.Need-same-length-2
 same-length-2 c = search needs

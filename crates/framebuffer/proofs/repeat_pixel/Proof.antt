@@ -10,8 +10,8 @@ use Rattle.framebuffer.proofs.Parts.{front-length, all-length, pixels-r
 use Rattle.framebuffer.proofs.repeat_pixel.Statement.{statement}
 use Rattle.framebuffer.proofs.repeat_pixel.Tie as tie
 
-head-of-requires : tie.Need-head-of-requires
-head-of-requires c κs = search needs
+least-requires : tie.Need-least-requires
+least-requires c κs = search needs
 
 slice-relend-prefix-store : tie.Need-slice-relend-prefix-store
 slice-relend-prefix-store c = search needs
@@ -25,49 +25,53 @@ store-requires c κs = let p = c .before .before .before .pre .1 in simp length-
 -- the buffer once the first pixel is stored is as long as before
 first : (c : tie.After-store) → length (c .store .last .0 ++ drop (c .before .before .before .before .args .parts) (c .before .before .before .before .args .part .now)) ≡ length (c .before .before .before .before .args .part .now)
 first c =
-    let a = c .before .before .before .before .args in
-    front-length (a .part .now) (c .store .last .0) (c .store .last .0) (a .parts) (c .before .before .head-of .result) (a .colour) (a .big) (c .before .before .before .before .pre .0) (c .before .before .before .before .pre .1) (c .before .before .before .before .pre .2) (c .before .before .head-of .ensures) (c .store .ensures)
+    let s = c .before .before .before .before in
+    let a = s .args in
+    front-length (a .part .now) (c .store .last .0) (a .parts) (a .colour) (a .big) (s .pre .0) (s .pre .1) (s .pre .2) (c .store .ensures)
 
 slice-relend-prefix-repeat : tie.Need-slice-relend-prefix-repeat
-slice-relend-prefix-repeat c = let e = c .before .before .before .before .head-of .ensures in subst (λ (n : ℕ). c .before .before .before .before .head-of .result ≤ n) (sym (first (c .before .before))) (omega arith)
+slice-relend-prefix-repeat c = let e = c .before .before .before .before .least .ensures in subst (λ (n : ℕ). c .before .before .before .before .least .result ≤ n) (sym (first (c .before .before))) (omega arith)
 
 slice-aggregate-repeat : tie.Need-slice-aggregate-repeat
 slice-aggregate-repeat c =
-    let e = c .before .before .before .before .before .head-of .ensures in
-    sym (length-take-le (c .before .before .before .before .before .head-of .result) _ (subst (λ (n : ℕ). c .before .before .before .before .before .head-of .result ≤ n) (sym (first (c .before .before .before))) (omega arith)))
+    let e = c .before .before .before .before .before .least .ensures in
+    sym (length-take-le (c .before .before .before .before .before .least .result) _ (subst (λ (n : ℕ). c .before .before .before .before .before .least .result ≤ n) (sym (first (c .before .before .before))) (omega arith)))
 
 repeat-requires : tie.Need-repeat-requires
 repeat-requires c κs = c .before .before .before .before .before .before .before .pre .0
 
-repeat-requires-2 : tie.Need-repeat-requires-2
-repeat-requires-2 c κs = search needs
+repeat-on-requires : tie.Need-repeat-on-requires
+repeat-on-requires c κs = search needs
 
 same-length : tie.Need-same-length
 same-length c =
-    let s = c .before .before .before .before .before .before .before .before .before .before .before .before .before .before in
+    let store = c .before .before .before .before .before .before .before .before .before .before in
+    let repeat = c .before .before .before .before .before .before in
+    let s = store .before .before .before .before in
     let a = s .args in
-    c .before .before .repeat2 .kept .0
-    ∙ all-length (a .part .now) (c .before .before .before .before .before .before .before .before .before .before .store .last .0) (c .before .before .before .before .before .before .repeat .last .0) (a .parts) (c .before .before .before .before .before .before .before .before .before .before .before .before .head-of .result) (a .colour) (a .big) (s .pre .0) (s .pre .1) (s .pre .2) (c .before .before .before .before .before .before .before .before .before .before .before .before .head-of .ensures)
-    (c .before .before .before .before .before .before .before .before .before .before .store .ensures) (c .before .before .before .before .before .before .repeat .kept .0) (c .before .before .before .before .before .before .repeat .ensures)
+    c .before .before .repeat-on .kept .0
+    ∙ all-length (a .part .now) (store .store .last .0) (a .parts) (a .colour) (a .big) (s .pre .0) (s .pre .1) (s .pre .2) (store .store .ensures) (repeat .repeat .last .0) (store .before .before .least .result) (store .before .before .least .ensures) (repeat .repeat .kept .0)
 
 returns : tie.Need-returns
 returns c =
-    let s = c .before .before .before .before .before .before .before .before .before .before .before .before .before .before in
+    let store = c .before .before .before .before .before .before .before .before .before .before in
+    let repeat = c .before .before .before .before .before .before in
+    let s = store .before .before .before .before in
     let a = s .args in
-    pixels-repeated (a .part .now) (c .before .before .before .before .before .before .before .before .before .before .store .last .0) (c .before .before .before .before .before .before .repeat .last .0) (a .parts) (c .before .before .before .before .before .before .before .before .before .before .before .before .head-of .result) (a .colour) (a .big) (s .pre .0) (s .pre .1) (s .pre .2) (c .before .before .before .before .before .before .before .before .before .before .before .before .head-of .ensures)
-    (c .before .before .before .before .before .before .before .before .before .before .store .ensures) (c .before .before .before .before .before .before .repeat .kept .0) (c .before .before .before .before .before .before .repeat .ensures) (c .before .before .repeat2 .last .0) (c .before .before .repeat2 .ensures)
+    pixels-repeated (a .part .now) (store .store .last .0) (a .parts) (a .colour) (a .big) (s .pre .0) (s .pre .1) (s .pre .2) (store .store .ensures) (repeat .repeat .last .0) (store .before .before .least .result) (store .before .before .least .ensures) (repeat .repeat .kept .0)
+    (repeat .repeat .ensures) (c .before .before .repeat-on .last .0) (c .before .before .repeat-on .ensures)
 
 pub repeat-pixel-spec : {M : Type 1} → statement M
 repeat-pixel-spec =
     tie.close
     (tie.spec
-    head-of-requires
+    least-requires
     slice-relend-prefix-store
     slice-aggregate-store
     store-requires
     slice-relend-prefix-repeat
     slice-aggregate-repeat
     repeat-requires
-    repeat-requires-2
+    repeat-on-requires
     same-length
     returns)

@@ -1,97 +1,97 @@
--- `framebuffer::store` has written the first k bytes of the pixel after k turns. Assumes nothing.
-use mathlib.Core.Path.{_≡_, refl, sym, ap, ap₂, _∙_}
+-- `framebuffer::store` writes the bytes of the pixel one after another, as many as there are. Assumes nothing.
+use mathlib.Core.Path.{_≡_, sym, ap, _∙_}
 use mathlib.Core.List.{List}
-use Prim.Native.Nat.{ℕ, _+_, _-_, _*_, _/_, _^_, _≤_, _<_}
-use native.Mathlib.Numerals.{add-one}
+use Prim.Native.Nat.{ℕ}
 use native.Mathlib.Omega.{arith}
-use lib.Bits.{mask-lt}
 use lib.ListN.{length, set, length-set}
 use borrow.Author.Needs.{needs}
 use Rattle.layout.specs.Digits.{digit, setRun}
 use Rattle.layout.specs.Raster.{turned}
-use Rattle.layout.proofs.Places.{turned-below}
-use Rattle.framebuffer.proofs.Parts.{digit-is}
 use Rattle.framebuffer.proofs.store.Statement.{statement}
 use Rattle.framebuffer.proofs.store.Tie as tie
 
-abbrev Inv-loop : tie.InvT-loop
-Inv-loop part₀ big colour n k₀ part k =
-    (k ≤ length part₀) × (length part ≡ length part₀) × (part ≡ setRun 0 k (λ j. digit 256 (turned big (length part₀) j) colour) part₀)
+-- the part with its first k bytes written
+abbrev written : tie.Start → ℕ → List ℕ
+written c k = let a = c .args in setRun 0 k (λ j. digit 256 (turned (a .big) (length (a .part .now)) j) (a .colour)) (a .part .now)
 
-abbrev μ-loop : tie.MeasureT-loop
-μ-loop part₀ big colour n k₀ part k = length part₀ - k
+byte-of-pixel-requires : tie.Need-byte-of-pixel-requires
+byte-of-pixel-requires c κs = search needs
 
-loop-holds : tie.Need-loop-holds Inv-loop μ-loop
-loop-holds c = (omega arith, refl, refl)
-
-turn-requires : tie.Need-turn-requires Inv-loop μ-loop
-turn-requires c κs = search needs
-
--- the digit's place is below 4
-low : (c : tie.After-turn Inv-loop μ-loop) → c .turn .result < 4
-low c =
-    let t = turned-below (c .before .before .before .before .args .big) (length (c .before .before .before .before .args .part .now)) (c .before .before .loop .k) (c .before .loop-test .taken) in
-    let e = c .turn .ensures in
-    let p = c .before .before .before .before .pre in
-    omega arith
-
-cast-part : tie.Need-cast-part Inv-loop μ-loop
-cast-part c = record { fits = omega (arith, low c) }
-
-mul-part : tie.Need-mul-part Inv-loop μ-loop
-mul-part c = record { fits = omega (arith, low c) }
-
-shr-part : tie.Need-shr-part Inv-loop μ-loop
-shr-part c = omega (arith, low c)
-
-cast-part-2 : tie.Need-cast-part-2 Inv-loop μ-loop
-cast-part-2 c = record { fits = omega (arith, mask-lt (c .before .before .before .before .args .colour / 2 ^ (8 * c .turn .result)) 8) }
-
-slice-write-part : tie.Need-slice-write-part Inv-loop μ-loop
+slice-write-part : tie.Need-slice-write-part
 slice-write-part c = search needs
 
-add-k : tie.Need-add-k Inv-loop μ-loop
-add-k c = search needs
+same-length : tie.Need-same-length
+same-length c = search needs
 
-loop-less : tie.Need-loop-less Inv-loop μ-loop
-loop-less c = search needs
-
-loop-again : tie.Need-loop-again Inv-loop μ-loop
-loop-again c =
-    let a = c .before .before .before .before .args in
-    let l = c .before .before .loop in
-    let z : l .k ≡ 0 + l .k = omega arith in (
-      omega arith,
-      simp length-set (l .inv .1),
-      ap₂ (λ (i v : ℕ). set (l .part) i v) z (digit-is (c .turn .result) (a .colour) ∙ ap (λ (j : ℕ). digit 256 j (a .colour)) (c .turn .ensures))
-          ∙ ap (λ (b : List ℕ). set b (0 + l .k) (digit 256 (turned (a .big) (length (a .part .now)) (l .k)) (a .colour))) (l .inv .2)
-          ∙ ap (λ (k : ℕ). setRun 0 k (λ j. digit 256 (turned (a .big) (length (a .part .now)) j) (a .colour)) (a .part .now)) (sym (add-one (l .k))),
-    )
-
-same-length : tie.Need-same-length Inv-loop μ-loop
-same-length c = c .before .loop .inv .1
-
-returns : tie.Need-returns Inv-loop μ-loop
+returns : tie.Need-returns
 returns c =
-    let a = c .before .before .before .args in
-    let e : c .before .loop .k ≡ length (a .part .now) = omega arith in
-    c .before .loop .inv .2 ∙ ap (λ (k : ℕ). setRun 0 k (λ j. digit 256 (turned (a .big) (length (a .part .now)) j) (a .colour)) (a .part .now)) e
+    let s = c .before .before .before in
+    let b = s .args .part .now in
+    ap (set b 0) (c .before .byte-of-pixel .ensures) ∙ ap (written s) (sym (c .if1 .taken))
+
+byte-of-pixel-requires-2 : tie.Need-byte-of-pixel-requires-2
+byte-of-pixel-requires-2 c κs = search needs
+
+slice-write-part-2 : tie.Need-slice-write-part-2
+slice-write-part-2 c = simp length-set (omega arith)
+
+same-length-2 : tie.Need-same-length-2
+same-length-2 c = search needs
+
+returns-2 : tie.Need-returns-2
+returns-2 c =
+    let s = c .before .before .before .before .before in
+    let b = s .args .part .now in
+    (λ i. set (set b 0 (c .before .before .before .byte-of-pixel .ensures i)) 1 (c .before .byte-of-pixel2 .ensures i)) ∙ ap (written s) (sym (c .if2 .taken))
+
+byte-of-pixel-requires-3 : tie.Need-byte-of-pixel-requires-3
+byte-of-pixel-requires-3 c κs = search needs
+
+slice-write-part-3 : tie.Need-slice-write-part-3
+slice-write-part-3 c = simp length-set (omega arith)
+
+same-length-3 : tie.Need-same-length-3
+same-length-3 c = search needs
+
+returns-3 : tie.Need-returns-3
+returns-3 c =
+    let s = c .before .before .before .before .before .before .before in
+    let b = s .args .part .now in
+    (λ i. set (set (set b 0 (c .before .before .before .before .before .byte-of-pixel .ensures i)) 1 (c .before .before .before .byte-of-pixel2 .ensures i)) 2 (c .before .byte-of-pixel3 .ensures i)) ∙ ap (written s) (sym (c .if3 .taken))
+
+byte-of-pixel-requires-4 : tie.Need-byte-of-pixel-requires-4
+byte-of-pixel-requires-4 c κs = search needs
+
+slice-write-part-4 : tie.Need-slice-write-part-4
+slice-write-part-4 c = simp length-set (omega arith)
+
+same-length-4 : tie.Need-same-length-4
+same-length-4 c = search needs
+
+returns-4 : tie.Need-returns-4
+returns-4 c =
+    let s = c .before .before .before .before .before .before .before .before in
+    let b = s .args .part .now in
+    let all : 4 ≡ length b = omega arith in
+    (λ i. set (set (set (set b 0 (c .before .before .before .before .before .before .byte-of-pixel .ensures i)) 1 (c .before .before .before .before .byte-of-pixel2 .ensures i)) 2 (c .before .before .byte-of-pixel3 .ensures i)) 3 (c .byte-of-pixel4 .ensures i)) ∙ ap (written s) all
 
 pub store-spec : {M : Type 1} → statement M
 store-spec =
     tie.close
     (tie.spec
-    Inv-loop
-    μ-loop
-    loop-holds
-    turn-requires
-    cast-part
-    mul-part
-    shr-part
-    cast-part-2
+    byte-of-pixel-requires
     slice-write-part
-    add-k
-    loop-less
-    loop-again
     same-length
-    returns)
+    returns
+    byte-of-pixel-requires-2
+    slice-write-part-2
+    same-length-2
+    returns-2
+    byte-of-pixel-requires-3
+    slice-write-part-3
+    same-length-3
+    returns-3
+    byte-of-pixel-requires-4
+    slice-write-part-4
+    same-length-4
+    returns-4)

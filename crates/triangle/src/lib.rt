@@ -43,16 +43,10 @@ pub struct RowRange {
 pub fn refusal(v1: Point, v2: Point, v3: Point) -> u32
     ensures { λ r. ⌜ r ≡ vertexRefusal v1 v2 v3 ⌝ }
 {
-    if !geometry::in_bounds(v1) {
-        return 5;
+    if geometry::in_bounds(v1) & (geometry::in_bounds(v2) & geometry::in_bounds(v3)) {
+        return 0;
     }
-    if !geometry::in_bounds(v2) {
-        return 5;
-    }
-    if !geometry::in_bounds(v3) {
-        return 5;
-    }
-    0
+    5
 }
 
 // Inside the library: twice the signed area of p, a, b. The differences fit 32 bits; their products are taken in 64.

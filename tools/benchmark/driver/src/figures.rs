@@ -68,14 +68,14 @@ fn contains<'a>(name: &str, goal: f64, pixels: Vec<ours::Place>) -> Race<'a> {
 
 fn ask_ours<'a>(vertices: Vertices, pixels: Vec<ours::Place>) -> Work<'a> {
     Work::new(pixels.len(), move || {
-        black_box(pixels.iter().filter(|p| ours::contains(black_box(vertices), **p)).count());
+        black_box(pixels.iter().filter(|p| ours::contains(*black_box(&vertices), **p)).count());
     })
 }
 
 fn span_ours<'a>(vertices: Vertices, rows: Vec<i32>) -> Work<'a> {
     Work::new(rows.len(), move || {
         for y in &rows {
-            black_box(ours::row_span(black_box(vertices), *y));
+            black_box(ours::row_span(*black_box(&vertices), *y));
         }
     })
 }

@@ -1,17 +1,19 @@
--- Spans at depths 1, 2 and 4: the byte of a pixel, the pixels that a mask picks of it, and the bytes between. Assumes nothing.
-use mathlib.Core.Path.{_≡_, sym, ap, _∙_, subst}
-use mathlib.Core.List.{List}
+-- Spans of a row. At depths 1, 2 and 4: the byte of a pixel, the pixels that a mask picks of it, and the bytes between; from depth 8 on, whole bytes.
+-- Assumes nothing.
+use mathlib.Core.Path.{_≡_, sym, ap, ap₂, _∙_, subst}
+use mathlib.Core.List.{List, _++_}
 use Prim.Native.Nat.{ℕ, _+_, _-_, _*_, _/_, _%_, _^_, _≤_, _<_}
-use native.Mathlib.Nat.{le-of-lt, mod-lt, div-add-mod', mul-le-mul-right, mul-div-cancel}
+use native.Mathlib.Nat.{le-of-lt, mod-lt, div-add-mod', mul-le-mul-right, mul-div-cancel, mul-one, div-one}
 use native.Mathlib.Omega.{arith}
 use lib.Bits.{bitAnd}
-use lib.ListN.{length}
-use Rattle.layout.specs.Digits.{value}
-use Rattle.layout.specs.Raster.{rowBytes, field, parts, per, painted}
-use Rattle.layout.proofs.Places.{small, depth-pos, depth-of, per-pos}
+use lib.ListN.{length, take, drop}
+use Rattle.layout.specs.Digits.{value, setRun}
+use Rattle.layout.specs.Raster.{rowBytes, field, parts, per, painted, fullByte}
+use Rattle.layout.proofs.Places.{small, large, column, depth-pos, depth-of, per-pos}
+use Rattle.layout.proofs.Runs.{run-cong}
 use Rattle.layout.proofs.Spans.{columns}
 use Rattle.layout.proofs.Painted.{span-then}
-use Rattle.layout.proofs.Bytes.{Bytes, byte-at, head, tail, inner}
+use Rattle.layout.proofs.Bytes.{Bytes, byte-at, head, tail, inner, full-one, groups-filled}
 use Rattle.framebuffer.specs.declared.Frame.{Frame}
 use Rattle.framebuffer.specs.Description.{raster, size}
 use Rattle.framebuffer.specs.Words.{onwardMask, mergedAt}
@@ -99,8 +101,43 @@ module _ (f : Frame) (len colour : ℕ) (A : Drawable f len colour) (s : f .dept
     inner-is x z l h w e =
         sym (inner (raster f) (sound f (A .accepted .described)) colour (thin .1) low y x b hy l v z (omega arith) w (sym (byte-col x) ∙ e ∙ byte-col z))
 
+    pub whole-is : (x z : ℕ) (s s′ : List ℕ) (a k : ℕ) → x ≤ z → z * n ≤ f .width → a ≡ y * row + x → a + k ≡ y * row + z → a + k ≤ length b
+        → s ≡ take k (drop a b) → s′ ≡ setRun 0 (length s) (λ j. p) s → take a b ++ (s′ ++ drop k (drop a b)) ≡ painted (raster f) (columns y (x * n) (z * n)) colour b
+    whole-is x z s s′ a k h w ea ek l e e′ =
+        groups-filled (raster f) (sound f (A .accepted .described)) colour (A .below) y x z b s s′ a k h w hy (ea ∙ bytes x) (ek ∙ bytes z) l v e
+        (e′ ∙ run-cong 0 (length s) _ _ s (λ j i. sym (full-one d (f .big) colour j (thin .1) low)))
+      where
+        bytes : (i : ℕ) → y * row + i ≡ y * row + i * parts d
+        bytes i = ap (λ (j : ℕ). y * row + j) (sym (ap (λ (j : ℕ). i * j) (thin .1) ∙ mul-one i))
+
   -- the parts of a span, one after another
   pub joined : (y x q z : ℕ) (b b₁ b₂ : List ℕ) → x ≤ q → q ≤ z
       → b₁ ≡ painted (raster f) (columns y x q) colour b → b₂ ≡ painted (raster f) (columns y q z) colour b₁ → b₂ ≡ painted (raster f) (columns y x z) colour b
   joined y x q z b b₁ b₂ h k e e′ =
       e′ ∙ ap (painted (raster f) (columns y q z) colour) e ∙ span-then (raster f) (sound f (A .accepted .described)) colour b y x q z h k
+
+-- ---- from depth 8 on, whole pixels
+module _ (f : Frame) (len colour : ℕ) (A : Drawable f len colour) (s : 8 ≤ f .depth) where
+  alone : per (f .depth) ≡ 1
+  alone = large (f .depth) (A .accepted .described .depth) s .1
+
+  one : (x : ℕ) → x * per (f .depth) ≡ x
+  one x = ap (λ (k : ℕ). x * k) alone ∙ mul-one x
+
+  -- the byte of a pixel, by whole pixels
+  place : (x : ℕ) → x * f .depth / 8 ≡ x * parts (f .depth)
+  place x = column (f .depth) (depth-of (f .depth) (A .accepted .described .depth)) x ∙ ap (λ (k : ℕ). x / k * parts (f .depth)) alone ∙ ap (λ (k : ℕ). k * parts (f .depth)) (div-one x)
+
+  -- columns take up room for a pixel at least
+  pub pixels-apart : (y x z : ℕ) {a e : ℕ} → x < z → a ≡ y * rowBytes (f .width) (f .depth) + x * f .depth / 8 → e ≡ y * rowBytes (f .width) (f .depth) + z * f .depth / 8 → a + parts (f .depth) ≤ e
+  pixels-apart y x z h ea ee =
+      let l : (x + 1) * parts (f .depth) ≤ z * parts (f .depth) = mul-le-mul-right (parts (f .depth)) (omega arith) in
+      omega (arith, place x, place z)
+
+  pub pixels-are : (y x z : ℕ) (b t t′ : List ℕ) (a k : ℕ) → y < f .height → Bytes b → x ≤ z → z ≤ f .width
+      → a ≡ y * rowBytes (f .width) (f .depth) + x * f .depth / 8 → a + k ≡ y * rowBytes (f .width) (f .depth) + z * f .depth / 8 → a + k ≤ length b
+      → t ≡ take k (drop a b) → t′ ≡ setRun 0 (length t) (fullByte (f .depth) (f .big) colour) t
+      → take a b ++ (t′ ++ drop k (drop a b)) ≡ painted (raster f) (columns y x z) colour b
+  pixels-are y x z b t t′ a k hy v h w ea ek l e e′ =
+      groups-filled (raster f) (sound f (A .accepted .described)) colour (A .below) y x z b t t′ a k h (subst (λ (i : ℕ). i ≤ f .width) (sym (one z)) w) hy (ea ∙ ap (λ (i : ℕ). y * rowBytes (f .width) (f .depth) + i) (place x)) (ek ∙ ap (λ (i : ℕ). y * rowBytes (f .width) (f .depth) + i) (place z)) l v e e′
+      ∙ ap₂ (λ (i j : ℕ). painted (raster f) (columns y i j) colour b) (one x) (one z)

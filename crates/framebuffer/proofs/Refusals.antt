@@ -3,7 +3,7 @@
 use mathlib.Core.Path.{_≡_, refl, sym, ap, _∙_}
 use mathlib.Core.Bool.{Bool, true, false, cond, not, _||_, true≢false}
 use Prim.Native.Nat.{ℕ, zero, suc, _+_, _*_, _/_, _%_, _^_, _≤_, _<_}
-use native.Mathlib.Nat.{mul-le-mul, mul-zero, le-refl, mod-eq-of-lt}
+use native.Mathlib.Nat.{mul-le-mul, mul-zero, le-refl, mod-eq-of-lt, mul-le-mul-right}
 use native.Mathlib.Omega.{arith}
 use lib.Dec.{ltb, leb, eqb}
 use lib.IntN.{ℤ}
@@ -149,6 +149,25 @@ module _ (f : Frame) (len x y : ℕ) (A : Accepted f len) (hx : x < f .width) (h
 
   pub pixel-small : (x ≤ 2048) × (y ≤ 2048)
   pixel-small = let w = A .described .width in let h = A .described .height in (omega arith, omega arith)
+
+-- a place in a row, or at its end, as a drawing call may ask for its byte
+pub place-small : (f : Frame) (len colour : ℕ) {x y : ℕ} → drawNumber f len colour 0 ≡ 0 → x ≤ f .width → y < f .height → (descriptionRefusal f 0 ≡ 0) × (x ≤ 2048) × (y ≤ 2048)
+place-small f len colour z hx hy =
+    let d = description-passed f len (frame-passed f len colour z) in
+    let D = is-described f d in
+    let w = D .width in
+    let h = D .height in
+    (d, omega arith, omega arith)
+
+-- a span ends in the buffer, or with it
+pub end-room : (f : Frame) (len x y : ℕ) → Accepted f len → x ≤ f .width → y < f .height → y * rowBytes (f .width) (f .depth) + x * f .depth / 8 ≤ len
+unfolding size rowBytes
+end-room f len x y A hx hy =
+    let w = (f .width * f .depth + 7) / 8 in
+    let m : x * f .depth ≤ f .width * f .depth = mul-le-mul-right (f .depth) hx in
+    let l : (y + 1) * w ≤ f .height * w = mul-le-mul-right w (omega arith) in
+    let r = A .room in
+    omega arith
 
 -- a frame that takes bytes takes those of a pixel
 pub one-pixel : (f : Frame) → Described f → 0 < size f → parts (f .depth) ≤ size f

@@ -455,29 +455,12 @@ fn fill_part(part: &mut [u8], depth: u32, big: bool, colour: u32)
 
 // ---- spans
 
-// In the byte of pixel (x, y), the pixels that the mask has take the colour, at depths 1, 2 and 4.
-fn paint_byte(buf: &mut [u8], frame: Frame, x: u32, y: u32, colour: u32, m: u8)
-    requires { ⌜ (drawNumber frame (length (now buf)) colour 0 ≡ 0) × (frame .depth < 8) × (x ≤ frame .width) × (y < frame .height) × (y * rowBytes (frame .width) (frame .depth) + x * frame .depth / 8 < length (now buf)) ⌝ }
-    ensures { λ r. ⌜ now (buf .exit) ≡ mergedAt (y * rowBytes (frame .width) (frame .depth) + x * frame .depth / 8) (value (2 ^ field (frame .depth)) (per (frame .depth)) (λ k. colour)) m (now (buf .entry)) ⌝ }
+// The byte at a place takes p where m has ones.
+fn merge_at(buf: &mut [u8], at: usize, p: u8, m: u8)
+    requires { ⌜ at < length (now buf) ⌝ }
+    ensures { λ r. ⌜ now (buf .exit) ≡ mergedAt at p m (now (buf .entry)) ⌝ }
 {
-    let at = byte_of(frame, x, y);
-    buf[at] = merge(buf[at], pattern(frame.depth, colour), m);
-}
-
-// Whole bytes of row y, from group `first` to one before `last`. A group is the pixels of a byte, or a pixel of several bytes.
-fn paint_groups(buf: &mut [u8], frame: Frame, y: u32, first: u32, last: u32, colour: u32)
-    requires { ⌜ (drawNumber frame (length (now buf)) colour 0 ≡ 0) × (y < frame .height) × (last * per (frame .depth) ≤ frame .width) ⌝ }
-    ensures { λ r. ⌜ now (buf .exit) ≡ painted (raster frame) (rowSpan (pos y) (pos (first * per (frame .depth))) (pos (last * per (frame .depth)))) colour (now (buf .entry)) ⌝ }
-{
-    if last <= first {
-        return;
-    }
-    let depth = frame.depth;
-    let bytes = (depth + 7) / 8;
-    let row = y * row_distance(frame);
-    let start = (row + first * bytes) as usize;
-    let end = (row + last * bytes) as usize;
-    fill_part(&mut buf[start..end], depth, frame.big, colour);
+    buf[at] = merge(buf[at], p, m);
 }
 
 // Columns of row y at depths 1, 2 and 4: the rest of the first byte, whole bytes, and the start of the last.
@@ -486,21 +469,23 @@ fn paint_fields(buf: &mut [u8], frame: Frame, y: u32, from: u32, past: u32, colo
     ensures { λ r. ⌜ now (buf .exit) ≡ painted (raster frame) (rowSpan (pos y) (pos from) (pos past)) colour (now (buf .entry)) ⌝ }
 {
     let depth = frame.depth;
-    let first = from * depth / 8;
-    let last = past * depth / 8;
+    let p = pattern(depth, colour);
+    let first = byte_of(frame, from, y);
+    let last = byte_of(frame, past, y);
     let head = onward(depth, from);
     let tail = !onward(depth, past);
     if first == last {
-        paint_byte(buf, frame, from, y, colour, head & tail);
+        merge_at(buf, first, p, head & tail);
         return;
     }
-    paint_byte(buf, frame, from, y, colour, head);
-    paint_groups(buf, frame, y, first + 1, last, colour);
+    merge_at(buf, first, p, head);
+    set_all(&mut buf[first + 1..last], p);
     if past * depth % 8 != 0 {
-        paint_byte(buf, frame, past, y, colour, tail);
+        merge_at(buf, last, p, tail);
     }
 }
 
+// Columns of row y. From depth 8 on they are whole bytes.
 fn paint_columns(buf: &mut [u8], frame: Frame, y: u32, from: u32, past: u32, colour: u32)
     requires { ⌜ (drawNumber frame (length (now buf)) colour 0 ≡ 0) × (y < frame .height) × (from < past) × (past ≤ frame .width) ⌝ }
     ensures { λ r. ⌜ now (buf .exit) ≡ painted (raster frame) (rowSpan (pos y) (pos from) (pos past)) colour (now (buf .entry)) ⌝ }
@@ -509,7 +494,9 @@ fn paint_columns(buf: &mut [u8], frame: Frame, y: u32, from: u32, past: u32, col
         paint_fields(buf, frame, y, from, past, colour);
         return;
     }
-    paint_groups(buf, frame, y, from, past, colour);
+    let start = byte_of(frame, from, y);
+    let end = byte_of(frame, past, y);
+    fill_part(&mut buf[start..end], frame.depth, frame.big, colour);
 }
 
 // The nearest number of low to high.

@@ -1,18 +1,22 @@
--- `framebuffer::paint_columns` goes by the depth: from a byte on, a column is a group. Assumes nothing.
-use mathlib.Core.Path.{_≡_, sym, ap, ap₂, subst, _∙_}
-use Prim.Native.Nat.{ℕ, _*_, _≤_}
-use native.Mathlib.Nat.{mul-one}
+-- `framebuffer::paint_columns` goes by the depth: from a byte on, it fills the part of the buffer that the columns take up. Assumes nothing.
+use mathlib.Core.Path.{_≡_, refl, sym, _∙_}
+use Prim.Native.Nat.{_+_, _-_, _≤_}
+use native.Mathlib.Nat.{le-of-lt}
+use native.Mathlib.Omega.{arith}
+use lib.ListN.{length, length-take, length-drop}
 use borrow.Author.Needs.{needs}
-use Rattle.layout.specs.Raster.{per, painted}
-use Rattle.layout.proofs.Places.{large}
-use Rattle.layout.proofs.Spans.{columns}
-use Rattle.framebuffer.specs.Description.{raster}
-use Rattle.framebuffer.proofs.Refusals.{is-drawable}
+use Rattle.layout.specs.Raster.{parts}
+use Rattle.framebuffer.proofs.Refusals.{Drawable, is-drawable, place-small, end-room}
+use Rattle.framebuffer.proofs.Edges.{pixels-are, pixels-apart}
 use Rattle.framebuffer.proofs.paint_columns.Statement.{statement}
 use Rattle.framebuffer.proofs.paint_columns.Tie as tie
 
+-- what the call may lean on
+ok : (c : tie.Start) → Drawable (c .args .frame) (length (c .args .buf .now)) (c .args .colour)
+ok c = is-drawable (c .args .frame) (length (c .args .buf .now)) (c .args .colour) (c .pre .0)
+
 paint-fields-requires : tie.Need-paint-fields-requires
-paint-fields-requires c κs = (c .before .before .before .before .pre .0, c .before .if1 .taken, c .before .before .before .before .pre .1, c .before .before .before .before .pre .2, c .before .before .before .before .pre .3)
+paint-fields-requires c κs = let p = c .before .before .before .before .pre in (p .0, c .before .if1 .taken, p .1, p .2, p .3)
 
 same-length : tie.Need-same-length
 same-length c = search needs
@@ -20,27 +24,66 @@ same-length c = search needs
 returns : tie.Need-returns
 returns c = c .before .before .paint-fields .ensures
 
--- groups of one pixel
-alone : (c : tie.Else1) → per (c .before .before .before .args .frame .depth) ≡ 1
-alone c =
-    let a = c .before .before .before .args in
-    large (a .frame .depth) (is-drawable (a .frame) _ (a .colour) (c .before .before .before .pre .0) .accepted .described .depth) (c .if1 .left) .1
+byte-of-requires : tie.Need-byte-of-requires
+byte-of-requires c κs = let s = c .before .before .before in place-small (s .args .frame) _ (s .args .colour) (s .pre .0) (let f = s .pre .2 in let p = s .pre .3 in omega arith) (s .pre .1)
 
-one : (c : tie.Else1) (x : ℕ) → x * per (c .before .before .before .args .frame .depth) ≡ x
-one c x = ap (λ (k : ℕ). x * k) (alone c) ∙ mul-one x
+byte-of-requires-2 : tie.Need-byte-of-requires-2
+byte-of-requires-2 c κs = let s = c .before .before .before .before in place-small (s .args .frame) _ (s .args .colour) (s .pre .0) (s .pre .3) (s .pre .1)
 
-paint-groups-requires : tie.Need-paint-groups-requires
-paint-groups-requires c κs = (c .before .before .before .before .pre .0, c .before .before .before .before .pre .1, subst (λ (x : ℕ). x ≤ c .before .before .before .before .args .frame .width) (sym (one (c .before) (c .before .before .before .before .args .past))) (c .before .before .before .before .pre .3))
+-- the part of the buffer is in it, and holds a pixel
+apart : (c : tie.After-byte-of2) → c .before .byte-of .result + parts (c .before .before .before .before .before .args .frame .depth) ≤ c .byte-of2 .result
+apart c =
+    let s = c .before .before .before .before .before in
+    let a = s .args in
+    pixels-apart (a .frame) _ (a .colour) (ok s) (c .before .before .if1 .left) (a .y) (a .from) (a .past) (s .pre .2) (c .before .byte-of .ensures) (c .byte-of2 .ensures)
+
+end : (c : tie.After-byte-of2) → c .byte-of2 .result ≤ length (c .before .before .before .before .before .args .buf .now)
+end c =
+    let s = c .before .before .before .before .before in
+    let a = s .args in
+    let e = c .byte-of2 .ensures in
+    let r = end-room (a .frame) _ (a .past) (a .y) (ok s .accepted) (s .pre .3) (s .pre .1) in
+    omega arith
+
+sub-fill-part : tie.Need-sub-fill-part
+sub-fill-part c = omega (arith, apart c)
+
+part-fill-part-start : tie.Need-part-fill-part-start
+part-fill-part-start c = omega (arith, apart c)
+
+part-fill-part-end : tie.Need-part-fill-part-end
+part-fill-part-end c = omega (arith, end c)
+
+fill-part-requires : tie.Need-fill-part-requires
+fill-part-requires c κs =
+    let s = c .before .before .before .before .before .before in
+    (ok s .accepted .described .depth, ok s .below, simp (length-take, length-drop) (omega (arith, apart (c .before), end (c .before))))
 
 same-length-2 : tie.Need-same-length-2
 same-length-2 c = search needs
 
 returns-2 : tie.Need-returns-2
 returns-2 c =
-    let a = c .before .before .before .before .before .before .before .args in
-    c .before .before .paint-groups .ensures
-    ∙ ap₂ (λ (x z : ℕ). painted (raster (a .frame)) (columns (a .y) x z) (a .colour) (a .buf .now)) (one (c .before .before .before .before) (a .from)) (one (c .before .before .before .before) (a .past))
+    let s = c .before .before .before .before .before .before .before .before .before in
+    let a = s .args in
+    let o = c .before .before .before .before in
+    let k : o .before .byte-of .result + (o .byte-of2 .result - o .before .byte-of .result) ≡ o .byte-of2 .result = omega (arith, apart o) in
+    let l = end o in
+    pixels-are (a .frame) _ (a .colour) (ok s) (c .before .before .before .before .before .before .if1 .left) (a .y) (a .from) (a .past) (a .buf .now) _ (c .before .before .fill-part .last .0) _ _ (s .pre .1) (λ i. c .before .before .before .before .before .before .before .before .slice-known .given i .fits) (le-of-lt (s .pre .2)) (s .pre .3)
+    (o .before .byte-of .ensures) (k ∙ o .byte-of2 .ensures) (omega arith) refl (c .before .before .fill-part .ensures)
 
 pub paint-columns-spec : {M : Type 1} → statement M
 paint-columns-spec =
-    tie.close (tie.spec paint-fields-requires same-length returns paint-groups-requires same-length-2 returns-2)
+    tie.close
+    (tie.spec
+    paint-fields-requires
+    same-length
+    returns
+    byte-of-requires
+    byte-of-requires-2
+    sub-fill-part
+    part-fill-part-start
+    part-fill-part-end
+    fill-part-requires
+    same-length-2
+    returns-2)

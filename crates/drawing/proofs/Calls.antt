@@ -1,5 +1,5 @@
--- Laws of a drawing call: its refusals, one nest after the other; and its answer and bytes, refused and done. Assumes nothing.
-use mathlib.Core.Path.{_≡_, refl, sym, ap, _∙_}
+-- Laws of a drawing call: its refusals, one nest after the other; and its answer and bytes, accepted and refused. Assumes nothing.
+use mathlib.Core.Path.{_≡_, refl, sym, ap, subst, _∙_}
 use mathlib.Core.Bool.{Bool, true, false}
 use mathlib.Core.List.{List}
 use Prim.Native.Nat.{ℕ}
@@ -12,9 +12,9 @@ use Rattle.framebuffer.specs.declared.Pane.{Pane}
 use Rattle.framebuffer.specs.declared.Drawn.{Drawn}
 use Rattle.framebuffer.specs.Answer.{drawn}
 use Rattle.framebuffer.specs.Description.{raster, drawNumber, afterDraw}
-use Rattle.framebuffer.specs.Rectangle.{inside, ownPane}
-use Rattle.framebuffer.proofs.Refusals.{Nest, draw-nest, refused, passed, is-drawable, sound, unchanged}
-use Rattle.framebuffer.proofs.Panes.{painted-own}
+use Rattle.framebuffer.specs.Rectangle.{Within, inside, ownPane}
+use Rattle.framebuffer.proofs.Refusals.{draw-nest, refused, passed, is-drawable, sound, unchanged}
+use Rattle.framebuffer.proofs.Panes.{own-within, painted-own}
 
 -- ---- the number: the frame's and the colour's, else the call's own
 module _ (f : Frame) (len colour own : ℕ) where
@@ -32,18 +32,32 @@ module _ (f : Frame) (len colour own : ℕ) where
       by true e = let ok : drawNumber f len colour 0 ≡ 0 = eqb-true (drawNumber f len colour 0) 0 e in (ok, sym (passed (draw-nest f len colour) own ok) ∙ z)
       by false e = let n : drawNumber f len colour 0 ≡ 0 → ⊥ = eqb-false (drawNumber f len colour 0) 0 e in absurd (n (sym (refused (draw-nest f len colour) own refl n) ∙ z))
 
+  pub frame-accepted : {r : ℕ} → r ≡ drawNumber f len colour own → r ≡ 0 → drawNumber f len colour 0 ≡ 0
+  frame-accepted e z = number-zero (sym e ∙ z) .0
+
+  pub own-accepted : {r : ℕ} → r ≡ drawNumber f len colour own → r ≡ 0 → own ≡ 0
+  own-accepted e z = number-zero (sym e ∙ z) .1
+
 -- an accepted frame is sound
 pub sound-at : (f : Frame) (len colour : ℕ) → drawNumber f len colour 0 ≡ 0 → Sound (raster f)
 sound-at f len colour ok = sound f (is-drawable f len colour ok .accepted .described)
 
--- ---- the answer and the bytes
-module _ (f : Frame) (figure : ℤ → ℤ → Bool) (colour : ℕ) (b : List ℕ) where
-  pub call-refused : (r : ℕ) {N : ℕ} → r ≡ N → (r ≡ 0 → ⊥) → (_≡_ {A = Drawn} (record { number = r }) (drawn N)) × (b ≡ afterDraw f r figure colour b)
-  call-refused r e n = (ap drawn e, unchanged f r figure colour b n)
+-- its own rectangle ends within it
+pub within-own : {f : Frame} {pane : Pane} → pane ≡ ownPane f → Within pane f
+within-own {f} p = subst (λ (q : Pane). Within q f) (sym p) (own-within f)
 
-  pub call-done : (len : ℕ) {N : ℕ} {pane : Pane} {after : List ℕ} → drawNumber f len colour 0 ≡ 0 → N ≡ 0 → pane ≡ ownPane f → after ≡ painted (raster f) (inside pane figure) colour b
-      → (_≡_ {A = Drawn} (record { number = 0 }) (drawn N)) × (after ≡ afterDraw f 0 figure colour b)
-  call-done len ok z p h = (
-    ap drawn (sym z),
-    h ∙ ap (λ (q : Pane). painted (raster f) (inside q figure) colour b) p ∙ painted-own f (is-drawable f len colour ok .accepted .described) colour b figure,
-  )
+-- ---- the answer and the bytes
+pub answered : {r n : ℕ} → r ≡ n → _≡_ {A = Drawn} (record { number = r }) (drawn n)
+answered e = ap drawn e
+
+-- accepted: the frame's own rectangle took nothing away
+pub all-painted : (f : Frame) (len colour own : ℕ) (figure : ℤ → ℤ → Bool) (b : List ℕ) {r : ℕ} {pane : Pane} {after : List ℕ}
+    → r ≡ drawNumber f len colour own → r ≡ 0 → pane ≡ ownPane f → after ≡ painted (raster f) (inside pane figure) colour b → after ≡ afterDraw f r figure colour b
+all-painted f len colour own figure b e z p h =
+    h
+    ∙ ap (λ (q : Pane). painted (raster f) (inside q figure) colour b) p
+    ∙ painted-own f (is-drawable f len colour (frame-accepted f len colour own e z) .accepted .described) colour b figure
+    ∙ ap (λ (n : ℕ). afterDraw f n figure colour b) (sym z)
+
+-- what answers the needs of a call and of its number
+pub ruleset calls = (number-first, number-own, frame-accepted, own-accepted, within-own, answered, unchanged, all-painted)

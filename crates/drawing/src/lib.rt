@@ -53,11 +53,10 @@ pub fn draw_line(buf: &mut [u8], frame: Frame, start: Point, end: Point, colour:
     ensures { λ r. ⌜ (r ≡ drawn (lineNumber frame (length (now (buf .entry))) start end colour)) × (now (buf .exit) ≡ afterDraw frame (r .number) (lineFigure start end) colour (now (buf .entry))) ⌝ }
 {
     let number = line_number(frame, buf.len(), start, end, colour);
-    if number != 0 {
-        return Drawn { number };
+    if number == 0 {
+        draw_edge(buf, frame, frame.pane(), start, end, colour);
     }
-    draw_edge(buf, frame, frame.pane(), start, end, colour);
-    Drawn { number: 0 }
+    Drawn { number }
 }
 
 // The number that drawing a triangle or its outline answers.
@@ -101,11 +100,10 @@ pub fn draw_outline(
     ensures { λ r. ⌜ (r ≡ drawn (triangleNumber frame (length (now (buf .entry))) v1 v2 v3 colour)) × (now (buf .exit) ≡ afterDraw frame (r .number) (outlineFigure v1 v2 v3) colour (now (buf .entry))) ⌝ }
 {
     let number = triangle_number(frame, buf.len(), v1, v2, v3, colour);
-    if number != 0 {
-        return Drawn { number };
+    if number == 0 {
+        draw_edges(buf, frame, frame.pane(), v1, v2, v3, colour);
     }
-    draw_edges(buf, frame, frame.pane(), v1, v2, v3, colour);
-    Drawn { number: 0 }
+    Drawn { number }
 }
 
 // The rows of an accepted circle, as far as the rectangle holds them.
@@ -145,11 +143,10 @@ pub fn draw_circle(
     ensures { λ r. ⌜ (r ≡ drawn (circleNumber frame (length (now (buf .entry))) topleft diameter colour)) × (now (buf .exit) ≡ afterDraw frame (r .number) (circleFigure topleft diameter) colour (now (buf .entry))) ⌝ }
 {
     let number = circle_number(frame, buf.len(), topleft, diameter, colour);
-    if number != 0 {
-        return Drawn { number };
+    if number == 0 {
+        fill_circle(buf, frame, frame.pane(), topleft, diameter, colour);
     }
-    fill_circle(buf, frame, frame.pane(), topleft, diameter, colour);
-    Drawn { number: 0 }
+    Drawn { number }
 }
 
 // The rows of a triangle from top to bottom, from walks that stand at its top, as far as the rectangle holds them.
@@ -217,9 +214,8 @@ pub fn draw_triangle(
     ensures { λ r. ⌜ (r ≡ drawn (triangleNumber frame (length (now (buf .entry))) v1 v2 v3 colour)) × (now (buf .exit) ≡ afterDraw frame (r .number) (triangleFigure v1 v2 v3) colour (now (buf .entry))) ⌝ }
 {
     let number = triangle_number(frame, buf.len(), v1, v2, v3, colour);
-    if number != 0 {
-        return Drawn { number };
+    if number == 0 {
+        fill_triangle(buf, frame, frame.pane(), v1, v2, v3, colour);
     }
-    fill_triangle(buf, frame, frame.pane(), v1, v2, v3, colour);
-    Drawn { number: 0 }
+    Drawn { number }
 }

@@ -13,8 +13,8 @@ use mir.Facts.{toZ-ofZ}
 use borrow.Author.Needs.{needs}
 use Rattle.whole.specs.Decides.{Decides}
 use Rattle.whole.proofs.Difference.{up, dn, lt-nat, le-nat, eq-nat, nat-lt}
-use Rattle.whole.proofs.Machine.{field-back, le-yes, le-no}
-use Rattle.whole.proofs.Order.{le-self}
+use Rattle.whole.proofs.Machine.{field-back, le-yes, le-no, lt-yes, lt-no}
+use Rattle.whole.proofs.Order.{le-self, lt-le}
 use Rattle.edges.specs.declared.Row.{Row}
 use Rattle.edges.specs.Shape.{Shape, Between, WalkAt, Rowing, Rowed, Begun}
 use Rattle.layout.specs.Figure.{rowSpan}
@@ -56,6 +56,9 @@ loop-holds c =
       ),
     )
 
+-- what a test of two signed numbers says, taken or left
+ruleset tests = (le-yes, le-no, lt-yes, lt-no, lt-le)
+
 -- in a turn
 module _ (c : tie.In-loop Inv-loop μ-loop) where
   abbrev entry : tie.Start Inv-loop μ-loop
@@ -70,8 +73,12 @@ module _ (c : tie.In-loop Inv-loop μ-loop) where
   rowing : Rowing (c .before .loop .w)
   rowing = record { t = entry .pre .2 .t; y = y; at = c .before .loop .inv .2 (entry .pre .2 .t) some .0; few = some .few }
 
+  -- all that a turn asks of the test: `<` would do too. That no row is left out is asked after the loop
+  not-past : y ≤ℤ toZ w32 (ofZ w32 (entry .args .bottom))
+  not-past = search tests
+
   next-row : SFits w32 (y +ℤ pos 1)
-  next-row = row-fits some y (c .before .loop .inv .1) (le-yes (c .loop-test .taken))
+  next-row = row-fits some y (c .before .loop .inv .1) not-past
 
   next-back : toZ w32 (ofZ w32 (y +ℤ pos 1)) ≡ y +ℤ pos 1
   next-back = toZ-ofZ next-row
@@ -115,7 +122,7 @@ loop-less : tie.Need-loop-less Inv-loop μ-loop
 loop-less c =
     let h = c .before .before .before .before .before .before .before .before .before in
     let bottom = toZ w32 (ofZ w32 (entry h .args .bottom)) in
-    subst (λ (v : ℤ). (up bottom + dn v + 1) - (up v + dn bottom) < (up bottom + dn (y h) + 1) - (up (y h) + dn bottom)) (sym (next-back h)) (nearer (y h) bottom (le-yes (h .loop-test .taken)))
+    subst (λ (v : ℤ). (up bottom + dn v + 1) - (up v + dn bottom) < (up bottom + dn (y h) + 1) - (up (y h) + dn bottom)) (sym (next-back h)) (nearer (y h) bottom (not-past h))
 
 loop-again : tie.Need-loop-again Inv-loop μ-loop
 loop-again c =
@@ -155,7 +162,7 @@ returns c =
     let l = c .before .loop in
     λ t figure b says.
     let g = begun s b in
-    let past : toZ w32 (ofZ w32 (a .bottom)) <ℤ toZ w32 (l .y) = le-no (c .loop-test .left) in
+    let past : toZ w32 (ofZ w32 (a .bottom)) <ℤ toZ w32 (l .y) = search tests in
     l .inv .2 t g .1 figure (s .pre .0) says
     ∙ rows-end (raster (a .frame)) (sound-at (a .frame) (length (a .buf .now)) (a .colour) (s .pre .0)) (a .pane) (a .colour) (a .buf .now) figure (toZ w32 (l .y))
     (λ u v k. none-below t figure says u v (nat-lt (omega (arith, lt-nat past, le-nat k, eq-nat (g .last)))))

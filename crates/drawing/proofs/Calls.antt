@@ -1,22 +1,13 @@
--- Laws of a drawing call: its refusals, one nest after the other; and its answer and bytes, accepted and refused. Assumes nothing.
-use mathlib.Core.Path.{_≡_, refl, sym, ap, subst, _∙_}
-use mathlib.Core.Bool.{Bool, true, false}
-use mathlib.Core.List.{List}
+-- Laws of a figure's call: its refusals, one nest after the other. Assumes nothing.
+use mathlib.Core.Path.{_≡_, sym, _∙_}
 use Prim.Native.Nat.{ℕ}
-use lib.Dec.{eqb}
-use lib.IntN.{ℤ}
-use borrow.Author.Tests.{eqb-true, eqb-false}
-use Rattle.layout.specs.Raster.{Sound, painted}
+use Rattle.layout.specs.Raster.{Sound}
 use Rattle.framebuffer.specs.declared.Frame.{Frame}
-use Rattle.framebuffer.specs.declared.Pane.{Pane}
-use Rattle.framebuffer.specs.declared.Drawn.{Drawn}
-use Rattle.framebuffer.specs.Answer.{drawn}
-use Rattle.framebuffer.specs.Description.{raster, drawNumber, afterDraw}
-use Rattle.framebuffer.specs.Rectangle.{Within, inside, ownPane}
-use Rattle.framebuffer.proofs.Refusals.{draw-nest, refused, passed, is-drawable, sound, unchanged}
-use Rattle.framebuffer.proofs.Panes.{own-within, painted-own}
+use Rattle.framebuffer.specs.Description.{raster, drawNumber}
+use Rattle.framebuffer.proofs.Refusals.{draw-nest, refused, passed, is-drawable, sound}
+use Rattle.framebuffer.proofs.Calls as framebuffer
 
--- ---- the number: the frame's and the colour's, else the call's own
+-- the number: the frame's and the colour's, else the call's own
 module _ (f : Frame) (len colour own : ℕ) where
   pub number-first : {r : ℕ} → r ≡ drawNumber f len colour 0 → (r ≡ 0 → ⊥) → r ≡ drawNumber f len colour own
   number-first e n = sym (refused (draw-nest f len colour) own e n)
@@ -24,40 +15,9 @@ module _ (f : Frame) (len colour own : ℕ) where
   pub number-own : {r : ℕ} → drawNumber f len colour 0 ≡ 0 → r ≡ own → r ≡ drawNumber f len colour own
   number-own z e = e ∙ sym (passed (draw-nest f len colour) own z)
 
-  -- accepted: by both
-  pub number-zero : drawNumber f len colour own ≡ 0 → (drawNumber f len colour 0 ≡ 0) × (own ≡ 0)
-  number-zero z = by (eqb (drawNumber f len colour 0) 0) refl
-    where
-      by : (t : Bool) → eqb (drawNumber f len colour 0) 0 ≡ t → (drawNumber f len colour 0 ≡ 0) × (own ≡ 0)
-      by true e = let ok : drawNumber f len colour 0 ≡ 0 = eqb-true (drawNumber f len colour 0) 0 e in (ok, sym (passed (draw-nest f len colour) own ok) ∙ z)
-      by false e = let n : drawNumber f len colour 0 ≡ 0 → ⊥ = eqb-false (drawNumber f len colour 0) 0 e in absurd (n (sym (refused (draw-nest f len colour) own refl n) ∙ z))
-
-  pub frame-accepted : {r : ℕ} → r ≡ drawNumber f len colour own → r ≡ 0 → drawNumber f len colour 0 ≡ 0
-  frame-accepted e z = number-zero (sym e ∙ z) .0
-
-  pub own-accepted : {r : ℕ} → r ≡ drawNumber f len colour own → r ≡ 0 → own ≡ 0
-  own-accepted e z = number-zero (sym e ∙ z) .1
-
 -- an accepted frame is sound
 pub sound-at : (f : Frame) (len colour : ℕ) → drawNumber f len colour 0 ≡ 0 → Sound (raster f)
 sound-at f len colour ok = sound f (is-drawable f len colour ok .accepted .described)
 
--- its own rectangle ends within it
-pub within-own : {f : Frame} {pane : Pane} → pane ≡ ownPane f → Within pane f
-within-own {f} p = subst (λ (q : Pane). Within q f) (sym p) (own-within f)
-
--- ---- the answer and the bytes
-pub answered : {r n : ℕ} → r ≡ n → _≡_ {A = Drawn} (record { number = r }) (drawn n)
-answered e = ap drawn e
-
--- accepted: the frame's own rectangle took nothing away
-pub all-painted : (f : Frame) (len colour own : ℕ) (figure : ℤ → ℤ → Bool) (b : List ℕ) {r : ℕ} {pane : Pane} {after : List ℕ}
-    → r ≡ drawNumber f len colour own → r ≡ 0 → pane ≡ ownPane f → after ≡ painted (raster f) (inside pane figure) colour b → after ≡ afterDraw f r figure colour b
-all-painted f len colour own figure b e z p h =
-    h
-    ∙ ap (λ (q : Pane). painted (raster f) (inside q figure) colour b) p
-    ∙ painted-own f (is-drawable f len colour (frame-accepted f len colour own e z) .accepted .described) colour b figure
-    ∙ ap (λ (n : ℕ). afterDraw f n figure colour b) (sym z)
-
 -- what answers the needs of a call and of its number
-pub ruleset calls = (number-first, number-own, frame-accepted, own-accepted, within-own, answered, unchanged, all-painted)
+pub ruleset calls = (framebuffer.calls, number-first, number-own)

@@ -4,6 +4,7 @@ pub mod Parts
 pub mod Panes
 pub mod Edges
 pub mod Clips
+pub mod Calls
 pub mod Determined
 pub mod Exactly
 pub mod Known

@@ -356,11 +356,10 @@ pub fn set_pixel(buf: &mut [u8], frame: Frame, p: geometry::Point, colour: u32) 
     ensures { λ r. ⌜ (r ≡ drawn (drawNumber frame (length (now (buf .entry))) colour 0)) × (now (buf .exit) ≡ afterDraw frame (r .number) (single (p .0) (p .1)) colour (now (buf .entry))) ⌝ }
 {
     let number = draw_refusal(frame, buf.len(), colour);
-    if number != 0 {
-        return Drawn { number };
+    if number == 0 {
+        put_point(buf, frame, frame.pane(), p, colour);
     }
-    put_point(buf, frame, frame.pane(), p, colour);
-    Drawn { number: 0 }
+    Drawn { number }
 }
 
 // The colour of the pixel at a place.
@@ -562,18 +561,25 @@ fn fill_rows(buf: &mut [u8], frame: Frame, colour: u32)
     }
 }
 
-// Every pixel of the frame gets the colour.
-pub fn fill(buf: &mut [u8], frame: Frame, colour: u32) -> Drawn
-    ensures { λ r. ⌜ (r ≡ drawn (drawNumber frame (length (now (buf .entry))) colour 0)) × (now (buf .exit) ≡ afterDraw frame (r .number) everywhere colour (now (buf .entry))) ⌝ }
+// An accepted frame, as one run where it has no padding.
+fn fill_frame(buf: &mut [u8], frame: Frame, colour: u32)
+    requires { ⌜ drawNumber frame (length (now buf)) colour 0 ≡ 0 ⌝ }
+    ensures { λ r. ⌜ now (buf .exit) ≡ painted (raster frame) everywhere colour (now (buf .entry)) ⌝ }
 {
-    let number = draw_refusal(frame, buf.len(), colour);
-    if number != 0 {
-        return Drawn { number };
-    }
     if row_distance(frame) * 8 == frame.width * frame.depth {
         fill_run(buf, frame, colour);
     } else {
         fill_rows(buf, frame, colour);
     }
-    Drawn { number: 0 }
+}
+
+// Every pixel of the frame gets the colour.
+pub fn fill(buf: &mut [u8], frame: Frame, colour: u32) -> Drawn
+    ensures { λ r. ⌜ (r ≡ drawn (drawNumber frame (length (now (buf .entry))) colour 0)) × (now (buf .exit) ≡ afterDraw frame (r .number) everywhere colour (now (buf .entry))) ⌝ }
+{
+    let number = draw_refusal(frame, buf.len(), colour);
+    if number == 0 {
+        fill_frame(buf, frame, colour);
+    }
+    Drawn { number }
 }

@@ -26,7 +26,7 @@ use Rattle.layout.proofs.Places.{number-in, raster-laws}
 use Rattle.framebuffer.specs.declared.Frame.{Frame}
 use Rattle.framebuffer.specs.Description.{raster, size, descriptionRefusal, bufferRefusal, drawNumber, afterDraw}
 use Rattle.framebuffer.proofs.Refusals.{Accepted, is-accepted, is-drawable, sound, frame-nest, refused}
-use Rattle.drawing.proofs.Calls.{number-zero}
+use Rattle.framebuffer.proofs.Calls.{number-zero}
 use Rattle.picture.specs.Calls.{Call, setPixel, fillFrame, drawLine, drawTriangle, drawOutline, drawCircle, figureOf, colourOf, numberOf, afterCall, afterCalls, Picture, shown, blank, pictureAfter}
 use Rattle.picture.proofs.Blank.{blank-read, colour-fits}
 

@@ -1,8 +1,7 @@
 -- Laws of a circle's fill: its rows start at its top and end below its box, and a row's span has the figure's columns. Assumes nothing.
 use mathlib.Core.Path.{_≡_, sym, ap, _∙_}
-use mathlib.Core.Bool.{Bool, false, _&&_}
+use mathlib.Core.Bool.{false, _&&_}
 use Prim.Native.Nat.{ℕ, _<_}
-use native.Mathlib.Omega.{arith}
 use lib.IntN.{ℤ, pos, _+ℤ_}
 use lib.Signed.{leZ, ltZ, clashℤ, _≤ℤ_, _<ℤ_}
 use Rattle.whole.proofs.Decides.{decides-no}

@@ -18,7 +18,7 @@ use Rattle.whole.proofs.Order.{le-self, le-of, le-trans, le-lt-more, more-lt-le
 use Rattle.geometry.specs.declared.Point.{Point}
 use Rattle.geometry.specs.Bound.{Coord, Bounded}
 use Rattle.line.specs.declared.Walker.{Walker}
-use Rattle.line.specs.Line.{points, pointAt, HasPoint}
+use Rattle.line.specs.Line.{points, HasPoint}
 use Rattle.line.specs.Walk.{WalkerAt}
 use Rattle.line.proofs.Lengths.{points-most}
 use Rattle.line.proofs.Points.{starts, rows-down}

@@ -1,7 +1,6 @@
 // Drawing calls into a lent buffer. Each judges its frame once, then its own arguments, and sets every pixel of the frame that its figure
 // contains.
 ghost use mathlib.Core.Path.{_≡_};
-ghost use Prim.Native.Nat.{_≤_};
 ghost use lib.ListN.{length};
 ghost use mathlib.Core.Bool.{Bool, not};
 ghost use lib.IntN.{ℤ};

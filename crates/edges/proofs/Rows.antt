@@ -1,10 +1,10 @@
 -- Laws of a row: three runs, one after the other, meet all points of the edges on it. Assumes nothing.
-use mathlib.Core.Path.{_≡_, refl, sym, ap, subst, _∙_}
+use mathlib.Core.Path.{_≡_, refl, sym, subst, _∙_}
 use mathlib.Core.Logic.{_⊎_, inl, inr, ⊎-elim}
-use Prim.Native.Nat.{ℕ, zero, suc, _+_, _-_, _*_, _≤_, _<_}
+use Prim.Native.Nat.{ℕ, _+_, _-_, _≤_}
 use native.Mathlib.Omega.{arith}
-use lib.IntN.{ℤ, pos, negsuc, _+ℤ_}
-use lib.Signed.{_≤ℤ_, _<ℤ_}
+use lib.IntN.{ℤ, pos, negsuc}
+use lib.Signed.{_≤ℤ_}
 use Rattle.geometry.specs.declared.Point.{Point}
 use Rattle.line.specs.declared.Walker.{Walker}
 use Rattle.edges.specs.declared.Run.{Run}
@@ -12,7 +12,7 @@ use Rattle.edges.specs.declared.Side.{Side}
 use Rattle.edges.specs.declared.Walk.{Walk}
 use Rattle.edges.specs.declared.Row.{Row}
 use Rattle.edges.specs.Side.{OnEdge, WalkedTo, EdgeAt, Going, Ran}
-use Rattle.edges.specs.Shape.{Shape, total, On, WalkAt, Rowing, Rowed}
+use Rattle.edges.specs.Shape.{Shape, On, WalkAt, Rowed}
 use Rattle.whole.proofs.Order.{le-trans}
 
 -- lo and hi are the first and last of the columns E, or 131072 and -131073

@@ -1,5 +1,5 @@
 -- Laws of a run: the points of an edge go down, so those of a row follow one another. Assumes nothing.
-use mathlib.Core.Path.{_≡_, refl, sym, ap, subst, _∙_}
+use mathlib.Core.Path.{_≡_, refl, sym, subst, _∙_}
 use mathlib.Core.Logic.{_⊎_, inl, inr, ⊎-elim}
 use Prim.Native.Nat.{ℕ, _+_, _-_, _≤_, _<_}
 use native.Mathlib.Nat.{le-refl}
@@ -15,7 +15,7 @@ use Rattle.line.specs.Line.{major, pointAt}
 use Rattle.line.specs.Walk.{WalkerAt}
 use Rattle.line.proofs.Points.{rows-down}
 use Rattle.edges.specs.declared.Run.{Run}
-use Rattle.edges.specs.Side.{OnEdge, WalkedTo, EdgeAt, Lesser, Greater, Taken, Ran}
+use Rattle.edges.specs.Side.{WalkedTo, EdgeAt, Lesser, Greater, Taken, Ran}
 
 -- a walker that has points left is not past the last step
 pub to-go : {s e : Point} {n k : ℕ} {w : Walker} {left : ℕ} → WalkedTo s e n k w left → 0 < left → k ≤ major s e

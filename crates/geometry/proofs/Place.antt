@@ -1,6 +1,5 @@
 -- Laws of places. Assumes nothing.
 use mathlib.Core.Path.{_≡_, ap}
-use mathlib.Core.Bool.{Bool}
 use Rattle.whole.specs.Decides.{Decides}
 use Rattle.whole.specs.Equal.{eqZ}
 use Rattle.whole.proofs.Decides.{decides-map, decides-and, decides-eq}

@@ -12,7 +12,7 @@ use Rattle.whole.specs.Decides.{Decides}
 use Rattle.whole.proofs.Decides.{never, decides-and, decides-map, decides-no, decides-one, decides-leb, decides-eqb}
 use Rattle.whole.proofs.Difference.{as-mk, mks, mk-eq, lt-nat}
 use Rattle.geometry.specs.declared.Point.{Point}
-use Rattle.line.specs.Line.{toward, wide, high, steep, major, minor, moves, xMoves, yMoves, pointAt, HasPoint, hasPoint, onLine}
+use Rattle.line.specs.Line.{toward, wide, high, steep, major, moves, xMoves, yMoves, pointAt, HasPoint, hasPoint, onLine}
 use Rattle.line.proofs.Moves.{moves-minor}
 use Rattle.line.proofs.Lengths.{major-by, x-by, y-by}
 use Rattle.line.proofs.Points.{has-decides}

@@ -1,8 +1,7 @@
 -- Laws of m, the moves along the minor axis: M is the major and n the minor length, k the step. m is the number that its two inequalities fix;
 -- it starts at 0, ends at n, never falls and rises by one at most; a tie takes no move. Assumes nothing.
-use mathlib.Core.Path.{_≡_, refl, sym, ap, subst, _∙_}
+use mathlib.Core.Path.{_≡_, refl, ap, _∙_}
 use mathlib.Core.Bool.{Bool, cond}
-use mathlib.Core.Logic.{_⊎_, inl, inr, ⊎-elim}
 use Prim.Native.Nat.{ℕ, zero, suc, _+_, _*_, _-_, _/_, _≤_, _<_}
 use native.Mathlib.Nat.{mul-le-mul-left, mul-le-mul-right, div-eq-of-lt-le, div-mul-le-self, lt-div-mul-add, lt-of-mul-lt-mul-left}
 use native.Mathlib.Omega.{arith}

@@ -1,7 +1,7 @@
 -- Laws of a line's points: both ends are points, neighbours differ by one along the major axis and by at most one along the minor one, each lies
 -- within half a pixel of the ideal line, moving both ends moves every point; and the yes or no decides what it says. Assumes nothing.
 use mathlib.Core.Path.{_≡_, refl, sym, ap, ap₂, subst, _∙_}
-use mathlib.Core.Bool.{Bool, true, false, cond, _||_}
+use mathlib.Core.Bool.{Bool, true, false, cond}
 use mathlib.Core.Logic.{_⊎_, inl, inr, ⊎-elim}
 use Prim.Native.Nat.{ℕ, zero, suc, _+_, _*_, _-_, _≤_, _<_, max, min}
 use native.Mathlib.Decide.{decLt}
@@ -12,14 +12,14 @@ use lib.IntN.{ℤ, pos, negsuc, negℤ, natAbs, _+ℤ_, _-ℤ_, _*ℤ_}
 use lib.Signed.{leZ, _≤ℤ_, _<ℤ_}
 use Rattle.whole.specs.Decides.{Decides}
 use Rattle.whole.proofs.Decides.{never, decides-or, decides-map, decides-one, decides-le}
-use Rattle.whole.proofs.Difference.{as-mk, mks, mk-eq, mk-le, le-mk, le-nat, nat-le, nat-eq}
+use Rattle.whole.proofs.Difference.{as-mk, mks, mk-eq, mk-le}
 use Rattle.whole.proofs.Machine.{le-yes, le-no, neg-size, size-pos, size-neg}
 use Rattle.whole.proofs.Order.{le-sub, lt-sub, le-move, move-le}
 use Rattle.geometry.specs.declared.Point.{Point}
 use Rattle.geometry.specs.Place.{samePlace, moved}
 use Rattle.geometry.proofs.Place.{same-decides}
 use Rattle.line.specs.Line.{toward, wide, high, steep, major, minor, moves, xMoves, yMoves, pointAt, points, HasPoint, someStep, hasPoint}
-use Rattle.line.proofs.Moves.{Band, moves-start, moves-end, moves-band, moves-one, moves-mono}
+use Rattle.line.proofs.Moves.{moves-start, moves-end, moves-band, moves-one, moves-mono}
 use Rattle.line.proofs.Lengths.{narrow, major-by, minor-by, x-by, y-by}
 
 -- ---- along one axis: the place so many moves from a towards b

@@ -1,6 +1,6 @@
 -- What the questions on a line are answered, by the number of the refusal or 0 (01, "Numbers an operation may answer"):
 -- a point at a step 5, then 7; the others 5.
-use mathlib.Core.Bool.{Bool, cond, _&&_}
+use mathlib.Core.Bool.{cond, _&&_}
 use Prim.Native.Nat.{ℕ, zero, suc}
 use lib.Dec.{leb}
 use lib.IntN.{pos}

@@ -4,7 +4,7 @@ ghost use Prim.Native.Nat.{ℕ, _+_, _*_, _≤_};
 ghost use lib.Dec.{eqb};
 ghost use lib.IntN.{ℤ, pos, natAbs, _+ℤ_, _-ℤ_, _*ℤ_};
 ghost use Rattle.geometry.specs.declared.Point.{Point as Place};
-ghost use Rattle.geometry.specs.Bound.{Coord, Bounded, inBounds};
+ghost use Rattle.geometry.specs.Bound.{Coord, Bounded};
 ghost use Rattle.geometry.specs.Answer.{verdict};
 ghost use Rattle.line.specs.Line.{toward, moves, major, points, pointAt, onLine, hasPoint};
 ghost use Rattle.line.specs.Walk.{CourseOf, Placing, Moving, Walking, DueAt, WalkerAt};

@@ -6,20 +6,18 @@ use mathlib.Core.List.{List, [], _∷_}
 use mathlib.Core.Logic.{_↔_}
 use Prim.Native.Nat.{ℕ, _+_, _*_, _/_, _%_, _^_, _≤_, _<_}
 use native.Mathlib.Nat.{one-le-pow}
-use native.Mathlib.Omega.{arith}
 use lib.Arith.{digits-div, digits-mod, digits-lt}
 use lib.Dec.{eqb}
-use lib.IntN.{ℤ, pos}
+use lib.IntN.{pos}
 use lib.ListN.{length, replicate, length-replicate}
 use lib.Pow.{pow-pos}
 use borrow.Author.Tests.{eqb-true, eqb-false, ne-eqb}
-use Rattle.geometry.specs.declared.Point.{Point}
 use Rattle.line.specs.Answer.{endRefusal}
 use Rattle.triangle.specs.Answer.{vertexRefusal}
 use Rattle.circle.specs.Refusal.{refusalOf}
 use Rattle.layout.specs.Acts.{acts, pictured}
 use Rattle.layout.specs.Paint.{render}
-use Rattle.layout.specs.Raster.{Raster, field, parts, putNo, getNo, painted}
+use Rattle.layout.specs.Raster.{field, parts, putNo, painted}
 use Rattle.layout.proofs.Acts as abstract
 use Rattle.layout.proofs.Painted.{painted-length}
 use Rattle.layout.proofs.Places.{number-in, raster-laws}

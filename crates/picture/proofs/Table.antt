@@ -1,8 +1,8 @@
 -- THE LOWEST NUMBER WINS. Each operation answers the lowest number of its line of the table that applies, or 0 where none does. Assumes nothing.
 use mathlib.Core.Path.{_≡_, refl, sym, ap, _∙_}
-use mathlib.Core.Bool.{Bool, true, false, cond, not, _&&_, _||_}
+use mathlib.Core.Bool.{Bool, true, false, cond, not, _&&_}
 use mathlib.Core.List.{List, [], _∷_}
-use Prim.Native.Nat.{ℕ, _^_, _≤_, _<_}
+use Prim.Native.Nat.{ℕ, _≤_, _<_}
 use native.Mathlib.Omega.{arith}
 use lib.Dec.{leb, ltb}
 use borrow.Author.Tests.{leb-true, leb-false, le-ltb, lt-ltb}
@@ -12,10 +12,8 @@ use Rattle.line.specs.Line.{major}
 use Rattle.line.specs.Answer.{endRefusal, stepRefusal}
 use Rattle.triangle.specs.Answer.{vertexRefusal}
 use Rattle.circle.specs.Refusal.{boxFits, refusalOf}
-use Rattle.layout.specs.Raster.{goodDepth}
 use Rattle.framebuffer.specs.declared.Frame.{Frame}
-use Rattle.framebuffer.specs.Description.{size, sizeNumber, drawNumber, readNumber}
-use Rattle.framebuffer.specs.Rectangle.{inPane, ownPane}
+use Rattle.framebuffer.specs.Description.{sizeNumber, drawNumber, readNumber}
 use Rattle.drawing.specs.Number.{lineNumber, triangleNumber, circleNumber}
 use Rattle.picture.specs.Table.{lowest, sizeTable, readTable, setTable, lineTable, triangleTable, circleTable, pointTable, onLineTable, onTriangleTable, onCircleTable}
 

@@ -1,12 +1,11 @@
 -- The order of ℤ with sums, differences and products. Assumes nothing.
-use mathlib.Core.Path.{_≡_, refl, sym, subst}
-use mathlib.Core.Logic.{_⊎_, inl, inr}
+use mathlib.Core.Path.{_≡_}
 use Prim.Native.Nat.{ℕ, zero, suc, _+_, _*_, _≤_, _<_}
 use native.Mathlib.Nat.{mul-pos}
 use native.Mathlib.Omega.{arith}
 use lib.IntN.{ℤ, pos, negsuc, negℤ, _+ℤ_, _-ℤ_, _*ℤ_}
-use lib.Signed.{_≤ℤ_, _<ℤ_, ltZ}
-use Rattle.whole.proofs.Difference.{up, dn, as-mk, mks, mk-eq, mk-le, mk-lt, le-mk, lt-mk, eq-mk, le-nat, lt-nat, nat-le, nat-lt, nat-eq, eq-nat}
+use lib.Signed.{_≤ℤ_, _<ℤ_}
+use Rattle.whole.proofs.Difference.{up, dn, as-mk, mks, mk-le, mk-lt, le-mk, lt-mk, eq-mk, le-nat, lt-nat, nat-le, nat-lt, nat-eq, eq-nat}
 
 -- ---- what `omega` does through the two parts: transitivity, antisymmetry, and any chain of variables and literals
 pub le-trans : {a b c : ℤ} → a ≤ℤ b → b ≤ℤ c → a ≤ℤ c

@@ -1,15 +1,15 @@
 -- Rules by which `search (needs, sizes)` closes the needs of signed arithmetic by itself: `Sz k z` is |z| ≤ 2 ^ k, asked at a written-out k.
 use mathlib.Core.Path.{_≡_, refl, sym, subst, ap, ap₂, _∙_}
-use Prim.Native.Nat.{ℕ, zero, suc, _+_, _*_, _-_, _/_, _<_, _≤_, _^_}
-use native.Mathlib.Nat.{le-trans, lt-trans, le-of-lt, mul-le-mul, div-add-mod'}
+use Prim.Native.Nat.{ℕ, suc, _+_, _*_, _-_, _/_, _<_, _≤_, _^_}
+use native.Mathlib.Nat.{le-trans, lt-trans, le-of-lt, mul-le-mul}
 use native.Mathlib.Omega.{arith}
 use lib.Dec.{T, ltb, leb, ltb→lt, leb→le, lit<}
-use lib.IntN.{ℤ, pos, negsuc, negℤ, natAbs, +ℤ-idl, _+ℤ_, _-ℤ_, _*ℤ_}
+use lib.IntN.{ℤ, pos, negsuc, negℤ, natAbs, +ℤ-idl, _+ℤ_, _*ℤ_}
 use lib.Pow.{pow-mono, pow-lt, pow-add}
 use native.Mathlib.Nat.{pow-suc}
 use lib.Signed.{natAbs-le}
-use mir.Syntax.{Width, w32, w64}
-use mir.Val.{SFits, Fits, hbits, toZ, ofZ}
+use mir.Syntax.{w32, w64}
+use mir.Val.{SFits, Fits, toZ, ofZ}
 use mir.Facts.{toZ-ofZ, toZ-pos}
 use Rattle.whole.proofs.Machine.{sized, add-size, mul-size, neg-size}
 

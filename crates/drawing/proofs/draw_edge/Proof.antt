@@ -1,12 +1,12 @@
 -- `drawing::draw_edge` sets the points that the walker hands out, one a turn: before turn k those of the steps below k are set. Assumes nothing.
 use mathlib.Core.Path.{_≡_, refl, sym, ap, ap₂, subst, _∙_}
 use mathlib.Core.List.{List}
-use Prim.Native.Nat.{ℕ, _+_, _-_, _≤_, _<_}
+use Prim.Native.Nat.{ℕ, _+_, _-_, _≤_}
 use native.Mathlib.Omega.{arith}
 use lib.ListN.{length}
 use borrow.Author.Needs.{needs}
 use Rattle.geometry.specs.declared.Point.{Point}
-use Rattle.line.specs.Line.{points, pointAt}
+use Rattle.line.specs.Line.{points}
 use Rattle.line.specs.Walk.{WalkerAt, Walking}
 use Rattle.line.proofs.Lengths.{major-size}
 use Rattle.layout.specs.Raster.{painted}

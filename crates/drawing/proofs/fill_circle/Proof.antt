@@ -13,7 +13,6 @@ use Rattle.geometry.specs.Bound.{Coord}
 use Rattle.geometry.specs.Answer.{span}
 use Rattle.geometry.specs.declared.Span.{Span}
 use Rattle.circle.specs.Circle.{spanStart, spanEnd}
-use Rattle.circle.specs.Refusal.{refusalOf}
 use Rattle.circle.proofs.Refusals.{accepted, widest}
 use Rattle.circle.proofs.Worked.{after-fits, after-is}
 use Rattle.layout.specs.Figure.{rowSpan}

@@ -10,7 +10,6 @@ use lib.Signed.{_≤ℤ_, _<ℤ_}
 use mir.Syntax.{w32}
 use mir.Val.{SFits, toZ, ofZ}
 use mir.Facts.{toZ-ofZ}
-use borrow.Author.Needs.{needs}
 use Rattle.whole.specs.Decides.{Decides}
 use Rattle.whole.proofs.Difference.{up, dn, lt-nat, le-nat, eq-nat, nat-lt}
 use Rattle.whole.proofs.Machine.{field-back, le-yes, le-no, lt-yes, lt-no}

@@ -1,5 +1,5 @@
 -- `drawing::fill_triangle` walks the edges of the sorted vertices; what lies between their points is what the triangle contains. Assumes nothing.
-use mathlib.Core.Path.{_≡_, ap, subst₂}
+use mathlib.Core.Path.{ap, subst₂}
 use mathlib.Core.Bool.{Bool, not}
 use mir.Syntax.{w32}
 use mir.Val.{toZ, ofZ}

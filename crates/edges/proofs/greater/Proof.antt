@@ -1,11 +1,9 @@
 -- `edges::greater` is the greater of two. Assumes nothing.
-use mathlib.Core.Path.{_≡_, sym, subst}
+use mathlib.Core.Path.{sym}
 use mathlib.Core.Logic.{inl, inr}
-use lib.IntN.{ℤ}
 use mir.Facts.{toZ-ofZ}
 use Rattle.whole.proofs.Machine.{lt-true, lt-false}
 use Rattle.whole.proofs.Order.{le-of, le-trans, lt-le}
-use Rattle.edges.specs.Side.{Greater}
 use Rattle.edges.proofs.greater.Statement.{statement}
 use Rattle.edges.proofs.greater.Tie as tie
 

@@ -1,11 +1,8 @@
 -- `edges::lesser` is the lesser of two. Assumes nothing.
-use mathlib.Core.Path.{_≡_, sym, subst}
 use mathlib.Core.Logic.{inl, inr}
-use lib.IntN.{ℤ}
 use mir.Facts.{toZ-ofZ}
 use Rattle.whole.proofs.Machine.{lt-true, lt-false}
 use Rattle.whole.proofs.Order.{le-of, le-trans, lt-le}
-use Rattle.edges.specs.Side.{Lesser}
 use Rattle.edges.proofs.lesser.Statement.{statement}
 use Rattle.edges.proofs.lesser.Tie as tie
 

@@ -1,5 +1,5 @@
 -- `framebuffer::byte_of_pixel` shifts its digit to the front and takes it. Assumes nothing.
-use mathlib.Core.Path.{_≡_, ap, _∙_}
+use mathlib.Core.Path.{ap, _∙_}
 use Prim.Native.Nat.{ℕ, _*_, _/_, _^_, _<_}
 use native.Mathlib.Omega.{arith}
 use lib.Bits.{mask-lt}

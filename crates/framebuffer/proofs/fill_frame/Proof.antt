@@ -2,7 +2,6 @@
 use mathlib.Core.Path.{ap, _∙_}
 use Prim.Native.Nat.{ℕ, _*_}
 use native.Mathlib.Omega.{arith}
-use lib.ListN.{length}
 use borrow.Author.Needs.{needs}
 use Rattle.framebuffer.proofs.Refusals.{is-drawable, frame-passed, description-passed, product, padded}
 use Rattle.framebuffer.proofs.fill_frame.Statement.{statement}

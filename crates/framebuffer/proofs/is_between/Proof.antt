@@ -1,10 +1,7 @@
 -- `framebuffer::is_between` compares with both ends, which fit a signed number. Assumes nothing.
-use mathlib.Core.Path.{_≡_, ap₂}
+use mathlib.Core.Path.{ap₂}
 use mathlib.Core.Bool.{_&&_}
 use native.Mathlib.Omega.{arith}
-use lib.IntN.{pos}
-use mir.Syntax.{w32}
-use mir.Val.{SFits}
 use Rattle.whole.proofs.Machine.{lt-test, le-test}
 use Rattle.framebuffer.proofs.is_between.Statement.{statement}
 use Rattle.framebuffer.proofs.is_between.Tie as tie

@@ -1,5 +1,5 @@
 -- `framebuffer::paint_columns` goes by the depth: from a byte on, it fills the part of the buffer that the columns take up. Assumes nothing.
-use mathlib.Core.Path.{_≡_, refl, sym, _∙_}
+use mathlib.Core.Path.{_≡_, refl, _∙_}
 use Prim.Native.Nat.{_+_, _-_, _≤_}
 use native.Mathlib.Nat.{le-of-lt}
 use native.Mathlib.Omega.{arith}

@@ -1,9 +1,8 @@
 -- `hex::show_bytes` goes over each byte once. Assumes nothing.
 use borrow.Author.Needs.{needs}
 use native.Mathlib.Omega.{arith}
-use Prim.Native.Nat.{ℕ, _+_, _*_, _-_, _≤_, _<_}
-use mathlib.Core.Path.{_≡_}
-use lib.ListN.{length, length-set}
+use Prim.Native.Nat.{_-_, _≤_}
+use lib.ListN.{length}
 use Rattle.hex.proofs.show_bytes.Statement.{statement}
 use Rattle.hex.proofs.show_bytes.Tie as tie
 use Rattle.hex.proofs.show_bytes.Reads as reads

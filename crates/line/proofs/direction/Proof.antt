@@ -1,5 +1,5 @@
 -- `line::direction` makes the rule's own test. Assumes nothing.
-use mathlib.Core.Path.{_≡_, sym, ap, _∙_}
+use mathlib.Core.Path.{sym, ap, _∙_}
 use mathlib.Core.Bool.{Bool, cond}
 use lib.IntN.{ℤ, pos, negsuc}
 use Rattle.whole.proofs.Machine.{le-test}

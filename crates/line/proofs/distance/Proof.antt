@@ -1,6 +1,6 @@
 -- `line::distance` is the size of the difference, which a test of its sign finds. Assumes nothing.
-use mathlib.Core.Path.{_≡_, sym, subst, _∙_}
-use lib.IntN.{ℤ, pos, natAbs, _-ℤ_}
+use mathlib.Core.Path.{subst, _∙_}
+use lib.IntN.{ℤ, pos, _-ℤ_}
 use lib.Signed.{_≤ℤ_, _<ℤ_}
 use mir.Syntax.{w32}
 use mir.Val.{toZ, ofZ}

@@ -1,5 +1,5 @@
 -- `line::has_point` refuses by 5, and else asks the closed form. Assumes nothing.
-use mathlib.Core.Path.{_≡_, sym, ap, ap₂, _∙_}
+use mathlib.Core.Path.{sym, ap, ap₂, _∙_}
 use Prim.Native.Nat.{ℕ}
 use borrow.Author.Needs.{needs}
 use Rattle.geometry.specs.Answer.{verdict}

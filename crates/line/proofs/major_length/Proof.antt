@@ -1,10 +1,10 @@
 -- `line::major_length` refuses by 5, and else counts the steps and the start. Assumes nothing.
-use mathlib.Core.Path.{_≡_, sym, ap, ap₂, _∙_}
+use mathlib.Core.Path.{sym, ap, ap₂, _∙_}
 use Prim.Native.Nat.{ℕ, _+_}
 use native.Mathlib.Omega.{arith}
 use borrow.Author.Needs.{needs}
 use Rattle.geometry.specs.Bound.{Bounded}
-use Rattle.line.specs.Line.{major, points}
+use Rattle.line.specs.Line.{points}
 use Rattle.line.specs.Answer.{lengthAnswer}
 use Rattle.line.proofs.Answer.{length-refused}
 use Rattle.line.proofs.Lengths.{major-size}

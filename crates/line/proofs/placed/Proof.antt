@@ -1,6 +1,5 @@
 -- `line::placed` is the sum that it says, of small numbers. Assumes nothing.
-use mathlib.Core.Path.{_≡_}
-use lib.IntN.{_+ℤ_, _*ℤ_}
+use lib.IntN.{_*ℤ_}
 use mir.Syntax.{w32}
 use mir.Val.{toZ, ofZ}
 use Rattle.whole.proofs.Machine.{Has, read, plus, times, fits, back}

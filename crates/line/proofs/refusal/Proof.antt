@@ -1,5 +1,5 @@
 -- `line::refusal` asks both ends. Assumes nothing.
-use mathlib.Core.Path.{_≡_, sym, _∙_}
+use mathlib.Core.Path.{sym}
 use borrow.Author.Needs.{needs}
 use borrow.Author.Tests.{not-true, not-false}
 use Rattle.whole.specs.Decides.{Decides}

@@ -1,5 +1,5 @@
 -- `framebuffer::Pane::holds` looks at the column and at the row. Assumes nothing.
-use mathlib.Core.Path.{_≡_, ap, ap₂, _∙_}
+use mathlib.Core.Path.{ap, ap₂, _∙_}
 use mathlib.Core.Bool.{_&&_}
 use lib.IntN.{ℤ}
 use mir.Facts.{toZ-ofZ}

@@ -1,15 +1,14 @@
 -- `line::Walker::step` hands out the point that it stands at, makes the major move, and settles. Assumes nothing.
-use mathlib.Core.Path.{_≡_, refl, _∙_}
-use Prim.Native.Nat.{ℕ, _+_, _≤_}
+use mathlib.Core.Path.{refl, _∙_}
+use Prim.Native.Nat.{_+_, _≤_}
 use native.Mathlib.Omega.{arith}
 use lib.IntN.{ℤ, _+ℤ_}
 use mir.Syntax.{w32}
 use mir.Val.{toZ, ofZ}
-use borrow.Author.Needs.{needs}
 use Rattle.whole.proofs.Machine.{Has, plus, fits, back}
 use Rattle.line.specs.declared.Walker.{Walker}
 use Rattle.line.specs.Line.{major}
-use Rattle.line.specs.Walk.{Walking, WalkerAt}
+use Rattle.line.specs.Walk.{Walking}
 use Rattle.line.proofs.Walk.{x-read, y-read, error-read, xmajor-read, ymajor-read, up-read, stands-x, stands-y, advances}
 use Rattle.line.proofs.Walker.step.Statement.{statement}
 use Rattle.line.proofs.Walker.step.Tie as tie

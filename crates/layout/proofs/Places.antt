@@ -129,16 +129,6 @@ module _ (d : ℕ) (D : Depth d) where
           flat : field d ≡ d
           flat = let h : field d * 1 ≡ d = subst (λ (n : ℕ). field d * n ≡ d) e (D .bits) in omega arith
 
--- bytes that hold whole pixels lie within the row
-pub groups-in-row : (w d q : ℕ) → Depth d → q * per d ≤ w → q * parts d ≤ rowBytes w d
-unfolding rowBytes
-groups-in-row w d q D h =
-    let a : q * per d * d ≤ w * d = mul-le-mul-right d h in
-    let b : q * per d * d ≡ q * (per d * field d) * parts d = ap (λ (k : ℕ). q * per d * k) (sym (D .bits)) ∙ omega arith in
-    let c : q * (per d * field d) * parts d ≡ q * 8 * parts d = ap (λ (k : ℕ). q * k * parts d) (mul-comm (per d) (field d) ∙ D .whole) in
-    let e : q * 8 * parts d ≡ 8 * (q * parts d) = omega arith in
-    omega arith
-
 turned-inj : (big : Bool) (n k m : ℕ) → k < n → m < n → turned big n k ≡ turned big n m → k ≡ m
 turned-inj true n k m h l e = omega arith
 turned-inj false n k m h l e = e

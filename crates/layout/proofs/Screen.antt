@@ -152,12 +152,6 @@ module _ {N : ℕ} {Col : ℕ → Type 0} {Buf : Type 0} {Ok : Buf → Type 0} {
       ap (put p c) (paint-is s c b) ∙ put-render N p c (λ q. cond (s q) c (get q b)) b (le-refl N) h
       ∙ render-cong N _ _ b (λ q l. over (s q) (eqb q p) c (get q b)) ∙ sym (paint-is (λ q. s q || eqb q p) c b)
 
-  pub put-is-paint : (p c : ℕ) (b : Buf) → p < N → put p c b ≡ paint put N (λ q. eqb q p) c b
-  put-is-paint p c b h = ap (put p c) (sym (paint-none (λ q. false) c b (λ q l. refl))) ∙ put-paint p (λ q. false) c b h
-
-  pub paint-ok : (s : ℕ → Bool) (c : ℕ) (b : Buf) → Ok b → Ok (paint put N s c b)
-  paint-ok s c b o = subst Ok (sym (paint-is s c b)) (render-ok N (λ p. cond (s p) c (get p b)) b o)
-
   -- reading after painting
   pub get-paint : (p : ℕ) (s : ℕ → Bool) (c : ℕ) (b : Buf) → p < N → Col c → Col (get p b) → Ok b → get p (paint put N s c b) ≡ cond (s p) c (get p b)
   get-paint p s c b h k k′ o =

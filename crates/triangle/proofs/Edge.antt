@@ -6,14 +6,12 @@ use Prim.Native.Nat.{ℕ, _+_, _*_, _≤_, _<_}
 use native.Mathlib.Omega.{arith}
 use lib.IntN.{ℤ, pos, negℤ, natAbs, _+ℤ_, _-ℤ_, _*ℤ_}
 use lib.Signed.{_≤ℤ_, _<ℤ_, leZ, ≤ℤ-refl}
-use Rattle.whole.proofs.Decides.{decides-le, decides-yes}
 use Rattle.whole.proofs.Difference.{as-mk, mks, mk-eq, le-nat, nat-le, sum-nat}
 use Rattle.whole.proofs.Machine.{le-yes, le-no, size-neg}
 use Rattle.whole.proofs.Order.{lt-sub, le-trans}
 use Rattle.geometry.specs.declared.Point.{Point}
-use Rattle.line.specs.Line.{toward, wide, high, steep, xMoves, yMoves, pointAt, HasPoint}
-use Rattle.line.proofs.Moves.{moves-minor, moves-mono}
-use Rattle.line.proofs.Lengths.{y-by}
+use Rattle.line.specs.Line.{toward, wide, high, steep, xMoves, yMoves, HasPoint}
+use Rattle.line.proofs.Moves.{moves-minor}
 use Rattle.line.proofs.Closed.{OnLine, has-off, off-moves, closed→}
 use Rattle.triangle.specs.Offsets.{firstOffset, lastOffset}
 use Rattle.triangle.proofs.Offsets.{Offsets, offsets}
@@ -117,16 +115,3 @@ no-gap s e y a x b d p q l u =
     let r = edge-rows s e (a, y) d p in
     let n = run-on s e y (r .0) (r .1) in
     n .run .on x (le-trans (n .run .has a p .0) l) (le-trans u (n .run .has b q .1))
-
--- ---- rows along an edge that runs down never go up
-pub row-mono : (s e : Point) → s .1 ≤ℤ e .1 → (j k : ℕ) → j ≤ k → pointAt s e j .1 ≤ℤ pointAt s e k .1
-unfolding pointAt
-row-mono s e d j k h =
-    nat-le (omega (arith, moves-up (steep s e) refl, sum-nat _ (s .1) (yMoves s e j) (rightward (s .1) (e .1) (yMoves s e j) down), sum-nat _ (s .1) (yMoves s e k) (rightward (s .1) (e .1) (yMoves s e k) down)))
-  where
-    down : leZ (s .1) (e .1) ≡ true
-    down = decides-yes (decides-le (s .1) (e .1)) d
-
-    moves-up : (t : Bool) → steep s e ≡ t → yMoves s e j ≤ yMoves s e k
-    moves-up true q = omega (arith, y-by s e true q j, y-by s e true q k)
-    moves-up false q = omega (arith, y-by s e false q j, y-by s e false q k, moves-mono (wide s e) (high s e) j k h)

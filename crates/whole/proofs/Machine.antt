@@ -174,12 +174,6 @@ module _ {w : Width} {x y : ℤ} (fx : SFits w x) (fy : SFits w y) where
   pub lt-false : ltZ (toZ w (ofZ w x)) (toZ w (ofZ w y)) ≡ false → y ≤ℤ x
   lt-false e = lt-no (sym lt-test ∙ e)
 
-  pub le-true : leZ (toZ w (ofZ w x)) (toZ w (ofZ w y)) ≡ true → x ≤ℤ y
-  le-true e = le-yes (sym le-test ∙ e)
-
-  pub le-false : leZ (toZ w (ofZ w x)) (toZ w (ofZ w y)) ≡ false → y <ℤ x
-  le-false e = le-no (sym le-test ∙ e)
-
   -- `==` compares bits
   pub eq-bits : ofZ w x ≡ ofZ w y → x ≡ y
   eq-bits e = sym (toZ-ofZ fx) ∙ ap (toZ w) e ∙ toZ-ofZ fy
@@ -204,13 +198,6 @@ pub index-is : {w : Width} {z : ℤ} → SFits w z → pos 0 ≤ℤ z → pos (n
 index-is {w} {z} f h = ap (λ (v : ℤ). pos (natAbs v)) (toZ-ofZ f) ∙ sym (size-pos z h)
 
 -- ---- to the very ends of the width, by the two parts
-pub part-fits : (w : Width) (z : ℤ) → up z < 2 ^ hbits w → dn z ≤ 2 ^ hbits w → SFits w z
-part-fits w (pos n) h k = record { sfits = h }
-part-fits w (negsuc n) h k = record { sfits = k }
-
-pub fits-up : (w : Width) (z : ℤ) → SFits w z → up z < 2 ^ hbits w
-fits-up w (pos n) f = f .sfits
-fits-up w (negsuc n) f = lt-of-le-of-lt zero-le (f .sfits)
 
 pub fits-dn : (w : Width) (z : ℤ) → SFits w z → dn z ≤ 2 ^ hbits w
 fits-dn w (pos n) f = zero-le

@@ -4,7 +4,7 @@ use Prim.Native.Nat.{ℕ, suc, _+_, _*_, _-_, _/_, _<_, _≤_, _^_}
 use native.Mathlib.Nat.{le-trans, lt-trans, le-of-lt, mul-le-mul}
 use native.Mathlib.Omega.{arith}
 use lib.Dec.{T, ltb, leb, ltb→lt, leb→le, lit<}
-use lib.IntN.{ℤ, pos, negsuc, negℤ, natAbs, +ℤ-idl, _+ℤ_, _*ℤ_}
+use lib.IntN.{ℤ, pos, negℤ, natAbs, +ℤ-idl, _+ℤ_, _*ℤ_}
 use lib.Pow.{pow-mono, pow-lt, pow-add}
 use native.Mathlib.Nat.{pow-suc}
 use lib.Signed.{natAbs-le}
@@ -56,13 +56,6 @@ sz-back32 k z h f = record { sz = subst (λ (v : ℤ). natAbs v ≤ 2 ^ k) (sym 
 pub sz-zero : (k : ℕ) → Sz k (pos 0)
 sz-zero k = record { sz = omega arith }
 
-pub sf32 : (z : ℤ) → Sz 30 z → SFits w32 z
-sf32 z h = sized (h .sz) (lit< tt)
-
--- a smaller bound is in reach
-pub sz-less : (j k : ℕ) (z : ℤ) → Sz j z → T (leb j k) → Sz k z
-sz-less j k z h t = record { sz = le-trans (h .sz) (pow-mono (leb→le j k t)) }
-
 -- any `i32`; any `u32` that was cast to `i64`, whose bits are the number itself
 pub sz-i32 : (k : ℕ) (z : ℤ) → SFits w32 z → T (leb 31 k) → Sz k z
 sz-i32 k z f t = record { sz = le-trans (natAbs-le z (f .sfits)) (pow-mono (leb→le 31 k t)) }
@@ -95,20 +88,7 @@ is-back64 e z s h = record { is = toZ-ofZ (sf64 e s) ∙ h .is }
 pub is-back32 : (e z : ℤ) → SFits w32 e → Is e z → Is (toZ w32 (ofZ w32 e)) z
 is-back32 e z s h = record { is = toZ-ofZ s ∙ h .is }
 
-pub is-u32 : (n : ℕ) → Fits w32 n → Is (toZ w64 n) (pos n)
-is-u32 n f = record { is = toZ-pos w64 (lt-trans (f .fits) (lit< tt)) }
-
 pub is-same : (z : ℤ) → Is z z
 is-same z = record { is = refl }
 
 pub ruleset parts = (is-back64, is-back32, is-minus, is-add, is-mul, is-neg, is-same)
-
-pub was : {e z : ℤ} → Is e z → e ≡ z
-was h = h .is
-
--- literals
-pub sz-lit : (k n : ℕ) → T (leb n (2 ^ k)) → Sz k (pos n)
-sz-lit k n t = record { sz = leb→le n (2 ^ k) t }
-
-pub sz-minus-lit : (k n : ℕ) → T (ltb n (2 ^ k)) → Sz k (negsuc n)
-sz-minus-lit k n t = record { sz = ltb→lt n (2 ^ k) t }

@@ -1,12 +1,16 @@
 -- Laws of the sides that a pixel is on: the tests decide the statements, any order of the vertices gives the same, and a pixel that is on the same
 -- side of all three edges stands on the triangle's rows. Assumes nothing.
-use mathlib.Core.Path.{_≡_, sym, ap, subst, _∙_}
-use mathlib.Core.Bool.{_&&_}
+use mathlib.Core.Path.{_≡_, refl, sym, ap, subst, _∙_}
+use mathlib.Core.Bool.{Bool, true, false, not, _&&_, _||_}
 use mathlib.Core.Logic.{_⊎_, inl, inr, ⊎-elim}
+use Prim.Native.Nat.{zero, suc, _+_}
 use native.Mathlib.Omega.{arith}
-use lib.IntN.{ℤ, pos, negℤ, _+ℤ_, _*ℤ_}
+use lib.Dec.{eqb}
+use lib.IntN.{ℤ, pos, negsuc, negℤ, _+ℤ_, _*ℤ_, negℤ-+ℤ}
 use lib.Signed.{_≤ℤ_, _<ℤ_, leZ, ≤ℤ-refl}
+use borrow.Author.Tests.{eqb-true, eqb-false, eq-eqb, ne-eqb}
 use Rattle.whole.specs.Decides.{Decides}
+use Rattle.whole.specs.Equal.{eqZ}
 use Rattle.whole.proofs.Decides.{decides-map, decides-and, decides-or, decides-one, decides-le, decides-eq}
 use Rattle.whole.proofs.Difference.{up, dn, le-nat, nat-lt, nat-eq}
 use Rattle.whole.proofs.Order.{neg-flip, flip-neg, le-trans, le-sub, sub-le, nonneg-add, nonneg-mul, nonneg-cancel}
@@ -60,6 +64,38 @@ none-above a b c = λ i. turned a i && (turned b i && turned c i)
   where
     turned : (z : ℤ) → leZ (pos 0) (negℤ z) ≡ leZ z (pos 0)
     turned z = decides-one _ _ (decides-le (pos 0) (negℤ z)) (decides-map (decides-le z (pos 0)) (neg-flip z (pos 0)) (flip-neg z (pos 0)))
+
+-- none below 0: the sum is 0 exactly if all are
+pub sum-zero : (a b c : ℤ) → noneBelow a b c ≡ true → not (eqZ a (pos 0)) || (not (eqZ b (pos 0)) || not (eqZ c (pos 0))) ≡ not (eqZ ((a +ℤ b) +ℤ c) (pos 0))
+unfolding noneBelow
+sum-zero a b c h =
+    let all = decides-and (leZ (pos 0) a) _ (decides-le _ _) (decides-and (leZ (pos 0) b) (leZ (pos 0) c) (decides-le _ _) (decides-le _ _)) .yes h in
+    go a b c (all .0) (all .1 .0) (all .1 .1)
+  where
+    go : (a b c : ℤ) → pos 0 ≤ℤ a → pos 0 ≤ℤ b → pos 0 ≤ℤ c → not (eqZ a (pos 0)) || (not (eqZ b (pos 0)) || not (eqZ c (pos 0))) ≡ not (eqZ ((a +ℤ b) +ℤ c) (pos 0))
+    go (pos i) (pos j) (pos k) p q r = by (eqb i 0) (eqb j 0) (eqb k 0) refl refl refl
+      where
+        some : (i + j + k ≡ 0 → ⊥) → true ≡ not (eqb (i + j + k) 0)
+        some n = sym (ap not (ne-eqb (i + j + k) 0 n))
+
+        by : (r s t : Bool) → eqb i 0 ≡ r → eqb j 0 ≡ s → eqb k 0 ≡ t → not r || (not s || not t) ≡ not (eqb (i + j + k) 0)
+        by true true true r s t = let a = eqb-true i 0 r in let b = eqb-true j 0 s in let c = eqb-true k 0 t in sym (ap not (eq-eqb (i + j + k) 0 (omega arith)))
+        by false s t r u v = some (λ e. eqb-false i 0 r (omega arith))
+        by true false t r s v = some (λ e. eqb-false j 0 s (omega arith))
+        by true true false r s t = some (λ e. eqb-false k 0 t (omega arith))
+    go (negsuc i) b c p q r = absurd (p .le)
+    go (pos i) (negsuc j) c p q r = absurd (q .le)
+    go (pos i) (pos j) (negsuc k) p q r = absurd (r .le)
+
+-- a sum is 0 exactly if it is so negated
+pub neg-zero : (a b c : ℤ) → eqZ ((negℤ a +ℤ negℤ b) +ℤ negℤ c) (pos 0) ≡ eqZ ((a +ℤ b) +ℤ c) (pos 0)
+neg-zero a b c =
+    ap (λ (z : ℤ). eqZ z (pos 0)) (ap (λ (z : ℤ). z +ℤ negℤ c) (sym (negℤ-+ℤ a b)) ∙ sym (negℤ-+ℤ (a +ℤ b) c)) ∙ negated ((a +ℤ b) +ℤ c)
+  where
+    negated : (z : ℤ) → eqZ (negℤ z) (pos 0) ≡ eqZ z (pos 0)
+    negated (pos zero) = refl
+    negated (pos (suc n)) = sym (ne-eqb (suc n) 0 (λ e. omega arith))
+    negated (negsuc n) = ne-eqb (suc n) 0 (λ e. omega arith)
 
 -- ---- the vertices in another order
 -- seen from its other end, an edge's side turns

@@ -1,8 +1,10 @@
 // Triangles: whether a pixel is contained, the columns of a row, and the rows. Vertices may come in any order, lie on one line or coincide.
 ghost use mathlib.Core.Path.{_≡_};
-ghost use mathlib.Core.Bool.{cond};
+ghost use mathlib.Core.Bool.{cond, not, _&&_};
 ghost use Prim.Native.Nat.{_<_, _≤_, min};
+ghost use lib.IntN.{pos, _+ℤ_};
 ghost use lib.Signed.{_≤ℤ_};
+ghost use Rattle.whole.specs.Equal.{eqZ};
 ghost use Rattle.geometry.specs.Bound.{Bounded};
 ghost use Rattle.geometry.specs.Answer.{verdict, span};
 ghost use Rattle.triangle.specs.Order.{before, placed, sorted, Down};
@@ -136,6 +138,16 @@ fn none_below(a: i64, b: i64, c: i64) -> bool
     false
 }
 
+// Whether a, b, c are all at least 0, and not all 0.
+fn one_side(a: i64, b: i64, c: i64) -> bool
+    ensures { λ r. ⌜ r ≡ noneBelow a b c && not (eqZ ((a +ℤ b) +ℤ c) (pos 0)) ⌝ }
+{
+    if none_below(a, b, c) {
+        return (a != 0) | ((b != 0) | (c != 0));
+    }
+    false
+}
+
 // Whether p is a point of one of the three edges.
 fn on_edge(t: Sorted, p: Point) -> bool
     requires { ⌜ Bounded (t .p1) × Bounded (t .p2) × Bounded (t .p3) ⌝ }
@@ -162,17 +174,14 @@ fn holds(v1: Point, v2: Point, v3: Point, p: Point) -> bool
     let a = area_doubled(p, v1, v2);
     let b = area_doubled(p, v2, v3);
     let c = area_doubled(p, v3, v1);
-    let whole = a + b + c;
-    if whole != 0 {
-        if none_below(a, b, c) {
-            return true;
-        }
-        if none_below(-a, -b, -c) {
-            return true;
-        }
+    if one_side(a, b, c) {
+        return true;
+    }
+    if one_side(-a, -b, -c) {
+        return true;
     }
     let t = sorted_yx(v1, v2, v3);
-    if whole == 0 {
+    if a + b + c == 0 {
         return line::meets(t.p1, t.p3, p);
     }
     on_edge(t, p)

@@ -5,12 +5,14 @@ use mathlib.Core.Bool.{Bool, true, false, not, cond}
 use Prim.Native.Nat.{ℕ, zero, suc, _+_, _*_, _-_, _<_, _≤_, _^_, zero-le}
 use native.Mathlib.Nat.{le-of-lt, lt-trans, lt-of-le-of-lt, mul-le-mul, le-refl}
 use native.Mathlib.Omega.{arith}
-use lib.Dec.{T, ltb, ltb→lt, nleb→lt, lit<}
+use lib.Dec.{T, eqb, ltb, ltb→lt, nleb→lt, lit<}
 use lib.IntN.{ℤ, pos, negsuc, negℤ, natAbs, subℕ, _+ℤ_, _-ℤ_, _*ℤ_, +ℤ-idl}
 use lib.Signed.{leZ, ltZ, _≤ℤ_, _<ℤ_, mag, nonNeg, ltZ-yes, ltZ-no, leZ-yes, yes-nonNeg, natAbs-le}
 use mir.Syntax.{Width, w32, w64}
 use mir.Val.{SFits, Fits, toZ, ofZ, hbits, bits}
 use mir.Facts.{toZ-ofZ, toZ-pos, fits-natAbs}
+use Rattle.whole.specs.Equal.{eqZ}
+use Rattle.whole.proofs.Decides.{decides-map, decides-one, decides-eqb, decides-eq}
 use Rattle.whole.proofs.Difference.{mk, up, dn, as-mk, eq-mk, lt-nat, nat-lt}
 
 -- ---- sizes: |z| in ℕ
@@ -157,6 +159,10 @@ tests-lt h k = ap₂ ltZ (h .is) (k .is)
 
 pub tests-le : {w : Width} {e f y z : ℤ} {b d : ℕ} → Has w e y b → Has w f z d → leZ e f ≡ leZ y z
 tests-le h k = ap₂ leZ (h .is) (k .is)
+
+-- the test for 0, by the bits
+pub zero-test : {z : ℤ} → SFits w64 z → eqb (ofZ w64 z) 0 ≡ eqZ z (pos 0)
+zero-test {z} f = decides-one _ _ (decides-map (decides-eqb (ofZ w64 z) 0) (λ e. sym (toZ-ofZ f) ∙ ap (toZ w64) e) (ap (ofZ w64))) (decides-eq z (pos 0))
 
 -- two values of a width that are read back: parameters, fields
 module _ {w : Width} {x y : ℤ} (fx : SFits w x) (fy : SFits w y) where

@@ -35,14 +35,14 @@ pub fn races<'a>() -> Vec<Race<'a>> {
         Race {
             name: "from n to 16n: `contains`".into(),
             against: "ours at n",
-            goal: 1.2,
+            goal: Some(1.2),
             ours: ask_ours(LARGE, anywhere),
             other: ask_ours(SMALL, anywhere_small),
         },
         Race {
             name: "from n to 16n: a row's span".into(),
             against: "ours at n",
-            goal: 1.2,
+            goal: Some(1.2),
             ours: span_ours(LARGE, (0..7_904).step_by(16).collect()),
             other: span_ours(SMALL, (0..494).collect()),
         },
@@ -58,7 +58,7 @@ fn contains<'a>(name: &str, goal: f64, pixels: Vec<ours::Place>) -> Race<'a> {
     Race {
         name: name.into(),
         against: "the Rust",
-        goal,
+        goal: Some(goal),
         ours: ask_ours(LARGE, pixels),
         other: Work::new(asked.len(), move || {
             black_box(asked.iter().filter(|p| rust_contains(black_box(&triangle), point(**p))).count());
@@ -91,7 +91,7 @@ fn row_spans<'a>() -> Race<'a> {
     Race {
         name: "all row spans of a triangle of 8,000 rows, as questions".into(),
         against: "the Rust",
-        goal: 0.005,
+        goal: Some(0.005),
         ours: span_ours(vertices, rows.clone().collect()),
         other: Work::new(rows.len(), move || {
             for y in rows.clone() {
@@ -112,7 +112,7 @@ fn circle_rows<'a>() -> Race<'a> {
     Race {
         name: "all rows of a circle, d = 8,000".into(),
         against: "the Rust",
-        goal: 0.02,
+        goal: Some(0.02),
         ours: Work::new(rows.len(), move || {
             for y in rows.clone() {
                 black_box(ours::circle_row_span(black_box(top_left), black_box(diameter), y));
@@ -134,7 +134,7 @@ fn line_off_the_frame<'a>() -> Race<'a> {
     Race {
         name: "a line of 16,000 points, drawn off the frame, against the Rust's points".into(),
         against: "the Rust",
-        goal: 1.0,
+        goal: Some(1.0),
         ours: Work::new(points, move || frame.draw_line(black_box(start), black_box(end), 1)),
         other: Work::new(points, move || {
             black_box(rust_points(black_box(&line)));

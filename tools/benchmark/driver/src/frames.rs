@@ -54,6 +54,7 @@ pub fn races<'a>() -> Vec<Race<'a>> {
     at_small_depth(&mut races, 2, || Rust2(Framebuffer::new()));
     at_small_depth(&mut races, 4, || Rust4(Framebuffer::new()));
     at_small_depth(&mut races, 8, || Rust8(Framebuffer::new()));
+    races.push(walk_alone());
     for (depth, goal) in [(16, 3.0), (32, 3.0), (24, 6.0)] {
         races.push(triangle_against_memset(depth, goal));
     }
@@ -79,7 +80,7 @@ fn set_pixel<'a, R: Rust + 'a>(depth: u32, mut rust: Box<R>) -> Race<'a> {
     Race {
         name: format!("one `set_pixel`, depth {depth}"),
         against: "the Rust",
-        goal: 2.0,
+        goal: Some(2.0),
         ours: Work::new(PIXELS, move || pixels.iter().for_each(|p| frame.set_pixel(*p, black_box(colour)))),
         other: Work::new(PIXELS, move || asked.iter().for_each(|p| rust_set_pixel(&mut *rust, point(*p), black_box(colour)))),
     }
@@ -96,8 +97,25 @@ fn triangle_against_memset<'a>(depth: u32, goal: f64) -> Race<'a> {
     Race {
         name: format!("a triangle over half of the frame, depth {depth}"),
         against: "`memset` a row",
-        goal,
+        goal: Some(goal),
         ours: draw_half(depth),
+        other: Work::new(1, move || set_parts(&mut bytes, black_box(&parts), black_box(0xa5))),
+    }
+}
+
+/// The triangle beside the frame: the rows are the same, every edge is walked, and nothing is painted.
+fn walk_alone<'a>() -> Race<'a> {
+    let beside = HALF.map(|(x, y)| (x + 2 * SIDE as i32, y));
+    let mut frame = new_frame(1);
+    let mut bytes = frame.bytes.clone();
+    let parts = parts_of(rows(HALF), 1);
+    frame.draw_triangle(beside, colour(1));
+    hold(&frame, &[], 1);
+    Race {
+        name: "the same triangle beside the frame, depth 1: the walk alone".into(),
+        against: "`memset` a row",
+        goal: None,
+        ours: Work::new(1, move || frame.draw_triangle(black_box(beside), colour(1))),
         other: Work::new(1, move || set_parts(&mut bytes, black_box(&parts), black_box(0xa5))),
     }
 }
@@ -111,7 +129,7 @@ fn triangle_against_set_pixel<'a, R: Rust + 'a>(depth: u32, mut rust: Box<R>) ->
     Race {
         name: format!("a triangle over half of the frame, depth {depth}"),
         against: "the Rust's `set_pixel`",
-        goal: 0.2,
+        goal: Some(0.2),
         ours: draw_half(depth),
         other: Work::new(1, move || set_rows(&mut *rust, black_box(&rows), black_box(colour))),
     }
@@ -126,7 +144,7 @@ fn fill_against_memset<'a>(depth: u32, goal: f64) -> Race<'a> {
     Race {
         name: format!("filling the frame, depth {depth}"),
         against: "one `memset`",
-        goal,
+        goal: Some(goal),
         ours: Work::new(1, move || frame.fill(black_box(colour))),
         other: Work::new(1, move || set_all(&mut bytes, black_box(0xa5))),
     }
@@ -156,7 +174,7 @@ fn grown_circle<'a>() -> Race<'a> {
 }
 
 fn grown<'a>(figure: &str, small: Work<'a>, large: Work<'a>) -> Race<'a> {
-    Race { name: format!("{figure} grown from n to 4n, cost a painted byte"), against: "ours at n", goal: 1.2, ours: large, other: small }
+    Race { name: format!("{figure} grown from n to 4n, cost a painted byte"), against: "ours at n", goal: Some(1.2), ours: large, other: small }
 }
 
 fn draw_half<'a>(depth: u32) -> Work<'a> {

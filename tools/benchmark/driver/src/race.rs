@@ -37,7 +37,8 @@ impl<'a> Work<'a> {
 pub struct Race<'a> {
     pub name: String,
     pub against: &'static str,
-    pub goal: f64,
+    /// The ratio to stay within; none where the row only explains another.
+    pub goal: Option<f64>,
     pub ours: Work<'a>,
     pub other: Work<'a>,
 }
@@ -57,8 +58,8 @@ impl Race<'_> {
             spread(ours, shown_time),
             spread(other, shown_time),
             spread(ratio, |r| format!("{r:.4}")),
-            self.goal,
-            if ratio[1] <= self.goal { "met" } else { "missed" },
+            self.goal.map_or("none".into(), |goal| goal.to_string()),
+            self.goal.map_or("", |goal| if ratio[1] <= goal { "met" } else { "missed" }),
         )
     }
 }

@@ -92,7 +92,8 @@ beamacorn_verdict beamacorn_line_has_point(int32_t x1, int32_t y1, int32_t x2, i
 
 /*
  * Whether the triangle of the vertices (x1, y1), (x2, y2), (x3, y3), which may come in any order, lie on one line or coincide, contains
- * the pixel (x, y). A pixel on an edge is contained. Its cost does not grow with the triangle.
+ * the pixel (x, y). A point of an edge is contained, the edge walked from its upper end, or from the left one where it is level; an outline
+ * walks its edges in the order given, and may have others. Its cost does not grow with the triangle.
  * Refused with 5.
  */
 beamacorn_verdict beamacorn_triangle_contains(int32_t x1, int32_t y1, int32_t x2, int32_t y2, int32_t x3, int32_t y3, int32_t x, int32_t y);

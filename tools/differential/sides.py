@@ -61,9 +61,9 @@ def sizes():
     return [tuple(map(int, line.split("\t"))) for line in listed.splitlines()]
 
 
-def oracle():
+def oracle(*options):
     """The path of the Rust oracle, built if need be."""
-    built = subprocess.run([TOOLS / "oracle" / "build"], capture_output=True, text=True)
+    built = subprocess.run([TOOLS / "oracle" / "build", *options], capture_output=True, text=True)
     if built.returncode != 0:
         raise CannotRun(built.stderr.strip())
     return built.stdout.strip()

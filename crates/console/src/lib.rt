@@ -17,7 +17,7 @@ pub fn read_more(input: &mut [u8], kept: usize) -> usize
     io::count(got, space)
 }
 
-// Reads until the input ends or `input` is full, and answers how many bytes came.
+// Inside the library: reads until the input ends or `input` is full, and answers how many bytes came.
 pub fn read_all(input: &mut [u8]) -> usize
     ensures { λ r. ⌜ r ≤ length (now (input .entry)) ⌝ }
 {

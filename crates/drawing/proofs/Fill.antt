@@ -30,7 +30,7 @@ use Rattle.triangle.proofs.Triangle.{p1, p2, p3, flat, upper, lower, contained-
 use Rattle.edges.specs.declared.Row.{Row}
 use Rattle.edges.specs.declared.Walk.{Walk}
 use Rattle.edges.specs.Side.{OnEdge, EdgeAt}
-use Rattle.edges.specs.Shape.{Shape, On, Between, Fresh, WalkAt, Rowed, Begun}
+use Rattle.edges.specs.Shape.{Shape, On, Spanned, Fresh, WalkAt, Rowed, Begun}
 use Rattle.drawing.specs.Figure.{triangleFigure}
 
 -- ---- a walked point of an edge is a point of it
@@ -66,7 +66,7 @@ on-rows t {x} {y} (inr (inl o)) = edge-rows (t .p1) (t .p3) (x, y) (t .whole) (o
 on-rows t {x} {y} (inr (inr o)) = let r = edge-rows (t .p2) (t .p3) (x, y) (t .lower) (on-has (t .few-c) o) in (le-trans (t .upper) (r .0), r .1)
 
 -- ---- a figure that lies between the walked points of its rows
-module _ (t : Shape) (figure : ℤ → ℤ → Bool) (says : (x y : ℤ) → Decides (figure x y) (Between t x y)) where
+module _ (t : Shape) (figure : ℤ → ℤ → Bool) (says : (x y : ℤ) → Decides (figure x y) (Spanned t x y)) where
   pub none-above : (u v : ℕ) → pos v <ℤ t .p1 .1 → figure (pos u) (pos v) ≡ false
   none-above u v l = decides-no (says (pos u) (pos v)) (λ b. omega (arith, lt-nat l, le-nat (on-rows t (b .at-first) .0)))
 
@@ -75,7 +75,7 @@ module _ (t : Shape) (figure : ℤ → ℤ → Bool) (says : (x y : ℤ) → Dec
 
   -- the row's columns are the figure's, at the pixels of a frame
   module _ (y : ℤ) (r : Row) (done : Rowed t y r) where
-    within : (u v : ℕ) → u < 2048 → pos v ≡ y → (r .low ≤ℤ pos u) × (pos u <ℤ (r .high +ℤ pos 1)) → Between t (pos u) (pos v)
+    within : (u v : ℕ) → u < 2048 → pos v ≡ y → (r .low ≤ℤ pos u) × (pos u <ℤ (r .high +ℤ pos 1)) → Spanned t (pos u) (pos v)
     within u v hu e s =
         let from : r .low ≤ℤ pos u = s .0 in
         let to : pos u ≤ℤ r .high = more-lt-le (s .1) in
@@ -85,7 +85,7 @@ module _ (t : Shape) (figure : ℤ → ℤ → Bool) (says : (x y : ℤ) → Dec
         (done .high-is))
         (done .low-is)
 
-    around : (u v : ℕ) → pos v ≡ y → Between t (pos u) (pos v) → (r .low ≤ℤ pos u) × (pos u <ℤ (r .high +ℤ pos 1))
+    around : (u v : ℕ) → pos v ≡ y → Spanned t (pos u) (pos v) → (r .low ≤ℤ pos u) × (pos u <ℤ (r .high +ℤ pos 1))
     around u v e b = (
       le-trans (done .holds (b .first) (subst (On t (b .first)) e (b .at-first)) .0) (b .from),
       le-lt-more (le-trans (b .to) (done .holds (b .last) (subst (On t (b .last)) e (b .at-last)) .1)),
@@ -141,7 +141,7 @@ module _ (v1 v2 v3 : Point) where
   edge-point false x y (inr (inr o)) = inr (inr (on-has (le-refl _) o))
 
   -- contained exactly if it lies between walked points of its row
-  pub contained-between : (x y : ℤ) → Decides (triangleFigure v1 v2 v3 x y) (Between shape x y)
+  pub contained-between : (x y : ℤ) → Decides (triangleFigure v1 v2 v3 x y) (Spanned shape x y)
   contained-between x y =
       decides-map (contained-decides v1 v2 v3 (x, y))
       (λ h. record { first = h .first; last = h .last; from = h .from; to = h .to; at-first = walked (flat v1 v2 v3) (h .first) y (h .at-first); at-last = walked (flat v1 v2 v3) (h .last) y (h .at-last) })

@@ -9,7 +9,7 @@ use Rattle.whole.specs.Equal.{eqZ}
 use Rattle.whole.proofs.Decides.{decides-lt, decides-eq, decides-yes, decides-no}
 use Rattle.whole.proofs.Order.{le-lt-more, more-lt-le, le-of, lt-le, lt-apart, le-antisym}
 use Rattle.whole.proofs.Machine.{lt-yes, lt-no}
-use Rattle.layout.specs.Figure.{rowSpan}
+use Rattle.layout.specs.Figure.{spanFigure}
 use Rattle.layout.specs.Raster.{Raster, Sound, painted}
 use Rattle.layout.proofs.Painted.{painted-cong, painted-none}
 use Rattle.framebuffer.specs.declared.Pane.{Pane}
@@ -60,10 +60,10 @@ module _ (r : Raster) (sound : Sound r) (pane : Pane) (colour : ℕ) (b : List �
 
   -- the span of row y has the figure's columns: one row more is painted
   pub rows-turn : (y start end : ℤ) → ((u v : ℕ) → u < r .width → v < r .height → pos v ≡ y → (leZ start (pos u) && ltZ (pos u) end) ≡ figure (pos u) (pos v))
-      → painted r (inside pane (rowSpan y start end)) colour (painted r (inside pane (above figure y)) colour b) ≡ painted r (inside pane (above figure (y +ℤ pos 1))) colour b
+      → painted r (inside pane (spanFigure y start end)) colour (painted r (inside pane (above figure y)) colour b) ≡ painted r (inside pane (above figure (y +ℤ pos 1))) colour b
   rows-turn y start end same =
-      inside-then r sound pane colour b (above figure y) (rowSpan y start end)
-      ∙ painted-cong r sound colour b _ _ (λ u v hu hv. ap (λ (t : Bool). inPane pane (pos u) (pos v) && t) (row-place (pos v) y (figure (pos u) (pos v)) (rowSpan y start end (pos u) (pos v)) (λ e. span-on (leZ start (pos u) && ltZ (pos u) end) (eqZ (pos v) y) e ∙ same u v hu hv (decides-eq (pos v) y .yes e)) (λ e. span-off (leZ start (pos u) && ltZ (pos u) end) (eqZ (pos v) y) e)))
+      inside-then r sound pane colour b (above figure y) (spanFigure y start end)
+      ∙ painted-cong r sound colour b _ _ (λ u v hu hv. ap (λ (t : Bool). inPane pane (pos u) (pos v) && t) (row-place (pos v) y (figure (pos u) (pos v)) (spanFigure y start end (pos u) (pos v)) (λ e. span-on (leZ start (pos u) && ltZ (pos u) end) (eqZ (pos v) y) e ∙ same u v hu hv (decides-eq (pos v) y .yes e)) (λ e. span-off (leZ start (pos u) && ltZ (pos u) end) (eqZ (pos v) y) e)))
 
   -- no row of the figure is at y or below
   pub rows-end : (y : ℤ) → ((u v : ℕ) → y ≤ℤ pos v → figure (pos u) (pos v) ≡ false) → painted r (inside pane (above figure y)) colour b ≡ painted r (inside pane figure) colour b

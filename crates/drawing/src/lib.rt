@@ -9,7 +9,7 @@ ghost use Rattle.geometry.specs.Bound.{Bounded};
 ghost use Rattle.layout.specs.Raster.{painted};
 ghost use Rattle.triangle.specs.Triangle.{isFlat};
 ghost use Rattle.circle.specs.Refusal.{refusalOf};
-ghost use Rattle.edges.specs.Shape.{Shape, Between, Begun, Ready};
+ghost use Rattle.edges.specs.Shape.{Shape, Spanned, Begun, Ready};
 ghost use Rattle.framebuffer.specs.Answer.{drawn};
 ghost use Rattle.framebuffer.specs.Description.{raster, drawNumber, afterDraw};
 ghost use Rattle.framebuffer.specs.Rectangle.{Within, inside};
@@ -159,7 +159,7 @@ fn fill_rows(
     colour: u32,
 )
     requires { ⌜ (drawNumber frame (length (now buf)) colour 0 ≡ 0) × Within pane frame × Ready top bottom walk ⌝ }
-    ensures { λ r. ⌜ ((t : Shape) (figure : ℤ → ℤ → Bool) → Begun t top bottom walk → ((x y : ℤ) → Decides (figure x y) (Between t x y)) → now (buf .exit) ≡ painted (raster frame) (inside pane figure) colour (now (buf .entry))) ⌝ }
+    ensures { λ r. ⌜ ((t : Shape) (figure : ℤ → ℤ → Bool) → Begun t top bottom walk → ((x y : ℤ) → Decides (figure x y) (Spanned t x y)) → now (buf .exit) ≡ painted (raster frame) (inside pane figure) colour (now (buf .entry))) ⌝ }
 {
     let mut w = walk;
     let mut y = top;

@@ -67,7 +67,7 @@ pub record Rowed (t : Shape) (y : ℤ) (r : Row) : Type 0 where
   pub high-is : (r .high ≡ negsuc 131072) ⊎ On t (r .high) y
 
 -- (x, y) lies between two walked points of its row
-pub record Between (t : Shape) (x y : ℤ) : Type 0 where
+pub record Spanned (t : Shape) (x y : ℤ) : Type 0 where
   pub first : ℤ
   pub last : ℤ
   pub from : first ≤ℤ x

@@ -9,7 +9,7 @@ use lib.Dec.{ltb, le→leb}
 use lib.IntN.{ℤ, pos, negsuc, natAbs}
 use lib.Signed.{leZ, ltZ, _≤ℤ_}
 use borrow.Author.Tests.{ltb-true, leb-true, lt-ltb, le-ltb, le-leb}
-use Rattle.layout.specs.Figure.{rowSpan}
+use Rattle.layout.specs.Figure.{spanFigure}
 use Rattle.whole.specs.Equal.{eqZ}
 use Rattle.layout.specs.Raster.{painted}
 use Rattle.layout.proofs.Tests.{lt-or-ge, same-test, fails, and-true, true-and, eqZ-true, eqZ-refl}
@@ -87,14 +87,14 @@ module _ (x : ℤ) (low high u : ℕ) (h : low ≤ u) (k : u < high) where
 -- ---- the span that is left
 module _ (f : Frame) (D : Described f) (colour : ℕ) (b : List ℕ) (q : Pane) (y start end : ℤ) (W : Within q f) where
   -- the figure has places on row y alone
-  on-row : (u v : ℕ) → rowSpan y start end (pos u) (pos v) ≡ true → pos v ≡ y
+  on-row : (u v : ℕ) → spanFigure y start end (pos u) (pos v) ≡ true → pos v ≡ y
   on-row u v e = eqZ-true (pos v) y (and-true (leZ start (pos u) && ltZ (pos u) end) (eqZ (pos v) y) e .1)
 
   -- no row of the rectangle
-  pub row-off : isBetween y (q .top) (q .bottom) ≡ false → b ≡ painted (raster f) (inside q (rowSpan y start end)) colour b
+  pub row-off : isBetween y (q .top) (q .bottom) ≡ false → b ≡ painted (raster f) (inside q (spanFigure y start end)) colour b
   row-off h =
       sym (painted-none (raster f) (sound f D) colour b _ (λ u v hu hv. fails _ (λ e.
-      let p = and-true (inPane q (pos u) (pos v)) (rowSpan y start end (pos u) (pos v)) e in
+      let p = and-true (inPane q (pos u) (pos v)) (spanFigure y start end (pos u) (pos v)) e in
       let r = and-true (isBetween (pos u) (q .left) (q .right)) (isBetween (pos v) (q .top) (q .bottom)) (p .0) .1 in
       true≢false (sym r ∙ ap (λ (z : ℤ). isBetween z (q .top) (q .bottom)) (on-row u v (p .1)) ∙ h))))
 
@@ -108,10 +108,10 @@ module _ (f : Frame) (D : Described f) (colour : ℕ) (b : List ℕ) (q : Pane) 
     row-is : y ≡ pos (natAbs y)
     row-is = between-pos y (q .top) (q .bottom) row
 
-    agree : (u v : ℕ) → columns (natAbs y) from past (pos u) (pos v) ≡ inside q (rowSpan y start end) (pos u) (pos v)
+    agree : (u v : ℕ) → columns (natAbs y) from past (pos u) (pos v) ≡ inside q (spanFigure y start end) (pos u) (pos v)
     agree u v = same-test _ _ there back
       where
-        there : columns (natAbs y) from past (pos u) (pos v) ≡ true → inside q (rowSpan y start end) (pos u) (pos v) ≡ true
+        there : columns (natAbs y) from past (pos u) (pos v) ≡ true → inside q (spanFigure y start end) (pos u) (pos v) ≡ true
         there e =
             let s = in-span (natAbs y) from past u v e in
             let a = s .0 in
@@ -127,9 +127,9 @@ module _ (f : Frame) (D : Described f) (colour : ℕ) (b : List ℕ) (q : Pane) 
             (past-gt end (q .left) (q .right) u l r past (nearest end (q .left) (q .right)) .1 z))
             (ap (λ (z : ℤ). eqZ z y) here ∙ eqZ-refl y))
 
-        back : inside q (rowSpan y start end) (pos u) (pos v) ≡ true → columns (natAbs y) from past (pos u) (pos v) ≡ true
+        back : inside q (spanFigure y start end) (pos u) (pos v) ≡ true → columns (natAbs y) from past (pos u) (pos v) ≡ true
         back e =
-            let p = and-true (inPane q (pos u) (pos v)) (rowSpan y start end (pos u) (pos v)) e in
+            let p = and-true (inPane q (pos u) (pos v)) (spanFigure y start end (pos u) (pos v)) e in
             let s = and-true (leZ start (pos u) && ltZ (pos u) end) (eqZ (pos v) y) (p .1) in
             let t = and-true (leZ start (pos u)) (ltZ (pos u) end) (s .0) in
             let r = pane-in q u v (p .0) .0 in
@@ -138,10 +138,10 @@ module _ (f : Frame) (D : Described f) (colour : ℕ) (b : List ℕ) (q : Pane) 
             (past-gt end (q .left) (q .right) u (r .0) (r .1) past (nearest end (q .left) (q .right)) .0 (t .1))
             (ap natAbs (on-row u v (p .1)))
 
-    pub span-left : painted (raster f) (columns (natAbs y) from past) colour b ≡ painted (raster f) (inside q (rowSpan y start end)) colour b
+    pub span-left : painted (raster f) (columns (natAbs y) from past) colour b ≡ painted (raster f) (inside q (spanFigure y start end)) colour b
     span-left = painted-cong (raster f) (sound f D) colour b _ _ (λ u v hu hv. agree u v)
 
-    pub span-gone : past ≤ from → b ≡ painted (raster f) (inside q (rowSpan y start end)) colour b
+    pub span-gone : past ≤ from → b ≡ painted (raster f) (inside q (spanFigure y start end)) colour b
     span-gone h =
         sym (sym span-left ∙ painted-none (raster f) (sound f D) colour b _ (λ u v hu hv. fails _ (λ e. let s = in-span (natAbs y) from past u v e in no u (s .0) (s .1))))
       where

@@ -1,12 +1,12 @@
-// Packed frames in a lent buffer: the description of a frame and its refusals, setting, reading and filling. All that draws reaches the bytes
-// through put_point, paint_span and read_point, which do not check the frame again.
+// Packed frames in a lent buffer: the description of a frame and its refusals, setting, reading and filling. Figures reach the bytes through
+// put_point, paint_span and read_point, which do not check the frame again.
 ghost use mathlib.Core.Path.{_≡_};
 ghost use mathlib.Core.Bool.{true};
 ghost use Prim.Native.Nat.{ℕ, _+_, _*_, _/_, _%_, _^_, _≤_, _<_, min};
 ghost use lib.IntN.{pos};
 ghost use lib.ListN.{length, getD};
 ghost use Rattle.layout.specs.Digits.{digit, value, replaced, setRun};
-ghost use Rattle.layout.specs.Figure.{single, rowSpan, everywhere};
+ghost use Rattle.layout.specs.Figure.{single, spanFigure, everywhere};
 ghost use Rattle.layout.specs.Raster.{goodDepth, rowBytes, field, parts, per, turned, slotOf, putPixel, getPixel, painted, fullByte};
 ghost use Rattle.framebuffer.specs.Answer.{sized, drawn, read};
 ghost use Rattle.framebuffer.specs.Description.{raster, size, described, descriptionRefusal, bufferRefusal, sizeNumber, drawNumber, readNumber, colourAt, afterDraw};
@@ -465,7 +465,7 @@ fn merge_at(buf: &mut [u8], at: usize, p: u8, m: u8)
 // Columns of row y at depths 1, 2 and 4: the rest of the first byte, whole bytes, and the start of the last.
 fn paint_fields(buf: &mut [u8], frame: Frame, y: u32, from: u32, past: u32, colour: u32)
     requires { ⌜ (drawNumber frame (length (now buf)) colour 0 ≡ 0) × (frame .depth < 8) × (y < frame .height) × (from < past) × (past ≤ frame .width) ⌝ }
-    ensures { λ r. ⌜ now (buf .exit) ≡ painted (raster frame) (rowSpan (pos y) (pos from) (pos past)) colour (now (buf .entry)) ⌝ }
+    ensures { λ r. ⌜ now (buf .exit) ≡ painted (raster frame) (spanFigure (pos y) (pos from) (pos past)) colour (now (buf .entry)) ⌝ }
 {
     let depth = frame.depth;
     let p = pattern(depth, colour);
@@ -487,7 +487,7 @@ fn paint_fields(buf: &mut [u8], frame: Frame, y: u32, from: u32, past: u32, colo
 // Columns of row y. From depth 8 on they are whole bytes.
 fn paint_columns(buf: &mut [u8], frame: Frame, y: u32, from: u32, past: u32, colour: u32)
     requires { ⌜ (drawNumber frame (length (now buf)) colour 0 ≡ 0) × (y < frame .height) × (from < past) × (past ≤ frame .width) ⌝ }
-    ensures { λ r. ⌜ now (buf .exit) ≡ painted (raster frame) (rowSpan (pos y) (pos from) (pos past)) colour (now (buf .entry)) ⌝ }
+    ensures { λ r. ⌜ now (buf .exit) ≡ painted (raster frame) (spanFigure (pos y) (pos from) (pos past)) colour (now (buf .entry)) ⌝ }
 {
     if frame.depth < 8 {
         paint_fields(buf, frame, y, from, past, colour);
@@ -523,7 +523,7 @@ pub fn paint_span(
     colour: u32,
 )
     requires { ⌜ (drawNumber frame (length (now buf)) colour 0 ≡ 0) × Within pane frame ⌝ }
-    ensures { λ r. ⌜ now (buf .exit) ≡ painted (raster frame) (inside pane (rowSpan y start end)) colour (now (buf .entry)) ⌝ }
+    ensures { λ r. ⌜ now (buf .exit) ≡ painted (raster frame) (inside pane (spanFigure y start end)) colour (now (buf .entry)) ⌝ }
 {
     if !is_between(y, pane.top, pane.bottom) {
         return;

@@ -1,4 +1,5 @@
 -- Laws of the bound on coordinates: the tests decide it, and a coordinate is at most 131,072 from 0. Assumes nothing.
+use mathlib.Core.Bool.{Bool}
 use Prim.Native.Nat.{ℕ, _≤_}
 use native.Mathlib.Nat.{le-trans}
 use native.Mathlib.Omega.{arith}
@@ -6,12 +7,12 @@ use lib.Dec.{T, leb, leb→le, lit<}
 use lib.IntN.{ℤ, pos, negsuc, natAbs}
 use lib.Pow.{pow-mono}
 use lib.Signed.{leZ}
-use mir.Syntax.{w32}
-use mir.Val.{SFits}
+use mir.Syntax.{w32, w64}
+use mir.Val.{SFits, toZ, ofZ}
 use Rattle.whole.specs.Decides.{Decides}
 use Rattle.whole.proofs.Decides.{decides-map, decides-and, decides-le}
 use Rattle.whole.proofs.Difference.{le-nat}
-use Rattle.whole.proofs.Machine.{Has, sized, one}
+use Rattle.whole.proofs.Machine.{Has, sized, one, cast}
 use Rattle.whole.proofs.Sizes.{Sz}
 use Rattle.geometry.specs.declared.Point.{Point}
 use Rattle.geometry.specs.Bound.{Coord, Bounded, isCoord, inBounds}
@@ -37,6 +38,9 @@ coord-fits h = sized (coord-size h) (lit< tt)
 -- a coordinate as it stands, and cast to `i64`
 pub coord : {z : ℤ} → Coord z → Has w32 z z 131072
 coord {z} h = one z (coord-size h) tt
+
+pub coord-wide : {z : ℤ} → Coord z → Has w64 (toZ w32 (ofZ w32 z)) z 131072
+coord-wide h = cast (coord h) tt
 
 -- for `search (sizes, sz-coord)`
 pub sz-coord : (k : ℕ) (a : ℤ) → Coord a → T (leb 17 k) → Sz k a

@@ -11,7 +11,7 @@ fn digit(v: u32) -> u8
     b'a' + (v - 10) as u8
 }
 
-// Eight digits and a space.
+// Inside the library: eight digits and a space.
 pub fn show(v: u32) {
     let mut word = [b' '; 9];
     let mut rest = v;
@@ -24,7 +24,7 @@ pub fn show(v: u32) {
     io::write_all(STDOUT_FILENO, &word);
 }
 
-// Two digits for each byte.
+// Inside the library: two digits for each byte.
 pub fn show_bytes(bytes: &[u8]) {
     let mut i = 0usize;
     while i < bytes.len() {
@@ -35,6 +35,7 @@ pub fn show_bytes(bytes: &[u8]) {
     }
 }
 
+// Inside the library: the end of a line.
 pub fn end_line() {
     io::write_all(STDOUT_FILENO, b"\n");
 }

@@ -7,12 +7,12 @@ use native.Mathlib.Omega.{arith}
 use lib.Dec.{ltb, leb, eqb}
 use lib.IntN.{ℤ, pos}
 use borrow.Author.Tests.{ltb-true, leb-true, eqb-true, lt-ltb, le-leb, eq-eqb}
-use Rattle.layout.specs.Figure.{rowSpan, single}
+use Rattle.layout.specs.Figure.{spanFigure, single}
 use Rattle.layout.proofs.Tests.{lt-or-ge, same-test, fails, and-true, true-and, or-true, true-or}
 
 -- a span of columns of the frame
 abbrev pub columns : ℕ → ℕ → ℕ → ℤ → ℤ → Bool
-columns y x0 x1 = rowSpan (pos y) (pos x0) (pos x1)
+columns y x0 x1 = spanFigure (pos y) (pos x0) (pos x1)
 
 -- what it says
 pub in-span : (y x0 x1 u v : ℕ) → columns y x0 x1 (pos u) (pos v) ≡ true → (x0 ≤ u) × (u < x1) × (v ≡ y)

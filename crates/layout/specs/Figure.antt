@@ -9,8 +9,8 @@ abbrev pub single : ℤ → ℤ → ℤ → ℤ → Bool
 single x y u v = eqZ u x && eqZ v y
 
 -- row y's columns from `start` to one before `end`
-abbrev pub rowSpan : ℤ → ℤ → ℤ → ℤ → ℤ → Bool
-rowSpan y start end u v = (leZ start u && ltZ u end) && eqZ v y
+abbrev pub spanFigure : ℤ → ℤ → ℤ → ℤ → ℤ → Bool
+spanFigure y start end u v = (leZ start u && ltZ u end) && eqZ v y
 
 -- every pixel
 abbrev pub everywhere : ℤ → ℤ → Bool

@@ -3,12 +3,12 @@ use mathlib.Core.Path.{_≡_, refl}
 use mathlib.Core.Bool.{true}
 use Rattle.line.specs.Line.{moves, wide, high, major, minor, xMoves, yMoves, pointAt, hasPoint}
 use Rattle.triangle.specs.Order.{before, sorted}
-use Rattle.triangle.specs.Row.{joined, spanOf, columns, rowSpan, firstRow, rowCount}
+use Rattle.triangle.specs.Row.{extended, hull, columns, rowSpan, firstRow, rowCount}
 use Rattle.triangle.specs.Triangle.{areaDoubled, noneBelow, noneAbove, onEdge, isFlat, isInside, contained}
 use Rattle.layout.specs.Raster.{rowBytes, field, parts, per, byteOf, slotOf, painted}
 use Rattle.framebuffer.specs.Description.{size}
 use Rattle.picture.specs.Known.{table, allHold}
 
 pub known : allHold table ≡ true
-unfolding moves wide high major minor xMoves yMoves pointAt hasPoint before sorted joined spanOf columns rowSpan firstRow rowCount areaDoubled noneBelow noneAbove onEdge isFlat isInside contained rowBytes field parts per byteOf slotOf painted size
+unfolding moves wide high major minor xMoves yMoves pointAt hasPoint before sorted extended hull columns rowSpan firstRow rowCount areaDoubled noneBelow noneAbove onEdge isFlat isInside contained rowBytes field parts per byteOf slotOf painted size
 known = refl

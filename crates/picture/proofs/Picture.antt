@@ -25,7 +25,7 @@ use Rattle.framebuffer.specs.declared.Frame.{Frame}
 use Rattle.framebuffer.specs.Description.{raster, size, descriptionRefusal, bufferRefusal, drawNumber, afterDraw}
 use Rattle.framebuffer.proofs.Refusals.{Accepted, is-accepted, is-drawable, sound, frame-nest, refused}
 use Rattle.framebuffer.proofs.Calls.{number-zero}
-use Rattle.picture.specs.Calls.{Call, setPixel, fillFrame, drawLine, drawTriangle, drawOutline, drawCircle, figureOf, colourOf, numberOf, afterCall, afterCalls, Picture, shown, blank, pictureAfter}
+use Rattle.picture.specs.Calls.{Call, setPixel, fillFrame, drawLine, drawTriangle, drawOutline, drawCircle, figureOf, colourOf, numberOf, afterCall, afterCalls, Picture, shownAfter, blank, pictureAfter}
 use Rattle.picture.proofs.Blank.{blank-read, colour-fits}
 
 -- a zero-filled buffer of n bytes
@@ -85,7 +85,7 @@ module _ (f : Frame) (n : ℕ) where
   unfolding shows by-number
   shows-after [] numbers before h p = h p
   shows-after (o ∷ os) numbers before h p =
-      shows-after os (shows o numbers) (shown f n o before)
+      shows-after os (shows o numbers) (shownAfter f n o before)
       (λ q. one-test (eqb (numberOf f n o) 0) (by-number o q) (colourOf o) (numbers q) ∙ ap (λ (a : ℕ). cond (eqb (numberOf f n o) 0 && by-number o q) (colourOf o) a) (h q)) p
 
   -- ---- an accepted description with room in the buffer
@@ -143,7 +143,7 @@ module _ (f : Frame) (n : ℕ) where
 
     still : (os : List Call) (before : Picture) (x y : ℕ) → pictureAfter f n os before x y ≡ before x y
     still [] before x y = refl
-    still (o ∷ os) before x y = still os (shown f n o before) x y ∙ ap (λ (t : Bool). cond (t && figureOf o (pos x) (pos y)) (colourOf o) (before x y)) (refuses o)
+    still (o ∷ os) before x y = still os (shownAfter f n o before) x y ∙ ap (λ (t : Bool). cond (t && figureOf o (pos x) (pos y)) (colourOf o) (before x y)) (refuses o)
 
   -- ---- ONE PICTURE, ONE FRAME, for every description, every length and any two lists of calls
   pub one-picture-one-frame : (xs ys : List Call)

@@ -61,8 +61,8 @@ abbrev pub Picture : Type 0
 Picture = ℕ → ℕ → ℕ
 
 -- after an accepted call the pixels that its figure contains have its colour; a refused call changes nothing
-abbrev pub shown : Frame → ℕ → Call → Picture → Picture
-shown f n o before x y = cond (eqb (numberOf f n o) 0 && figureOf o (pos x) (pos y)) (colourOf o) (before x y)
+abbrev pub shownAfter : Frame → ℕ → Call → Picture → Picture
+shownAfter f n o before x y = cond (eqb (numberOf f n o) 0 && figureOf o (pos x) (pos y)) (colourOf o) (before x y)
 
 abbrev pub blank : Picture
 blank x y = 0
@@ -70,4 +70,4 @@ blank x y = 0
 -- so after calls a pixel has the colour of the last accepted call whose figure contains it, or the one that it had
 abbrev pub pictureAfter : Frame → ℕ → List Call → Picture → Picture
 pictureAfter f n [] before = before
-pictureAfter f n (o ∷ os) before = pictureAfter f n os (shown f n o before)
+pictureAfter f n (o ∷ os) before = pictureAfter f n os (shownAfter f n o before)

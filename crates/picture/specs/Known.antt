@@ -1,5 +1,5 @@
 -- 01's known small answers 1 to 12, as a table: each case is a question and the answer that 01 gives, and `holds` asks the definitions.
-use mathlib.Core.Bool.{Bool, true, false, _&&_}
+use mathlib.Core.Bool.{Bool, true, false, not, _&&_}
 use mathlib.Core.List.{List, [], _∷_}
 use Prim.Native.Nat.{ℕ, zero, suc, _+_}
 use lib.Dec.{eqb}
@@ -25,6 +25,8 @@ pub data Case : Type 0 where
   triangleHas : Point → Point → Point → Point → Case
   -- the spans of the rows of a circle's box
   circleSpans : Point → ℕ → List (ℤ × ℤ) → Case
+  -- a circle that does not contain a pixel
+  circleHasNot : Point → ℕ → Point → Case
   -- the bytes after a colour is set at a pixel of a frame over a zero buffer
   bytesAfter : Frame → Point → ℕ → List ℕ → Case
 
@@ -62,6 +64,7 @@ holds (linePoints s e ps) = samePlaces (upFrom (pointAt s e) 0 (points s e)) ps
 holds (triangleSpans a b c ss) = sameSpans (upFrom (λ k. let s = row.rowSpan a b c (row.firstRow a b c +ℤ pos k) in (s .0, s .1)) 0 (row.rowCount a b c)) ss
 holds (triangleHas a b c p) = triangle.contained a b c p
 holds (circleSpans l d ss) = sameSpans (upFrom (λ k. (circle.spanStart l d (l .1 +ℤ pos k), circle.spanEnd l d (l .1 +ℤ pos k))) 0 d) ss
+holds (circleHasNot l d p) = not (circle.contained l d p)
 holds (bytesAfter f p c bs) = sameBytes (afterCall f (setPixel p c) (replicate (long bs) 0)) bs
 
 abbrev pub allHold : List Case → Bool
@@ -86,6 +89,7 @@ table =
     ∷ circleSpans (at 0 0) 3 (to 1 2 ∷ to 0 3 ∷ to 1 2 ∷ [])
     ∷ circleSpans (at 0 0) 4 (to 1 3 ∷ to 0 4 ∷ to 0 4 ∷ to 1 3 ∷ [])
     ∷ circleSpans (at 0 0) 0 []
+    ∷ circleHasNot (at 0 0) 0 (at 0 0)
     ∷ circleSpans (at 0 0) 1 (to 0 1 ∷ [])
     ∷ bytesAfter (described 10 1 1 false) (at 9 0) 1 (0x00 ∷ 0x40 ∷ [])
     ∷ bytesAfter (described 4 1 2 false) (at 1 0) 3 (0x30 ∷ [])

@@ -16,7 +16,7 @@ use Rattle.text.specs.Lines.{lineEnd, lineAt, firstLine, each}
 use Rattle.text.proofs.Streaming.{first-line}
 use Rattle.reports.specs.declared.Count.{Count}
 use Rattle.reports.specs.Words.{tooLong, refused, badTab, inside, numbered, counted}
-use Rattle.reports.specs.Corners.{refusalOf}
+use Rattle.reports.specs.Corners.{cornersRefusal}
 use Rattle.reports.specs.Minutes.{overlong, refusedBy, badAt, tally, insideOne, withLine, samplesOf, wedge, behindFirst, unless, minutes, countLine}
 
 -- ---- the lines from a place on
@@ -71,7 +71,7 @@ module _ (v : Vertices) where
 -- a sample counts once, or not at all
 pub inside-most : (v : Vertices) (p : Place) → insideOne v p ≤ 1
 unfolding insideOne
-inside-most v p = by (verdict (refusalOf v) (contained (v .x1, v .y1) (v .x2, v .y2) (v .x3, v .y3) (p .x, p .y)) .yes)
+inside-most v p = by (verdict (cornersRefusal v) (contained (v .x1, v .y1) (v .x2, v .y2) (v .x3, v .y3) (p .x, p .y)) .yes)
   where
     by : (t : Bool) → cond t 1 0 ≤ 1
     by true = omega arith
@@ -88,7 +88,7 @@ module _ (s : List ℕ) where
     unfolding minutes
     is-bad e = rw (le-ltb 65536 (length s) short, e)
 
-    pub is-good : wedge s .ok ≡ true → unless (refusalOf (wedge s)) (samplesOf (wedge s) (behindFirst s)) ≡ minutes s
+    pub is-good : wedge s .ok ≡ true → unless (cornersRefusal (wedge s)) (samplesOf (wedge s) (behindFirst s)) ≡ minutes s
     unfolding minutes
     is-good e = rw (le-ltb 65536 (length s) short, e)
 

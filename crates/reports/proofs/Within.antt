@@ -32,7 +32,7 @@ use Rattle.triangle.proofs.Box.{box-left, box-right}
 use Rattle.text.specs.declared.Vertices.{Vertices}
 use Rattle.text.proofs.Showing.{zero-fits, triple-short}
 use Rattle.reports.specs.Words.{badLine, refused, rows, counted}
-use Rattle.reports.specs.Corners.{corner1, corner2, corner3, refusalOf}
+use Rattle.reports.specs.Corners.{corner1, corner2, corner3, cornersRefusal}
 use Rattle.reports.specs.Spans.{rowsOf, heading, rowOf, rowLine, rowLines}
 use Rattle.reports.proofs.Report.{counted-short}
 
@@ -79,9 +79,9 @@ module _ (v1 v2 v3 : Point) (y : ℤ) (a : Accepted v1 v2 v3) where
 
 pub row-fits : (v : Vertices) (y : ℤ) → SFits w32 (rowOf v y .start) × SFits w32 (rowOf v y .end)
 unfolding rowOf
-row-fits v y = by (refusalOf v) refl
+row-fits v y = by (cornersRefusal v) refl
   where
-    by : (n : ℕ) → refusalOf v ≡ n
+    by : (n : ℕ) → cornersRefusal v ≡ n
         → SFits w32 (span n (rowSpan (corner1 v) (corner2 v) (corner3 v) y .0) (rowSpan (corner1 v) (corner2 v) (corner3 v) y .1) .start) × SFits w32 (span n (rowSpan (corner1 v) (corner2 v) (corner3 v) y .0) (rowSpan (corner1 v) (corner2 v) (corner3 v) y .1) .end)
     by zero e = span-fits (corner1 v) (corner2 v) (corner3 v) y (is-accepted (corner1 v) (corner2 v) (corner3 v) e)
     by (suc n) e = (zero-fits, zero-fits)
@@ -115,21 +115,21 @@ asked v t n = cond t (rowsAnswer n (firstRow (corner1 v) (corner2 v) (corner3 v)
 
 pub rows-below : (v : Vertices) → (rowsOf v .first +ℤ pos (rowsOf v .count)) ≤ℤ pos 131072
 unfolding rowsOf
-rows-below v = by (v .ok) (refusalOf v) refl
+rows-below v = by (v .ok) (cornersRefusal v) refl
   where
     none : (pos 0 +ℤ pos 0) ≤ℤ pos 131072
     none = nat-le (omega arith)
 
-    by : (t : Bool) (n : ℕ) → refusalOf v ≡ n → (asked v t n .first +ℤ pos (asked v t n .count)) ≤ℤ pos 131072
+    by : (t : Bool) (n : ℕ) → cornersRefusal v ≡ n → (asked v t n .first +ℤ pos (asked v t n .count)) ≤ℤ pos 131072
     by true zero e = rows-end (corner1 v) (corner2 v) (corner3 v) (is-accepted (corner1 v) (corner2 v) (corner3 v) e)
     by true (suc n) e = none
     by false n e = none
 
 pub first-fits : (v : Vertices) → SFits w32 (rowsOf v .first)
 unfolding rowsOf firstRow
-first-fits v = by (v .ok) (refusalOf v) refl
+first-fits v = by (v .ok) (cornersRefusal v) refl
   where
-    by : (t : Bool) (n : ℕ) → refusalOf v ≡ n → SFits w32 (asked v t n .first)
+    by : (t : Bool) (n : ℕ) → cornersRefusal v ≡ n → SFits w32 (asked v t n .first)
     by true zero e = coord-fits (sorted-bounded (corner1 v) (corner2 v) (corner3 v) _ refl (is-accepted (corner1 v) (corner2 v) (corner3 v) e) .first .y)
     by true (suc n) e = zero-fits
     by false n e = zero-fits
@@ -151,9 +151,9 @@ refusal-few v1 v2 v3 = by (inBounds v1 && (inBounds v2 && inBounds v3))
 
 pub heading-short : (v : Vertices) → length (heading (v .ok) (rowsOf v)) ≤ 19
 unfolding rowsOf heading
-heading-short v = by (v .ok) (refusalOf v) refl
+heading-short v = by (v .ok) (cornersRefusal v) refl
   where
-    by : (t : Bool) (n : ℕ) → refusalOf v ≡ n
+    by : (t : Bool) (n : ℕ) → cornersRefusal v ≡ n
         → length (cond t (cond (eqb (asked v t n .number) 0) (counted rows (asked v t n .count)) (counted refused (asked v t n .number))) badLine) ≤ 19
     by true zero e =
         let few : rowCount (corner1 v) (corner2 v) (corner3 v) ≤ 262145 = rows-few (corner1 v) (corner2 v) (corner3 v) (is-accepted (corner1 v) (corner2 v) (corner3 v) e) in

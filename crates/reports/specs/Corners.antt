@@ -17,5 +17,5 @@ corner3 v = (v .x3, v .y3)
 abbrev pub corners : Vertices → Corners
 corners v = record { a = corner1 v; b = corner2 v; c = corner3 v }
 
-abbrev pub refusalOf : Vertices → ℕ
-refusalOf v = vertexRefusal (corner1 v) (corner2 v) (corner3 v)
+abbrev pub cornersRefusal : Vertices → ℕ
+cornersRefusal v = vertexRefusal (corner1 v) (corner2 v) (corner3 v)

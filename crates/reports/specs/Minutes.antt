@@ -13,7 +13,7 @@ use Rattle.text.specs.Fields.{until, fields, lines, readPlace, readVertices}
 use Rattle.text.specs.Lines.{firstLine, each}
 use Rattle.reports.specs.declared.Count.{Count}
 use Rattle.reports.specs.Words.{tooLong, refused, badTab, inside, numbered, counted}
-use Rattle.reports.specs.Corners.{corner1, corner2, corner3, refusalOf}
+use Rattle.reports.specs.Corners.{corner1, corner2, corner3, cornersRefusal}
 
 -- ---- the answers
 abbrev pub overlong : Count
@@ -30,7 +30,7 @@ tally i n = record { number = 0; long = false; bad = 0; inside = i; samples = n 
 
 -- ---- a sample: 1 where `contains` says yes
 unfoldable pub insideOne : Vertices → Place → ℕ
-insideOne v p = cond (verdict (refusalOf v) (contained (corner1 v) (corner2 v) (corner3 v) (p .x, p .y)) .yes) 1 0
+insideOne v p = cond (verdict (cornersRefusal v) (contained (corner1 v) (corner2 v) (corner3 v) (p .x, p .y)) .yes) 1 0
 
 -- a further line, behind one for the wedge and one for each sample: a sample more, or the first bad line, behind which nothing counts
 unfoldable pub withLine : Vertices → Count → List ℕ → Count
@@ -54,7 +54,7 @@ unless zero k = k
 unless (suc n) k = refusedBy (suc n)
 
 unfoldable pub minutes : List ℕ → Count
-minutes s = cond (ltb 65536 (length s)) overlong (cond (wedge s .ok) (unless (refusalOf (wedge s)) (samplesOf (wedge s) (behindFirst s))) (badAt 1))
+minutes s = cond (ltb 65536 (length s)) overlong (cond (wedge s .ok) (unless (cornersRefusal (wedge s)) (samplesOf (wedge s) (behindFirst s))) (badAt 1))
 
 -- ---- what is printed of it
 unfoldable pub countLine : Count → List ℕ

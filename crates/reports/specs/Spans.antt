@@ -14,13 +14,13 @@ use Rattle.text.specs.Fields.{fields, readVertices}
 use Rattle.text.specs.Lines.{firstLine}
 use Rattle.text.specs.Show.{triple}
 use Rattle.reports.specs.Words.{badLine, refused, rows, counted}
-use Rattle.reports.specs.Corners.{corner1, corner2, corner3, refusalOf}
+use Rattle.reports.specs.Corners.{corner1, corner2, corner3, cornersRefusal}
 
 -- the rows of the triangle; none where the line is another
 unfoldable pub rowsOf : Vertices → RowRange
 rowsOf v =
     cond (v .ok)
-    (rowsAnswer (refusalOf v) (firstRow (corner1 v) (corner2 v) (corner3 v)) (rowCount (corner1 v) (corner2 v) (corner3 v)))
+    (rowsAnswer (cornersRefusal v) (firstRow (corner1 v) (corner2 v) (corner3 v)) (rowCount (corner1 v) (corner2 v) (corner3 v)))
     (rowsAnswer 0 (pos 0) 0)
 
 -- the first line: `bad line`, or `refused` and the number, or `rows` and how many
@@ -29,7 +29,7 @@ heading ok r = cond ok (cond (eqb (r .number) 0) (counted rows (r .count)) (coun
 
 -- a row's line: the row, its first column, one past the last
 unfoldable pub rowOf : Vertices → ℤ → Span
-rowOf v y = span (refusalOf v) (rowSpan (corner1 v) (corner2 v) (corner3 v) y .0) (rowSpan (corner1 v) (corner2 v) (corner3 v) y .1)
+rowOf v y = span (cornersRefusal v) (rowSpan (corner1 v) (corner2 v) (corner3 v) y .0) (rowSpan (corner1 v) (corner2 v) (corner3 v) y .1)
 
 abbrev pub rowLine : Vertices → ℤ → List ℕ
 rowLine v y = triple y (rowOf v y .start) (rowOf v y .end) 10

@@ -4,7 +4,7 @@ ghost use mathlib.Core.Path.{_≡_};
 ghost use Prim.Native.Nat.{_+_, _≤_};
 ghost use lib.ListN.{length, drop};
 ghost use lib.Seq.{sets};
-ghost use Rattle.reports.specs.Corners.{refusalOf};
+ghost use Rattle.reports.specs.Corners.{cornersRefusal};
 ghost use Rattle.reports.specs.Minutes.{insideOne, samplesOf, minutes, countLine};
 use crate::Count;
 use crate::corners::corners_of;
@@ -16,7 +16,7 @@ use text::Vertices;
 
 // The number of the wedge's refusal, or 0.
 fn refusal_of(v: Vertices) -> u32
-    ensures { λ r. ⌜ r ≡ refusalOf v ⌝ }
+    ensures { λ r. ⌜ r ≡ cornersRefusal v ⌝ }
 {
     let t = corners_of(v);
     triangle::refusal(t.a, t.b, t.c)

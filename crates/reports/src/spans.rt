@@ -12,7 +12,7 @@ use geometry::Span;
 use text::Vertices;
 use triangle::RowRange;
 
-// The smaller of two numbers.
+// Inside the library: the smaller of two numbers.
 pub fn least(a: u32, b: u32) -> u32
     ensures { λ r. ⌜ r ≡ min a b ⌝ }
 {

@@ -7,7 +7,7 @@ ghost use lib.ListN.{length};
 ghost use lib.Seq.{sets};
 ghost use Rattle.text.specs.Show.{shown, lastDigits, shownSigned, field, triple};
 
-// Whether a buffer of `length` bytes that is filled up to `at` has room for `most` more.
+// Inside the library: whether a buffer of `length` bytes that is filled up to `at` has room for `most` more.
 pub fn has_room(length: usize, at: usize, most: usize) -> bool
     ensures { λ r. ⌜ r ≡ leb (at + most) length ⌝ }
 {

@@ -9,7 +9,7 @@ use Rattle.line.specs.Line.{hasPoint}
 use Rattle.triangle.specs.Answer.{vertexRefusal}
 use Rattle.triangle.specs.Order.{sorted}
 use Rattle.triangle.specs.Triangle.{isFlat, isInside, onEdge, contained}
-use Rattle.triangle.specs.Row.{spanOf, edgeColumns, rowSpan, firstRow, rowCount}
+use Rattle.triangle.specs.Row.{hull, edgeColumns, rowSpan, firstRow, rowCount}
 use Rattle.triangle.proofs.Order.{sorted-swap, sorted-turn}
 use Rattle.triangle.proofs.Sides.{flat-swap, flat-turn, isInside-swap, isInside-turn}
 
@@ -28,7 +28,7 @@ same-by a b c d e f r s z t =
     record {
       refusal = r;
       contains = λ p i. cond (z i) (hasPoint (s i .p1) (s i .p3) p) (t p i || onEdge (s i .p1) (s i .p2) (s i .p3) p);
-      span = λ y i. spanOf (edgeColumns (z i) (s i) y);
+      span = λ y i. hull (edgeColumns (z i) (s i) y);
       first = λ i. s i .p1 .1;
       count = λ i. natAbs (s i .p3 .1 -ℤ s i .p1 .1) + 1;
     }

@@ -19,7 +19,7 @@ use Rattle.geometry.specs.declared.Point.{Point}
 use Rattle.line.specs.Line.{pointAt, points, HasPoint}
 use Rattle.triangle.specs.declared.Columns.{Columns}
 use Rattle.triangle.proofs.Run.{Run}
-use Rattle.triangle.specs.Row.{joined, spanOf, inSpan, columnsTo, columns}
+use Rattle.triangle.specs.Row.{extended, hull, inSpan, columnsTo, columns}
 
 -- ---- the span of the columns E
 pub record Bounds (E : ℤ → Type 0) (s : Columns) : Type 0 where
@@ -117,28 +117,28 @@ module _ (E F : ℤ → Type 0) (s t : Columns) where
         let l = join-last (leZ (s .1) (t .1)) le-yes le-no in
         record { last = l .last; past = l .past; at-first = f .at; at-last = l .at; least = f .least; largest = l .largest }
 
-  pub join-spans : Spans E s → Spans F t → Spans Both (joined s t)
-  unfolding joined
+  pub join-spans : Spans E s → Spans F t → Spans Both (extended s t)
+  unfolding extended
   join-spans (inl a) (inl b) = rw (full E s a, full F t b) (inl (join-both a b))
   join-spans (inl a) (inr m) = rw (full E s a, empty t (m .0)) (span-map E Both s (λ x. inl) (λ x. ⊎-elim (λ q. q) (λ q. absurd (m .1 x q))) (inl a))
   join-spans (inr n) b = rw (empty s (n .0)) (span-map F Both t (λ x. inr) (λ x. ⊎-elim (λ q. absurd (n .1 x q)) (λ q. q)) b)
 
 -- ---- the span of a list of columns
-pub list-spans : (xs : List ℤ) → Spans (λ x. List·Memᴰ x xs) (spanOf xs)
-unfolding spanOf
+pub list-spans : (xs : List ℤ) → Spans (λ x. List·Memᴰ x xs) (hull xs)
+unfolding hull
 list-spans [] = inr (refl, λ x. List·Memᴰ·not-nil)
 list-spans (c ∷ xs) =
-    span-map (λ x. (x ≡ c) ⊎ List·Memᴰ x xs) (λ x. List·Memᴰ x (c ∷ xs)) (joined (c, c +ℤ pos 1) (spanOf xs)) (λ x. ⊎-elim List·Memᴰ·head List·Memᴰ·tail) (λ x. List·Memᴰ·cases-cons)
-    (join-spans (λ x. x ≡ c) (λ x. List·Memᴰ x xs) (c, c +ℤ pos 1) (spanOf xs)
+    span-map (λ x. (x ≡ c) ⊎ List·Memᴰ x xs) (λ x. List·Memᴰ x (c ∷ xs)) (extended (c, c +ℤ pos 1) (hull xs)) (λ x. ⊎-elim List·Memᴰ·head List·Memᴰ·tail) (λ x. List·Memᴰ·cases-cons)
+    (join-spans (λ x. x ≡ c) (λ x. List·Memᴰ x xs) (c, c +ℤ pos 1) (hull xs)
     (inl (record { last = c; past = refl; at-first = refl; at-last = refl; least = λ x e. nat-le (omega (arith, eq-nat e)); largest = λ x e. nat-le (omega (arith, eq-nat e)) }))
     (list-spans xs))
 
 -- one list after another
-pub span-append : (xs ys : List ℤ) → joined (spanOf xs) (spanOf ys) ≡ spanOf (xs ++ ys)
+pub span-append : (xs ys : List ℤ) → extended (hull xs) (hull ys) ≡ hull (xs ++ ys)
 span-append xs ys =
     span-one (λ x. List·Memᴰ x (xs ++ ys)) _ _
     (span-map (λ x. List·Memᴰ x xs ⊎ List·Memᴰ x ys) (λ x. List·Memᴰ x (xs ++ ys)) _ (λ x. ⊎-elim (Memᴰ·append-left ys) (Memᴰ·append-right xs)) (λ x. List·Memᴰ·append-cases xs)
-    (join-spans (λ x. List·Memᴰ x xs) (λ x. List·Memᴰ x ys) (spanOf xs) (spanOf ys) (list-spans xs) (list-spans ys)))
+    (join-spans (λ x. List·Memᴰ x xs) (λ x. List·Memᴰ x ys) (hull xs) (hull ys) (list-spans xs) (list-spans ys)))
     (list-spans (xs ++ ys))
 
 -- ---- the columns of a line's points on a row
@@ -182,14 +182,14 @@ module _ (s e : Point) (x y : ℤ) where
   has-column h = lists (pointAt s e) x y (points s e) (record { k = h .step; below = omega (arith, h .walked); here = h .here })
 
 -- the span of a line's points on a row
-pub line-spans : (s e : Point) (y : ℤ) → Spans (λ x. HasPoint s e (x, y)) (spanOf (columns s e y))
+pub line-spans : (s e : Point) (y : ℤ) → Spans (λ x. HasPoint s e (x, y)) (hull (columns s e y))
 line-spans s e y = span-map (λ x. List·Memᴰ x (columns s e y)) (λ x. HasPoint s e (x, y)) _ (λ x. column-has s e x y) (λ x. has-column s e x y) (list-spans (columns s e y))
 
 -- it is the run, or there is none
-pub run-span : (s e : Point) (y lo hi : ℤ) → Run s e y lo hi → spanOf (columns s e y) ≡ (lo, hi +ℤ pos 1)
+pub run-span : (s e : Point) (y lo hi : ℤ) → Run s e y lo hi → hull (columns s e y) ≡ (lo, hi +ℤ pos 1)
 run-span s e y lo hi r =
     span-one (λ x. HasPoint s e (x, y)) _ _ (line-spans s e y)
     (inl (record { last = hi; past = refl; at-first = r .on lo (≤ℤ-refl lo) (r .some); at-last = r .on hi (r .some) (≤ℤ-refl hi); least = λ x q. r .has x q .0; largest = λ x q. r .has x q .1 }))
 
-pub no-span : (s e : Point) (y : ℤ) → ((x : ℤ) → HasPoint s e (x, y) → ⊥) → spanOf (columns s e y) ≡ (pos 0, pos 0)
+pub no-span : (s e : Point) (y : ℤ) → ((x : ℤ) → HasPoint s e (x, y) → ⊥) → hull (columns s e y) ≡ (pos 0, pos 0)
 no-span s e y n = span-one (λ x. HasPoint s e (x, y)) _ _ (line-spans s e y) (inr (refl, n))

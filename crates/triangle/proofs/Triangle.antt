@@ -17,7 +17,7 @@ use Rattle.line.specs.Line.{HasPoint, hasPoint}
 use Rattle.triangle.specs.Order.{sorted}
 use Rattle.triangle.specs.Triangle.{areaDoubled, noneBelow, noneAbove, isFlat, isInside, onEdge, contained}
 use Rattle.triangle.specs.Between.{EdgePoint, Between}
-use Rattle.triangle.specs.Row.{spanOf, inSpan, columns, edgeColumns, rowSpan, firstRow, rowCount}
+use Rattle.triangle.specs.Row.{hull, inSpan, columns, edgeColumns, rowSpan, firstRow, rowCount}
 use Rattle.triangle.proofs.Run.{moves-to}
 use Rattle.triangle.proofs.Edge.{run-on}
 use Rattle.triangle.proofs.Order.{before-rows, sorted-ordered, sorted-same}
@@ -88,7 +88,7 @@ module _ (v1 v2 v3 : Point) where
   pub row-spans : (y : ℤ) → Spans (λ x. EdgePoint flat p1 p2 p3 (x, y)) (rowSpan v1 v2 v3 y)
   unfolding rowSpan
   row-spans y =
-      span-map (λ x. List·Memᴰ x (edgeColumns flat (sorted v1 v2 v3) y)) (λ x. EdgePoint flat p1 p2 p3 (x, y)) (spanOf (edgeColumns flat (sorted v1 v2 v3) y)) (λ x. listed flat x y) (λ x. lists flat x y)
+      span-map (λ x. List·Memᴰ x (edgeColumns flat (sorted v1 v2 v3) y)) (λ x. EdgePoint flat p1 p2 p3 (x, y)) (hull (edgeColumns flat (sorted v1 v2 v3) y)) (λ x. listed flat x y) (λ x. lists flat x y)
       (list-spans (edgeColumns flat (sorted v1 v2 v3) y))
 
   -- ---- SPAN AND CONTAINMENT AGREE: a pixel is contained exactly if the span of its row holds its column

@@ -20,13 +20,13 @@ abbrev pub greater : ℤ → ℤ → ℤ
 greater a b = cond (leZ a b) b a
 
 -- the span that takes in a and b: a span is its first column and one past its last, and empty if they are the same
-unfoldable pub joined : Columns → Columns → Columns
-joined a b = cond (eqZ (a .0) (a .1)) b (cond (eqZ (b .0) (b .1)) a (lesser (a .0) (b .0), greater (a .1) (b .1)))
+unfoldable pub extended : Columns → Columns → Columns
+extended a b = cond (eqZ (a .0) (a .1)) b (cond (eqZ (b .0) (b .1)) a (lesser (a .0) (b .0), greater (a .1) (b .1)))
 
 -- from the smallest to one past the largest; none: 0 to 0
-unfoldable pub spanOf : List ℤ → Columns
-spanOf [] = (pos 0, pos 0)
-spanOf (x ∷ xs) = joined (x, x +ℤ pos 1) (spanOf xs)
+unfoldable pub hull : List ℤ → Columns
+hull [] = (pos 0, pos 0)
+hull (x ∷ xs) = extended (x, x +ℤ pos 1) (hull xs)
 
 -- the span has the column x
 abbrev pub inSpan : Columns → ℤ → Bool
@@ -48,7 +48,7 @@ edgeColumns flat t y = cond flat (columns (t .p1) (t .p3) y) (columns (t .p1) (t
 module _ (v1 v2 v3 : Point) where
   -- the span of row y
   unfoldable pub rowSpan : ℤ → Columns
-  rowSpan y = spanOf (edgeColumns (isFlat v1 v2 v3) (sorted v1 v2 v3) y)
+  rowSpan y = hull (edgeColumns (isFlat v1 v2 v3) (sorted v1 v2 v3) y)
 
   -- the first row, y1, and the number of rows, y3 - y1 + 1
   unfoldable pub firstRow : ℤ

@@ -10,7 +10,7 @@ ghost use Rattle.geometry.specs.Answer.{verdict, span};
 ghost use Rattle.triangle.specs.Order.{before, placed, sorted, Down};
 ghost use Rattle.triangle.specs.Triangle.{areaDoubled, noneBelow, onEdge, isFlat, contained};
 ghost use Rattle.triangle.specs.Offsets.{reach, start, firstOffset, lastOffset};
-ghost use Rattle.triangle.specs.Row.{joined, spanOf, columns, edgeColumns, rowSpan, firstRow, rowCount};
+ghost use Rattle.triangle.specs.Row.{extended, hull, columns, edgeColumns, rowSpan, firstRow, rowCount};
 ghost use Rattle.triangle.specs.Box.{isBeyond, isOutside};
 ghost use Rattle.triangle.specs.Answer.{vertexRefusal, rowsAnswer};
 use geometry::Point;
@@ -51,16 +51,16 @@ pub fn refusal(v1: Point, v2: Point, v3: Point) -> u32
     5
 }
 
-// Inside the library: twice the signed area of p, a, b. The differences fit 32 bits; their products are taken in 64.
+// Inside the library: twice the signed area of p, a, b, by differences and products of 64 bits.
 pub fn area_doubled(p: Point, a: Point, b: Point) -> i64
     requires { ⌜ Bounded p × Bounded a × Bounded b ⌝ }
     ensures { λ r. ⌜ r ≡ areaDoubled p a b ⌝ }
 {
-    let ax = a.0 - p.0;
-    let ay = a.1 - p.1;
-    let bx = b.0 - p.0;
-    let by = b.1 - p.1;
-    ax as i64 * by as i64 - bx as i64 * ay as i64
+    let ax = a.0 as i64 - p.0 as i64;
+    let ay = a.1 as i64 - p.1 as i64;
+    let bx = b.0 as i64 - p.0 as i64;
+    let by = b.1 as i64 - p.1 as i64;
+    ax * by - bx * ay
 }
 
 // Whether a stands before b by y, then x, or in the same place.
@@ -281,7 +281,7 @@ fn stretch_on(wide: u32, high: u32, row: u32) -> Stretch
 // Inside the library: the columns of the points on row y of an edge that runs down.
 pub fn bresenham_intersection(start: Point, end: Point, y: i32) -> Columns
     requires { ⌜ (Bounded start × Bounded end) × (start .1 ≤ℤ end .1) ⌝ }
-    ensures { λ r. ⌜ r ≡ spanOf (columns start end y) ⌝ }
+    ensures { λ r. ⌜ r ≡ hull (columns start end y) ⌝ }
 {
     let x = start.0;
     let top = start.1;
@@ -317,7 +317,7 @@ fn choose(first: bool, a: i32, b: i32) -> i32
 
 // The span that takes in both; an empty one adds nothing.
 fn extend(a: Columns, b: Columns) -> Columns
-    ensures { λ r. ⌜ r ≡ joined a b ⌝ }
+    ensures { λ r. ⌜ r ≡ extended a b ⌝ }
 {
     if a.0 == a.1 {
         return b;
@@ -333,7 +333,7 @@ fn extend(a: Columns, b: Columns) -> Columns
 // Inside the library: the span of row y, of sorted vertices.
 pub fn scanline_intersection(t: Sorted, y: i32) -> Columns
     requires { ⌜ (Bounded (t .p1) × Bounded (t .p2) × Bounded (t .p3)) × Down t ⌝ }
-    ensures { λ r. ⌜ r ≡ spanOf (edgeColumns (isFlat (t .p1) (t .p2) (t .p3)) t y) ⌝ }
+    ensures { λ r. ⌜ r ≡ hull (edgeColumns (isFlat (t .p1) (t .p2) (t .p3)) t y) ⌝ }
 {
     if area_doubled(t.p1, t.p2, t.p3) == 0 {
         return bresenham_intersection(t.p1, t.p3, y);

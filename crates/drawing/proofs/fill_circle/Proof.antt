@@ -15,7 +15,7 @@ use Rattle.geometry.specs.declared.Span.{Span}
 use Rattle.circle.specs.Circle.{spanStart, spanEnd}
 use Rattle.circle.proofs.Refusals.{accepted, widest}
 use Rattle.circle.proofs.Worked.{after-fits, after-is}
-use Rattle.layout.specs.Figure.{rowSpan}
+use Rattle.layout.specs.Figure.{spanFigure}
 use Rattle.layout.specs.Raster.{painted}
 use Rattle.framebuffer.specs.Description.{raster, drawNumber}
 use Rattle.framebuffer.specs.Rectangle.{inside}
@@ -95,7 +95,7 @@ loop-again c =
       omega arith,
       λ ok.
           paint .paint-span .ensures
-          ∙ (λ i. painted (raster (a .frame)) (inside (a .pane) (rowSpan (y-is h i) (start i) (end i))) (a .colour) (h .before .loop .inv .2 ok i))
+          ∙ (λ i. painted (raster (a .frame)) (inside (a .pane) (spanFigure (y-is h i) (start i) (end i))) (a .colour) (h .before .loop .inv .2 ok i))
           ∙ rows-turn (raster (a .frame)) (sound-at (a .frame) (length (a .buf .now)) (a .colour) ok) (a .pane) (a .colour) (a .buf .now) (circleFigure (a .topleft) (a .diameter)) y (spanStart (a .topleft) (a .diameter) y) (spanEnd (a .topleft) (a .diameter) y)
           (λ u v hu hv e. circle-columns (a .topleft) (a .diameter) y u v e)
           ∙ ap (λ (z : ℤ). painted (raster (a .frame)) (inside (a .pane) (above (circleFigure (a .topleft) (a .diameter)) z)) (a .colour) (a .buf .now)) (+ℤ-assoc (a .topleft .1) (pos k) (pos 1)),

@@ -15,8 +15,8 @@ use Rattle.whole.proofs.Difference.{up, dn, lt-nat, le-nat, eq-nat, nat-lt}
 use Rattle.whole.proofs.Machine.{field-back, le-yes, le-no, lt-yes, lt-no}
 use Rattle.whole.proofs.Order.{le-self, lt-le}
 use Rattle.edges.specs.declared.Row.{Row}
-use Rattle.edges.specs.Shape.{Shape, Between, WalkAt, Rowing, Rowed, Begun}
-use Rattle.layout.specs.Figure.{rowSpan}
+use Rattle.edges.specs.Shape.{Shape, Spanned, WalkAt, Rowing, Rowed, Begun}
+use Rattle.layout.specs.Figure.{spanFigure}
 use Rattle.layout.specs.Raster.{painted}
 use Rattle.framebuffer.specs.Description.{raster, drawNumber}
 use Rattle.framebuffer.specs.Rectangle.{inside}
@@ -32,7 +32,7 @@ Inv-loop buf₀ frame pane top bottom colour w₀ y₀ buf w y =
     (length buf ≡ length buf₀) × (toZ w32 top ≤ℤ toZ w32 y)
     × ((t : Shape) → Begun t (toZ w32 top) (toZ w32 bottom) w₀
     → WalkAt t (toZ w32 y) w
-    × ((figure : ℤ → ℤ → Bool) → drawNumber frame (length buf₀) colour 0 ≡ 0 → ((x v : ℤ) → Decides (figure x v) (Between t x v))
+    × ((figure : ℤ → ℤ → Bool) → drawNumber frame (length buf₀) colour 0 ≡ 0 → ((x v : ℤ) → Decides (figure x v) (Spanned t x v))
     → buf ≡ painted (raster frame) (inside pane (above figure (toZ w32 y))) colour buf₀))
 
 abbrev μ-loop : tie.MeasureT-loop
@@ -139,13 +139,13 @@ loop-again c =
           let done = taken told t b in
           subst
           (λ (v : ℤ). WalkAt t v (r .walk)
-          × ((figure : ℤ → ℤ → Bool) → drawNumber (a .frame) (length (a .buf .now)) (a .colour) 0 ≡ 0 → ((x z : ℤ) → Decides (figure x z) (Between t x z))
+          × ((figure : ℤ → ℤ → Bool) → drawNumber (a .frame) (length (a .buf .now)) (a .colour) 0 ≡ 0 → ((x z : ℤ) → Decides (figure x z) (Spanned t x z))
           → paint .paint-span .last .0 ≡ painted (raster (a .frame)) (inside (a .pane) (above figure v)) (a .colour) (a .buf .now)))
           (sym (next-back h)) (
             done .walk,
             λ figure ok says.
                 paint .paint-span .ensures
-                ∙ (λ i. painted (raster (a .frame)) (inside (a .pane) (rowSpan (y h) (low-back i) (end-is told i))) (a .colour) (l .inv .2 t b .1 figure ok says i))
+                ∙ (λ i. painted (raster (a .frame)) (inside (a .pane) (spanFigure (y h) (low-back i) (end-is told i))) (a .colour) (l .inv .2 t b .1 figure ok says i))
                 ∙ rows-turn (raster (a .frame)) (sound-at (a .frame) (length (a .buf .now)) (a .colour) ok) (a .pane) (a .colour) (a .buf .now) figure (y h) (r .low) (r .high +ℤ pos 1)
                 (λ u v hu hv e. row-columns t figure says (y h) r done u v (omega (arith, is-drawable (a .frame) (length (a .buf .now)) (a .colour) ok .accepted .described .width)) e),
           ),

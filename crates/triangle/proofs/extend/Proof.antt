@@ -9,7 +9,7 @@ use Rattle.whole.specs.Equal.{eqZ}
 use Rattle.whole.proofs.Decides.{decides-eq, decides-yes, decides-no}
 use Rattle.whole.proofs.Machine.{eq-bits}
 use Rattle.triangle.specs.declared.Columns.{Columns}
-use Rattle.triangle.specs.Row.{lesser, greater, joined}
+use Rattle.triangle.specs.Row.{lesser, greater, extended}
 use Rattle.triangle.proofs.extend.Statement.{statement}
 use Rattle.triangle.proofs.extend.Tie as tie
 
@@ -35,11 +35,11 @@ differs : (s : Columns) → (ofZ w32 (s .0) ≡ ofZ w32 (s .1) → ⊥) → eqZ 
 differs s n = decides-no (decides-eq (s .0) (s .1)) (λ e. n (ap (ofZ w32) e))
 
 returns : tie.Need-returns
-unfolding joined
+unfolding extended
 returns c = let e = same (c .before .before .before .args .a) (a0 (c .before)) (a1 (c .before)) (c .if1 .taken) in rw e
 
 returns-2 : tie.Need-returns-2
-unfolding joined
+unfolding extended
 returns-2 c =
     let g = c .before .before .before .before .before .before .args in
     let e = differs (g .a) (c .before .before .before .if1 .left) in
@@ -53,7 +53,7 @@ choose-requires-2 : tie.Need-choose-requires-2
 choose-requires-2 c κs = search needs
 
 returns-3 : tie.Need-returns-3
-unfolding joined
+unfolding extended
 returns-3 c =
     let g = c .before .before .before .before .before .before .before .before .before .before .before .before .before .before .before .before .before .before .before .before .args in
     let e = differs (g .a) (c .before .before .before .before .before .before .before .before .before .before .before .before .before .before .before .before .before .if1 .left) in

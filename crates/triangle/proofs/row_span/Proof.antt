@@ -9,7 +9,7 @@ use Rattle.geometry.specs.Answer.{span}
 use Rattle.geometry.proofs.Answer.{span-refused}
 use Rattle.triangle.specs.Order.{sorted, Down}
 use Rattle.triangle.specs.Triangle.{isFlat}
-use Rattle.triangle.specs.Row.{spanOf, edgeColumns, rowSpan}
+use Rattle.triangle.specs.Row.{hull, edgeColumns, rowSpan}
 use Rattle.triangle.proofs.Refusals.{is-accepted, sorted-bounded}
 use Rattle.triangle.proofs.Triangle.{upper, lower, flat-sorted}
 use Rattle.triangle.proofs.row_span.Statement.{statement}
@@ -45,8 +45,8 @@ returns-2 c =
     let first = field-back w32 (r .0) (c .struct-told .given .0 .1) in
     let past = field-back w32 (r .1) (c .struct-told .given .1 .0 .1) in
     let whole : r ≡ rowSpan (g .v1) (g .v2) (g .v3) (g .y) =
-    c .before .scanline-intersection .ensures ∙ (λ i. spanOf (edgeColumns (isFlat (c .before .before .sorted-yx .ensures i .p1) (c .before .before .sorted-yx .ensures i .p2) (c .before .before .sorted-yx .ensures i .p3)) (c .before .before .sorted-yx .ensures i) (toZ-ofZ (s .fits .y) i)))
-    ∙ (λ i. spanOf (edgeColumns (flat-sorted (g .v1) (g .v2) (g .v3) i) (sorted (g .v1) (g .v2) (g .v3)) (g .y)))
+    c .before .scanline-intersection .ensures ∙ (λ i. hull (edgeColumns (isFlat (c .before .before .sorted-yx .ensures i .p1) (c .before .before .sorted-yx .ensures i .p2) (c .before .before .sorted-yx .ensures i .p3)) (c .before .before .sorted-yx .ensures i) (toZ-ofZ (s .fits .y) i)))
+    ∙ (λ i. hull (edgeColumns (flat-sorted (g .v1) (g .v2) (g .v3) i) (sorted (g .v1) (g .v2) (g .v3)) (g .y)))
     in
     (λ i. record { number = 0; start = first i; end = past i }) ∙ (λ i. span (number i) (whole i .0) (whole i .1))
 

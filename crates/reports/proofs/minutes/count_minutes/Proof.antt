@@ -7,7 +7,7 @@ use borrow.Author.Needs.{needs}
 use borrow.Author.Tests.{not-true, not-false}
 use Rattle.text.specs.declared.Vertices.{Vertices}
 use Rattle.text.proofs.Parting.{until-within}
-use Rattle.reports.specs.Corners.{refusalOf}
+use Rattle.reports.specs.Corners.{cornersRefusal}
 use Rattle.reports.specs.Minutes.{samplesOf, wedge, behindFirst, unless}
 use Rattle.reports.proofs.Counting.{is-overlong, is-bad, is-good, unless-refused}
 use Rattle.reports.proofs.minutes.count_minutes.Statement.{statement}
@@ -30,7 +30,7 @@ returns-3 c =
     let s = c .before .before .before .before .before .before .before .args .input .now in
     let e = c .before .before .before .before .first-vertices .ensures in
     unless-refused (c .before .refusal-of .result) (samplesOf (wedge s) (behindFirst s)) (c .if3 .taken)
-    ∙ ap (λ (n : ℕ). unless n (samplesOf (wedge s) (behindFirst s))) (c .before .refusal-of .ensures ∙ ap refusalOf e)
+    ∙ ap (λ (n : ℕ). unless n (samplesOf (wedge s) (behindFirst s))) (c .before .refusal-of .ensures ∙ ap cornersRefusal e)
     ∙ is-good s (c .before .before .before .before .before .if1 .left) (ap (λ (v : Vertices). v .ok) (sym e) ∙ not-false _ (c .before .before .if2 .left))
 
 find-requires : tie.Need-find-requires
@@ -48,7 +48,7 @@ returns-4 c =
     let e = c .before .before .before .before .before .before .first-vertices .ensures in
     c .count-samples .ensures
     ∙ ap₂ (λ (v : Vertices) (k : ℕ). samplesOf v (drop (k + 1) s)) e (c .before .find .ensures)
-    ∙ ap (λ (n : ℕ). unless n (samplesOf (wedge s) (behindFirst s))) (sym (c .before .before .if3 .left) ∙ c .before .before .before .refusal-of .ensures ∙ ap refusalOf e)
+    ∙ ap (λ (n : ℕ). unless n (samplesOf (wedge s) (behindFirst s))) (sym (c .before .before .if3 .left) ∙ c .before .before .before .refusal-of .ensures ∙ ap cornersRefusal e)
     ∙ is-good s (c .before .before .before .before .before .before .before .if1 .left) (ap (λ (v : Vertices). v .ok) (sym e) ∙ not-false _ (c .before .before .before .before .if2 .left))
 
 pub count-minutes-spec : {M : Type 1} → statement M

@@ -8,7 +8,7 @@ use Rattle.geometry.specs.declared.Verdict.{Verdict}
 use Rattle.geometry.specs.Answer.{verdict}
 use Rattle.triangle.specs.Answer.{vertexRefusal}
 use Rattle.triangle.specs.Triangle.{contained}
-use Rattle.reports.specs.Corners.{corner1, corner2, corner3, refusalOf}
+use Rattle.reports.specs.Corners.{corner1, corner2, corner3, cornersRefusal}
 use Rattle.reports.specs.Minutes.{insideOne}
 use Rattle.reports.proofs.minutes.inside_one.Statement.{statement}
 use Rattle.reports.proofs.minutes.inside_one.Tie as tie
@@ -21,7 +21,7 @@ contains-requires c κs = search needs
 
 -- what `contains` answers of the six numbers and the sample
 asked : (c : tie.After-contains)
-    → c .contains .result ≡ verdict (refusalOf (c .before .before .before .args .v)) (contained (corner1 (c .before .before .before .args .v)) (corner2 (c .before .before .before .args .v)) (corner3 (c .before .before .before .args .v)) (c .before .before .before .args .p .x, c .before .before .before .args .p .y))
+    → c .contains .result ≡ verdict (cornersRefusal (c .before .before .before .args .v)) (contained (corner1 (c .before .before .before .args .v)) (corner2 (c .before .before .before .args .v)) (corner3 (c .before .before .before .args .v)) (c .before .before .before .args .p .x, c .before .before .before .args .p .y))
 asked c =
     let e = c .before .before .corners-of .ensures in
     let p = c .before .before .before .args .p in

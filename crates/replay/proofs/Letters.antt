@@ -1,5 +1,5 @@
 -- Words that are told to be the same are. Assumes nothing.
-use mathlib.Core.Path.{_≡_, refl, ap, ap₂}
+use mathlib.Core.Path.{_≡_, refl, sym, ap, ap₂, _∙_}
 use mathlib.Core.Bool.{Bool, true, false, false≢true, _&&_}
 use mathlib.Core.List.{List, [], _∷_}
 use Prim.Native.Nat.{ℕ, suc, _+_, _≤_, _<_}
@@ -17,6 +17,13 @@ same-is [] (c ∷ t) e = absurd (false≢true e)
 same-is (b ∷ s) [] e = absurd (false≢true e)
 same-is (b ∷ s) (c ∷ t) e =
     ap₂ (λ (k : ℕ) (l : List ℕ). k ∷ l) (eqb-true b c (and-first (eqb b c) (sameWord s t) e)) (same-is s t (and-second (eqb b c) (sameWord s t) e))
+
+-- a comparison's result: the word, or another
+pub is-word : (s w : List ℕ) {t : Bool} → t ≡ sameWord s w → t ≡ true → s ≡ w
+is-word s w e h = same-is s w (sym e ∙ h)
+
+pub no-word : (s w : List ℕ) {t : Bool} → t ≡ sameWord s w → t ≡ false → sameWord s w ≡ false
+no-word s w e h = sym e ∙ h
 
 -- ---- a turn of the comparison, and its ends
 pub other-length : (s t : List ℕ) → (length s ≡ length t → ⊥) → false ≡ sameWord s t

@@ -1,4 +1,8 @@
 pub mod Replies
+pub mod Questions
+pub mod Calls
+pub mod Turns
+pub mod Writes
 pub mod Letters
 pub mod Hexadecimal
 pub mod Lent

@@ -1,11 +1,7 @@
 -- `replay::ask::ask` compares the word with each in turn. Assumes nothing.
-use mathlib.Core.Path.{sym, ap, _∙_}
-use mathlib.Core.List.{List}
-use Prim.Native.Nat.{ℕ}
 use borrow.Author.Needs.{needs}
 use Rattle.replay.specs.Ask.{askReply}
-use Rattle.replay.specs.Words.{insideWord, spanWord, rowsWord, lengthWord, pointWord, onlineWord, discWord, discspanWord}
-use Rattle.replay.proofs.Letters.{same-is}
+use Rattle.replay.proofs.Questions.{question-words}
 use Rattle.replay.proofs.ask.ask.Statement.{statement}
 use Rattle.replay.proofs.ask.ask.Tie as tie
 
@@ -20,9 +16,7 @@ inside-requires c κs = search needs
 
 returns : tie.Need-returns
 unfolding askReply
-returns c =
-    let a = c .before .before .before .before .before .before .args in
-    c .inside .ensures ∙ ap (λ (w : List ℕ). askReply w (a .said .now) (a .at)) (sym (same-is (a .word .now) insideWord (sym (c .before .before .same .ensures) ∙ c .before .if1 .taken)))
+returns c = search question-words
 
 slice-aggregate-same-2 : tie.Need-slice-aggregate-same-2
 slice-aggregate-same-2 c = search needs
@@ -35,9 +29,7 @@ span-requires c κs = search needs
 
 returns-2 : tie.Need-returns-2
 unfolding askReply
-returns-2 c =
-    let a = c .before .before .before .before .before .before .before .before .before .args in
-    c .span .ensures ∙ ap (λ (w : List ℕ). askReply w (a .said .now) (a .at)) (sym (same-is (a .word .now) spanWord (sym (c .before .before .same2 .ensures) ∙ c .before .if2 .taken)))
+returns-2 c = search question-words
 
 slice-aggregate-same-3 : tie.Need-slice-aggregate-same-3
 slice-aggregate-same-3 c = search needs
@@ -50,9 +42,7 @@ rows-requires c κs = search needs
 
 returns-3 : tie.Need-returns-3
 unfolding askReply
-returns-3 c =
-    let a = c .before .before .before .before .before .before .before .before .before .before .before .before .args in
-    c .rows .ensures ∙ ap (λ (w : List ℕ). askReply w (a .said .now) (a .at)) (sym (same-is (a .word .now) rowsWord (sym (c .before .before .same3 .ensures) ∙ c .before .if3 .taken)))
+returns-3 c = search question-words
 
 slice-aggregate-same-4 : tie.Need-slice-aggregate-same-4
 slice-aggregate-same-4 c = search needs
@@ -65,9 +55,7 @@ length-requires c κs = search needs
 
 returns-4 : tie.Need-returns-4
 unfolding askReply
-returns-4 c =
-    let a = c .before .before .before .before .before .before .before .before .before .before .before .before .before .before .before .args in
-    c .length .ensures ∙ ap (λ (w : List ℕ). askReply w (a .said .now) (a .at)) (sym (same-is (a .word .now) lengthWord (sym (c .before .before .same4 .ensures) ∙ c .before .if4 .taken)))
+returns-4 c = search question-words
 
 slice-aggregate-same-5 : tie.Need-slice-aggregate-same-5
 slice-aggregate-same-5 c = search needs
@@ -80,9 +68,7 @@ point-requires c κs = search needs
 
 returns-5 : tie.Need-returns-5
 unfolding askReply
-returns-5 c =
-    let a = c .before .before .before .before .before .before .before .before .before .before .before .before .before .before .before .before .before .before .args in
-    c .point .ensures ∙ ap (λ (w : List ℕ). askReply w (a .said .now) (a .at)) (sym (same-is (a .word .now) pointWord (sym (c .before .before .same5 .ensures) ∙ c .before .if5 .taken)))
+returns-5 c = search question-words
 
 slice-aggregate-same-6 : tie.Need-slice-aggregate-same-6
 slice-aggregate-same-6 c = search needs
@@ -95,9 +81,7 @@ online-requires c κs = search needs
 
 returns-6 : tie.Need-returns-6
 unfolding askReply
-returns-6 c =
-    let a = c .before .before .before .before .before .before .before .before .before .before .before .before .before .before .before .before .before .before .before .before .before .args in
-    c .online .ensures ∙ ap (λ (w : List ℕ). askReply w (a .said .now) (a .at)) (sym (same-is (a .word .now) onlineWord (sym (c .before .before .same6 .ensures) ∙ c .before .if6 .taken)))
+returns-6 c = search question-words
 
 slice-aggregate-same-7 : tie.Need-slice-aggregate-same-7
 slice-aggregate-same-7 c = search needs
@@ -110,9 +94,7 @@ disc-requires c κs = search needs
 
 returns-7 : tie.Need-returns-7
 unfolding askReply
-returns-7 c =
-    let a = c .before .before .before .before .before .before .before .before .before .before .before .before .before .before .before .before .before .before .before .before .before .before .before .before .args in
-    c .disc .ensures ∙ ap (λ (w : List ℕ). askReply w (a .said .now) (a .at)) (sym (same-is (a .word .now) discWord (sym (c .before .before .same7 .ensures) ∙ c .before .if7 .taken)))
+returns-7 c = search question-words
 
 slice-aggregate-same-8 : tie.Need-slice-aggregate-same-8
 slice-aggregate-same-8 c = search needs
@@ -125,23 +107,11 @@ discspan-requires c κs = search needs
 
 returns-8 : tie.Need-returns-8
 unfolding askReply
-returns-8 c =
-    let a = c .before .before .before .before .before .before .before .before .before .before .before .before .before .before .before .before .before .before .before .before .before .before .before .before .before .before .before .args in
-    c .discspan .ensures ∙ ap (λ (w : List ℕ). askReply w (a .said .now) (a .at)) (sym (same-is (a .word .now) discspanWord (sym (c .before .before .same8 .ensures) ∙ c .before .if8 .taken)))
+returns-8 c = search question-words
 
 returns-9 : tie.Need-returns-9
 unfolding askReply
-returns-9 c =
-    rw (
-      sym (c .before .before .before .before .before .before .before .before .before .before .before .before .before .before .before .before .before .before .before .before .before .before .same .ensures) ∙ c .before .before .before .before .before .before .before .before .before .before .before .before .before .before .before .before .before .before .before .before .before .if1 .left,
-      sym (c .before .before .before .before .before .before .before .before .before .before .before .before .before .before .before .before .before .before .before .same2 .ensures) ∙ c .before .before .before .before .before .before .before .before .before .before .before .before .before .before .before .before .before .before .if2 .left,
-      sym (c .before .before .before .before .before .before .before .before .before .before .before .before .before .before .before .before .same3 .ensures) ∙ c .before .before .before .before .before .before .before .before .before .before .before .before .before .before .before .if3 .left,
-      sym (c .before .before .before .before .before .before .before .before .before .before .before .before .before .same4 .ensures) ∙ c .before .before .before .before .before .before .before .before .before .before .before .before .if4 .left,
-      sym (c .before .before .before .before .before .before .before .before .before .before .same5 .ensures) ∙ c .before .before .before .before .before .before .before .before .before .if5 .left,
-      sym (c .before .before .before .before .before .before .before .same6 .ensures) ∙ c .before .before .before .before .before .before .if6 .left,
-      sym (c .before .before .before .before .same7 .ensures) ∙ c .before .before .before .if7 .left,
-      sym (c .before .same8 .ensures) ∙ c .if8 .left,
-    )
+returns-9 c = search question-words
 
 pub ask-spec : {M : Type 1} → statement M
 ask-spec =

@@ -1,12 +1,7 @@
 -- `replay::draw::draw` compares the word with each in turn. Assumes nothing.
-use mathlib.Core.Path.{sym, ap, _∙_}
-use mathlib.Core.List.{List}
-use Prim.Native.Nat.{ℕ}
 use borrow.Author.Needs.{needs}
-use Rattle.replay.specs.declared.reply.Reply.{Reply}
 use Rattle.replay.specs.Draw.{drawCall}
-use Rattle.replay.specs.Words.{pixelWord, fillWord, lineWord, triangleWord, outlineWord, circleWord}
-use Rattle.replay.proofs.Letters.{same-is}
+use Rattle.replay.proofs.Calls.{call-words}
 use Rattle.replay.proofs.draw.draw.Statement.{statement}
 use Rattle.replay.proofs.draw.draw.Tie as tie
 
@@ -24,9 +19,7 @@ same-length c = search needs
 
 returns : tie.Need-returns
 unfolding drawCall
-returns c =
-    let a = c .before .before .before .before .before .before .before .before .before .before .args in
-    c .before .before .pixel .ensures ∙ ap (λ (w : List ℕ). drawCall w (a .said .now) (a .at) (a .frame) (a .buf .now)) (sym (same-is (a .word .now) pixelWord (sym (c .before .before .before .before .before .same .ensures) ∙ c .before .before .before .before .if1 .taken)))
+returns c = search call-words
 
 slice-aggregate-same-2 : tie.Need-slice-aggregate-same-2
 slice-aggregate-same-2 c = search needs
@@ -42,9 +35,7 @@ same-length-2 c = search needs
 
 returns-2 : tie.Need-returns-2
 unfolding drawCall
-returns-2 c =
-    let a = c .before .before .before .before .before .before .before .before .before .before .before .before .before .args in
-    c .before .before .fill .ensures ∙ ap (λ (w : List ℕ). drawCall w (a .said .now) (a .at) (a .frame) (a .buf .now)) (sym (same-is (a .word .now) fillWord (sym (c .before .before .before .before .before .same2 .ensures) ∙ c .before .before .before .before .if2 .taken)))
+returns-2 c = search call-words
 
 slice-aggregate-same-3 : tie.Need-slice-aggregate-same-3
 slice-aggregate-same-3 c = search needs
@@ -60,9 +51,7 @@ same-length-3 c = search needs
 
 returns-3 : tie.Need-returns-3
 unfolding drawCall
-returns-3 c =
-    let a = c .before .before .before .before .before .before .before .before .before .before .before .before .before .before .before .before .args in
-    c .before .before .line .ensures ∙ ap (λ (w : List ℕ). drawCall w (a .said .now) (a .at) (a .frame) (a .buf .now)) (sym (same-is (a .word .now) lineWord (sym (c .before .before .before .before .before .same3 .ensures) ∙ c .before .before .before .before .if3 .taken)))
+returns-3 c = search call-words
 
 slice-aggregate-same-4 : tie.Need-slice-aggregate-same-4
 slice-aggregate-same-4 c = search needs
@@ -78,9 +67,7 @@ same-length-4 c = search needs
 
 returns-4 : tie.Need-returns-4
 unfolding drawCall
-returns-4 c =
-    let a = c .before .before .before .before .before .before .before .before .before .before .before .before .before .before .before .before .before .before .before .args in
-    c .before .before .triangle .ensures ∙ ap (λ (w : List ℕ). drawCall w (a .said .now) (a .at) (a .frame) (a .buf .now)) (sym (same-is (a .word .now) triangleWord (sym (c .before .before .before .before .before .same4 .ensures) ∙ c .before .before .before .before .if4 .taken)))
+returns-4 c = search call-words
 
 slice-aggregate-same-5 : tie.Need-slice-aggregate-same-5
 slice-aggregate-same-5 c = search needs
@@ -96,9 +83,7 @@ same-length-5 c = search needs
 
 returns-5 : tie.Need-returns-5
 unfolding drawCall
-returns-5 c =
-    let a = c .before .before .before .before .before .before .before .before .before .before .before .before .before .before .before .before .before .before .before .before .before .before .args in
-    c .before .before .outline .ensures ∙ ap (λ (w : List ℕ). drawCall w (a .said .now) (a .at) (a .frame) (a .buf .now)) (sym (same-is (a .word .now) outlineWord (sym (c .before .before .before .before .before .same5 .ensures) ∙ c .before .before .before .before .if5 .taken)))
+returns-5 c = search call-words
 
 slice-aggregate-same-6 : tie.Need-slice-aggregate-same-6
 slice-aggregate-same-6 c = search needs
@@ -114,25 +99,14 @@ same-length-6 c = search needs
 
 returns-6 : tie.Need-returns-6
 unfolding drawCall
-returns-6 c =
-    let a = c .before .before .before .before .before .before .before .before .before .before .before .before .before .before .before .before .before .before .before .before .before .before .before .before .before .args in
-    c .before .before .circle .ensures ∙ ap (λ (w : List ℕ). drawCall w (a .said .now) (a .at) (a .frame) (a .buf .now)) (sym (same-is (a .word .now) circleWord (sym (c .before .before .before .before .before .same6 .ensures) ∙ c .before .before .before .before .if6 .taken)))
+returns-6 c = search call-words
 
 ask-requires : tie.Need-ask-requires
 ask-requires c κs = search needs
 
 returns-7 : tie.Need-returns-7
 unfolding drawCall
-returns-7 c =
-    let b = c .before .before .before .before .before .before .before .before .before .before .before .before .before .before .before .before .before .before .before .before .before .before .args .buf .now in
-    rw (
-      sym (c .before .before .before .before .before .before .before .before .before .before .before .before .before .before .before .before .before .same .ensures) ∙ c .before .before .before .before .before .before .before .before .before .before .before .before .before .before .before .before .if1 .left,
-      sym (c .before .before .before .before .before .before .before .before .before .before .before .before .before .before .same2 .ensures) ∙ c .before .before .before .before .before .before .before .before .before .before .before .before .before .if2 .left,
-      sym (c .before .before .before .before .before .before .before .before .before .before .before .same3 .ensures) ∙ c .before .before .before .before .before .before .before .before .before .before .if3 .left,
-      sym (c .before .before .before .before .before .before .before .before .same4 .ensures) ∙ c .before .before .before .before .before .before .before .if4 .left,
-      sym (c .before .before .before .before .before .same5 .ensures) ∙ c .before .before .before .before .if5 .left,
-      sym (c .before .before .same6 .ensures) ∙ c .before .if6 .left,
-    ) (ap {B = Reply × List ℕ} (λ r. (r, b)) (c .ask .ensures))
+returns-7 c = search call-words
 
 pub draw-spec : {M : Type 1} → statement M
 draw-spec =

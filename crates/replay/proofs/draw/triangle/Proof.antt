@@ -1,11 +1,6 @@
 -- `replay::draw::triangle` hands on what the library answers and leaves, where the line ends behind the colour. Assumes nothing.
-use mathlib.Core.Path.{_∙_}
 use borrow.Author.Needs.{needs}
-use Rattle.text.specs.Fields.{nextU32}
-use Rattle.replay.specs.declared.fields.NextVertices.{NextVertices}
-use Rattle.replay.specs.Draw.{triangleOf, triangleCall}
-use Rattle.replay.proofs.Replies.{is-bad, is-said, is-drawn, then-read}
-use Rattle.drawing.specs.Figure.{triangleFigure}
+use Rattle.replay.proofs.Calls.{calls}
 use Rattle.replay.proofs.draw.triangle.Statement.{statement}
 use Rattle.replay.proofs.draw.triangle.Tie as tie
 
@@ -19,12 +14,7 @@ ends-at-requires : tie.Need-ends-at-requires
 ends-at-requires c κs = search needs
 
 returns : tie.Need-returns
-unfolding triangleCall
-returns c =
-    let a = c .before .before .before .before .before .before .args in
-    let said = a .said .now in
-    is-bad _ _ (c .before .ends-at .ensures) (c .if1 .taken)
-    ∙ then-read (triangleOf said (a .frame) (a .buf .now)) (λ (n : NextVertices). nextU32 said (n .next)) (c .before .before .before .next-vertices .ensures) (c .before .before .next-u32 .ensures)
+returns c = search calls
 
 draw-triangle-requires : tie.Need-draw-triangle-requires
 draw-triangle-requires c κs = search needs
@@ -33,14 +23,7 @@ same-length : tie.Need-same-length
 same-length c = search needs
 
 returns-2 : tie.Need-returns-2
-unfolding triangleCall
-returns-2 c =
-    let a = c .before .before .before .before .before .before .before .before .before .before .args in
-    let said = a .said .now in
-    let d = c .before .before .draw-triangle .ensures in
-    is-said _ _ (c .before .before .before .before .before .ends-at .ensures) (c .before .before .before .before .if1 .left)
-    (is-drawn (a .frame) (triangleFigure (c .before .before .before .before .before .before .before .next-vertices .result .v1) (c .before .before .before .before .before .before .before .next-vertices .result .v2) (c .before .before .before .before .before .before .before .next-vertices .result .v3)) (c .before .before .before .before .before .before .next-u32 .result .value) (a .buf .now) (d .0) (d .1))
-    ∙ then-read (triangleOf said (a .frame) (a .buf .now)) (λ (n : NextVertices). nextU32 said (n .next)) (c .before .before .before .before .before .before .before .next-vertices .ensures) (c .before .before .before .before .before .before .next-u32 .ensures)
+returns-2 c = search calls
 
 pub triangle-spec : {M : Type 1} → statement M
 triangle-spec =

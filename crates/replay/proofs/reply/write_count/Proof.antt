@@ -1,16 +1,16 @@
 -- `replay::reply::write_count` writes the two numbers one behind the other. Assumes nothing.
 use mathlib.Core.Path.{_∙_}
 use native.Mathlib.Omega.{arith}
-use Rattle.text.proofs.Writing.{wrote-then}
 use Rattle.replay.specs.Reply.{natural}
+use Rattle.replay.proofs.Writes.{short-then}
 use Rattle.replay.proofs.reply.write_count.Statement.{statement}
 use Rattle.replay.proofs.reply.write_count.Tie as tie
 
 write-natural-requires : tie.Need-write-natural-requires
-write-natural-requires c κs = omega (arith, c .before .before .pre)
+write-natural-requires c κs = omega arith
 
 write-natural-requires-2 : tie.Need-write-natural-requires-2
-write-natural-requires-2 c κs = omega (arith, c .before .before .before .before .before .before .pre, c .before .before .before .write-natural .ensures .2, c .before .before .before .write-natural .kept .0)
+write-natural-requires-2 c κs = omega arith
 
 same-length : tie.Need-same-length
 same-length c = c .before .before .write-natural2 .kept .0 ∙ c .before .before .before .before .before .before .write-natural .kept .0
@@ -18,10 +18,7 @@ same-length c = c .before .before .write-natural2 .kept .0 ∙ c .before .before
 returns : tie.Need-returns
 returns c =
     let a = c .before .before .before .before .before .before .before .before .before .args in
-    let one = c .before .before .before .before .before .before .write-natural .ensures in
-    let two = c .before .before .write-natural2 .ensures in
-    let w = wrote-then (a .out .now) (a .at) (natural (a .number) 9) (natural (a .value) 10) (one .0, one .1) (two .0, two .1) in
-    (w .0, w .1, omega (arith, one .2, two .2))
+    short-then 11 11 (a .out .now) (a .at) (natural (a .number) 9) (natural (a .value) 10) (c .before .before .before .before .before .before .write-natural .ensures) (c .before .before .write-natural2 .ensures)
 
 pub write-count-spec : {M : Type 1} → statement M
 write-count-spec =

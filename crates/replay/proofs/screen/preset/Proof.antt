@@ -1,17 +1,12 @@
 -- `replay::screen::preset` sets every byte, where the line is the value alone. Assumes nothing.
-use mathlib.Core.Path.{sym, ap, _∙_}
-use mathlib.Core.List.{List}
-use Prim.Native.Nat.{ℕ}
+use mathlib.Core.Path.{sym, _∙_}
 use native.Mathlib.Omega.{arith}
 use lib.Dec.{leb}
 use borrow.Author.Needs.{needs}
 use borrow.Author.Tests.{not-false, leb-true}
-use Rattle.text.specs.declared.NextU32.{NextU32}
-use Rattle.replay.specs.Fields.{isLast}
-use Rattle.replay.specs.Screen.{presetBy, presetCall}
-use Rattle.replay.proofs.Replies.{is-bad, is-said}
-use Rattle.replay.specs.declared.reply.Reply.the-variants.{Number}
 use Rattle.text.proofs.And.{and-second}
+use Rattle.replay.specs.Fields.{isLast}
+use Rattle.replay.proofs.Turns.{turns}
 use Rattle.replay.proofs.screen.preset.Statement.{statement}
 use Rattle.replay.proofs.screen.preset.Tie as tie
 
@@ -22,10 +17,7 @@ ends-within-requires : tie.Need-ends-within-requires
 ends-within-requires c κs = search needs
 
 returns : tie.Need-returns
-unfolding presetCall
-returns c =
-    let a = c .before .before .before .before .before .args in
-    is-bad _ _ (c .before .ends-within .ensures) (c .if1 .taken) ∙ ap (λ (v : NextU32). presetBy (a .said .now) v (a .memory .now)) (c .before .before .next-u32 .ensures)
+returns c = search turns
 
 cast-set-all : tie.Need-cast-set-all
 cast-set-all c =
@@ -39,11 +31,7 @@ same-length : tie.Need-same-length
 same-length c = search needs
 
 returns-2 : tie.Need-returns-2
-unfolding presetCall
-returns-2 c =
-    let a = c .before .before .before .before .before .before .before .before .before .before .args in
-    is-said _ _ (c .before .before .before .before .before .before .ends-within .ensures) (c .before .before .before .before .before .if1 .left) (ap (λ (m : List ℕ). (Number 0, m)) (c .before .before .set-all .ensures))
-    ∙ ap (λ (v : NextU32). presetBy (a .said .now) v (a .memory .now)) (c .before .before .before .before .before .before .before .next-u32 .ensures)
+returns-2 c = search turns
 
 pub preset-spec : {M : Type 1} → statement M
 preset-spec =

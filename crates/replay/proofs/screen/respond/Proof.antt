@@ -1,14 +1,7 @@
 -- `replay::screen::respond` compares the word with each in turn; the bytes behind the lent part come back as they were. Assumes nothing.
-use mathlib.Core.Path.{sym, ap, _∙_}
-use mathlib.Core.List.{List}
-use Prim.Native.Nat.{ℕ}
-use lib.Seq.{length-take-le}
 use borrow.Author.Needs.{needs}
-use Rattle.replay.specs.declared.reply.Reply.{Reply}
-use Rattle.replay.specs.declared.screen.Turn.{Turn}
-use Rattle.replay.specs.Screen.{turn, lentTurn, response}
-use Rattle.replay.specs.Words.{frameWord, presetWord, readWord}
-use Rattle.replay.proofs.Letters.{same-is}
+use Rattle.replay.specs.Screen.{response}
+use Rattle.replay.proofs.Turns.{turn-words}
 use Rattle.replay.proofs.screen.respond.Statement.{statement}
 use Rattle.replay.proofs.screen.respond.Tie as tie
 
@@ -26,9 +19,7 @@ same-length c = search needs
 
 returns : tie.Need-returns
 unfolding response
-returns c =
-    let a = c .before .before .before .before .before .before .before .before .before .before .args in
-    c .before .before .frame .ensures ∙ ap (λ (w : List ℕ). response w (a .said .now) (a .at) (a .screen) (a .memory .now)) (sym (same-is (a .word .now) frameWord (sym (c .before .before .before .before .before .same .ensures) ∙ c .before .before .before .before .if1 .taken)))
+returns c = search turn-words
 
 slice-aggregate-same-2 : tie.Need-slice-aggregate-same-2
 slice-aggregate-same-2 c = search needs
@@ -44,10 +35,7 @@ same-length-2 c = search needs
 
 returns-2 : tie.Need-returns-2
 unfolding response
-returns-2 c =
-    let a = c .before .before .before .before .before .before .before .before .before .before .before .before .before .args in
-    ap {B = Turn × List ℕ} (λ (p : Reply × List ℕ). (turn (a .screen) (p .0), p .1)) (c .before .before .preset .ensures)
-    ∙ ap (λ (w : List ℕ). response w (a .said .now) (a .at) (a .screen) (a .memory .now)) (sym (same-is (a .word .now) presetWord (sym (c .before .before .before .before .before .same2 .ensures) ∙ c .before .before .before .before .if2 .taken)))
+returns-2 c = search turn-words
 
 slice-aggregate-same-3 : tie.Need-slice-aggregate-same-3
 slice-aggregate-same-3 c = search needs
@@ -59,7 +47,7 @@ slice-reshare-prefix-read : tie.Need-slice-reshare-prefix-read
 slice-reshare-prefix-read c = search needs
 
 slice-aggregate-read : tie.Need-slice-aggregate-read
-slice-aggregate-read c = sym (length-take-le (c .before .before .before .before .before .before .before .before .before .before .before .before .before .args .screen .lent) (c .before .before .before .before .before .before .before .before .before .before .before .before .before .args .memory .now) (c .before .before .before .before .before .before .before .before .before .before .before .before .before .pre))
+slice-aggregate-read c = search turn-words
 
 read-requires : tie.Need-read-requires
 read-requires c κs = search needs
@@ -69,16 +57,13 @@ same-length-3 c = search needs
 
 returns-3 : tie.Need-returns-3
 unfolding response
-returns-3 c =
-    let a = c .before .before .before .before .before .before .before .before .before .before .before .before .before .before .args in
-    ap {B = Turn × List ℕ} (λ r. (turn (a .screen) r, a .memory .now)) (c .read .ensures)
-    ∙ ap (λ (w : List ℕ). response w (a .said .now) (a .at) (a .screen) (a .memory .now)) (sym (same-is (a .word .now) readWord (sym (c .before .before .before .same3 .ensures) ∙ c .before .before .if3 .taken)))
+returns-3 c = search turn-words
 
 slice-relend-prefix-draw : tie.Need-slice-relend-prefix-draw
 slice-relend-prefix-draw c = search needs
 
 slice-aggregate-draw : tie.Need-slice-aggregate-draw
-slice-aggregate-draw c = sym (length-take-le (c .before .before .before .before .before .before .before .before .before .before .before .before .before .args .screen .lent) (c .before .before .before .before .before .before .before .before .before .before .before .before .before .args .memory .now) (c .before .before .before .before .before .before .before .before .before .before .before .before .before .pre))
+slice-aggregate-draw c = search turn-words
 
 draw-requires : tie.Need-draw-requires
 draw-requires c κs = search needs
@@ -88,13 +73,7 @@ same-length-4 c = search needs
 
 returns-4 : tie.Need-returns-4
 unfolding response
-returns-4 c =
-    let a = c .before .before .before .before .before .before .before .before .before .before .before .before .before .before .before .before .args in
-    rw (
-      sym (c .before .before .before .before .before .before .before .before .before .before .before .same .ensures) ∙ c .before .before .before .before .before .before .before .before .before .before .if1 .left,
-      sym (c .before .before .before .before .before .before .before .before .same2 .ensures) ∙ c .before .before .before .before .before .before .before .if2 .left,
-      sym (c .before .before .before .before .before .same3 .ensures) ∙ c .before .before .before .before .if3 .left,
-    ) (ap (lentTurn (a .screen) (a .memory .now)) (c .before .before .draw .ensures))
+returns-4 c = search turn-words
 
 pub respond-spec : {M : Type 1} → statement M
 respond-spec =

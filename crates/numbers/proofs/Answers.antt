@@ -13,7 +13,7 @@ use mir.Syntax.{w32}
 use mir.Val.{Fits, SFits}
 use Rattle.text.specs.Fields.{fields, fieldAt, nextU32, number, exactly, readPlace, readVertices}
 use Rattle.text.specs.Lines.{handled}
-use Rattle.text.specs.Show.{shown, field, triple}
+use Rattle.text.specs.Show.{shown, numberField, triple}
 use Rattle.text.proofs.Reading.{i32-fits, u32-fits}
 use Rattle.text.proofs.Showing.{shown-ten, zero-fits, field-short, triple-short}
 use Rattle.text.proofs.Streaming.{handled-keeps}
@@ -60,8 +60,8 @@ pub place-short : (fs : List (List ℕ)) → length (placeLine (readPlace fs)) �
 unfolding readPlace
 place-short fs = by (exactly 2 fs)
   where
-    two : (a b : ℤ) → SFits w32 a → SFits w32 b → length (field a 9 ++ field b 10) ≤ 24
-    two a b f g = omega (arith, length-append (field a 9) (field b 10), field-short a 9 f, field-short b 10 g)
+    two : (a b : ℤ) → SFits w32 a → SFits w32 b → length (numberField a 9 ++ numberField b 10) ≤ 24
+    two a b f g = omega (arith, length-append (numberField a 9) (numberField b 10), field-short a 9 f, field-short b 10 g)
 
     by : (t : Bool) → length (placeLine (cond t (record { ok = true; x = number fs 0 .value; y = number fs 1 .value }) (record { ok = false; x = pos 0; y = pos 0 }))) ≤ 24
     by true = two _ _ (i32-fits _) (i32-fits _)

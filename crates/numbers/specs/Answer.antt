@@ -9,7 +9,7 @@ use Rattle.text.specs.declared.Place.{Place}
 use Rattle.text.specs.declared.Vertices.{Vertices}
 use Rattle.text.specs.Fields.{fields, nextU32, readPlace, readVertices}
 use Rattle.text.specs.Lines.{over}
-use Rattle.text.specs.Show.{shown, field, triple}
+use Rattle.text.specs.Show.{shown, numberField, triple}
 
 -- `bad line`, LF
 abbrev pub badLine : List ℕ
@@ -19,7 +19,7 @@ abbrev pub verticesLine : Vertices → List ℕ
 verticesLine v = triple (v .x1) (v .y1) (v .x2) 9 ++ triple (v .y2) (v .x3) (v .y3) 10
 
 abbrev pub placeLine : Place → List ℕ
-placeLine p = field (p .x) 9 ++ field (p .y) 10
+placeLine p = numberField (p .x) 9 ++ numberField (p .y) 10
 
 abbrev pub countLine : ℕ → List ℕ
 countLine n = shown n ++ (10 ∷ [])

@@ -9,7 +9,7 @@ use borrow.Author.Tests.{le-leb, lt-leb}
 use Rattle.text.specs.Fields.{until}
 use Rattle.text.proofs.Writing.{Wrote}
 use Rattle.replay.specs.Dump.{dumpLine}
-use Rattle.replay.specs.Lines.{Left, Session, wordOf, turned, answer, answered}
+use Rattle.replay.specs.Lines.{Left, Session, wordOf, turnDone, answer, answered}
 use Rattle.replay.specs.Reply.{badLine}
 use Rattle.replay.specs.Screen.{response}
 use Rattle.replay.specs.Words.{sameWord, dumpWord}
@@ -23,7 +23,7 @@ module _ (said : List ℕ) (l : Left) where
   unfolding answer
   answer-dump h e = rw (le-leb (length said) 128 h, e)
 
-  pub answer-turn : length said ≤ 128 → sameWord (wordOf said) dumpWord ≡ false → turned (response (wordOf said) said (until 9 said + 1) (l .0) (l .1)) ≡ answer said l
+  pub answer-turn : length said ≤ 128 → sameWord (wordOf said) dumpWord ≡ false → turnDone (response (wordOf said) said (until 9 said + 1) (l .0) (l .1)) ≡ answer said l
   unfolding answer
   answer-turn h e = rw (le-leb (length said) 128 h, e)
 

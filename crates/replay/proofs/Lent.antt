@@ -14,7 +14,7 @@ use Rattle.replay.specs.declared.screen.Screen.{Screen}
 use Rattle.replay.specs.Draw.{drawCall}
 use Rattle.replay.specs.Dump.{dumpLine}
 use Rattle.replay.specs.Fields.{isLast}
-use Rattle.replay.specs.Lines.{Left, Session, wordOf, turned, answer, answered, room}
+use Rattle.replay.specs.Lines.{Left, Session, wordOf, turnDone, answer, answered, room}
 use Rattle.replay.specs.Reply.{badLine}
 use Rattle.replay.specs.Screen.{after, turn, framed, frameTurn, nextScreen, presetCall, readReply, lentTurn, response}
 use Rattle.replay.specs.Words.{sameWord, dumpWord, frameWord, presetWord, readWord}
@@ -55,7 +55,7 @@ unfolding answer
 answer-lent said l h = by (leb (length said) 128) (sameWord (wordOf said) dumpWord) (response-lent (wordOf said) said (until 9 said + 1) (l .0) (l .1) h)
   where
     by : (a b : Bool) → response (wordOf said) said (until 9 said + 1) (l .0) (l .1) .0 .screen .lent ≤ 65536
-        → cond a (cond b (dumpLine said (until 9 said + 1) (l .1), l) (turned (response (wordOf said) said (until 9 said + 1) (l .0) (l .1)))) (badLine, l) .1 .0 .lent ≤ 65536
+        → cond a (cond b (dumpLine said (until 9 said + 1) (l .1), l) (turnDone (response (wordOf said) said (until 9 said + 1) (l .0) (l .1)))) (badLine, l) .1 .0 .lent ≤ 65536
     by true true r = h
     by true false r = r
     by false b r = h

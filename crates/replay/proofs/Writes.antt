@@ -9,7 +9,7 @@ use lib.Seq.{sets}
 use mir.Syntax.{w32}
 use mir.Val.{SFits, toZ, ofZ}
 use mir.Facts.{toZ-ofZ}
-use Rattle.text.specs.Show.{field}
+use Rattle.text.specs.Show.{numberField}
 use Rattle.text.proofs.Showing.{field-short}
 use Rattle.text.proofs.Writing.{Wrote, at-field, wrote-then}
 
@@ -28,10 +28,10 @@ short-three k m n buf at s t u {p} {q} {r} {one} {two} {out} a b c = short-then 
 
 -- ---- a signed number, which the code reads back
 module _ (v : ℤ) (stop : ℕ) (f : SFits w32 v) where
-  pub short-field : (buf : List ℕ) (at : ℕ) {r : ℕ} {out : List ℕ} → Wrote buf at (field (toZ w32 (ofZ w32 v)) stop) r out → Short 12 buf at (field v stop) r out
+  pub short-field : (buf : List ℕ) (at : ℕ) {r : ℕ} {out : List ℕ} → Wrote buf at (numberField (toZ w32 (ofZ w32 v)) stop) r out → Short 12 buf at (numberField v stop) r out
   short-field buf at w =
       let x = at-field buf at v stop (toZ-ofZ f) w in
       (x .0, x .1, omega (arith, x .0, field-short v stop f))
 
-  pub read-back-short : length (field (toZ w32 (ofZ w32 v)) stop) ≤ 12
+  pub read-back-short : length (numberField (toZ w32 (ofZ w32 v)) stop) ≤ 12
   read-back-short = rw (toZ-ofZ f) (field-short v stop f)

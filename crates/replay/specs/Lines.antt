@@ -23,15 +23,15 @@ Left = Screen × List ℕ
 abbrev pub wordOf : List ℕ → List ℕ
 wordOf said = take (until 9 said) said
 
-abbrev pub turned : Turn × List ℕ → List ℕ × Left
-turned t = (replyLine (t .0 .reply), (t .0 .screen, t .1))
+abbrev pub turnDone : Turn × List ℕ → List ℕ × Left
+turnDone t = (replyLine (t .0 .reply), (t .0 .screen, t .1))
 
 -- the bytes of the answer, and what the line leaves; a line of more than 128 bytes is bad however it begins
 unfoldable pub answer : List ℕ → Left → List ℕ × Left
 answer said l =
     cond (leb (length said) 128)
     (cond (sameWord (wordOf said) dumpWord) (dumpLine said (until 9 said + 1) (l .1), l)
-    (turned (response (wordOf said) said (until 9 said + 1) (l .0) (l .1))))
+    (turnDone (response (wordOf said) said (until 9 said + 1) (l .0) (l .1))))
     (badLine, l)
 
 -- ---- answers, one behind the other in an output: how far it is filled, its bytes, and what is left of the rest

@@ -4,7 +4,7 @@ use mathlib.Core.List.{List, [], _∷_, _++_}
 use Prim.Native.Nat.{ℕ}
 use lib.IntN.{ℤ}
 use Rattle.geometry.specs.declared.Verdict.{Verdict}
-use Rattle.text.specs.Show.{shown, field}
+use Rattle.text.specs.Show.{shown, numberField}
 use Rattle.replay.specs.declared.reply.Reply.{Reply}
 use Rattle.replay.specs.declared.reply.Reply.the-variants.{Bad, Number, Count, Places, Rows}
 
@@ -20,10 +20,10 @@ abbrev pub countLine : ℕ → ℕ → List ℕ
 countLine number v = natural number 9 ++ natural v 10
 
 abbrev pub placesLine : ℕ → ℤ → ℤ → List ℕ
-placesLine number a b = natural number 9 ++ (field a 9 ++ field b 10)
+placesLine number a b = natural number 9 ++ (numberField a 9 ++ numberField b 10)
 
 abbrev pub rowsLine : ℕ → ℤ → ℕ → List ℕ
-rowsLine number y n = natural number 9 ++ (field y 9 ++ natural n 10)
+rowsLine number y n = natural number 9 ++ (numberField y 9 ++ natural n 10)
 
 abbrev pub replyLine : Reply → List ℕ
 replyLine Bad = badLine

@@ -17,7 +17,7 @@ use Rattle.whole.proofs.Difference.{lt-nat}
 use Rattle.text.specs.Digits.{isDigit, allDigits, withDigit, valueFrom, digitsValue}
 use Rattle.text.proofs.Reading.{digit-yes, signed-plain}
 use Rattle.text.proofs.Writing.{triple-parts}
-use Rattle.text.specs.Show.{lastDigit, shownBy, shown, lastDigits, shownSigned, field, triple}
+use Rattle.text.specs.Show.{lastDigit, shownBy, shown, lastDigits, shownSigned, numberField, triple}
 use Rattle.text.specs.Read.{unsigned, readDigits, readU32, readSigned, readI32, negated}
 
 -- ---- turns to spare change nothing
@@ -161,7 +161,7 @@ shown-eleven (negsuc n) f = omega (arith, shown-ten (suc n) (omega (arith, f .sf
 pub zero-fits : SFits w32 (pos 0)
 zero-fits = record { sfits = lit< tt }
 
-pub field-short : (z : ℤ) (stop : ℕ) → SFits w32 z → length (field z stop) ≤ 12
+pub field-short : (z : ℤ) (stop : ℕ) → SFits w32 z → length (numberField z stop) ≤ 12
 field-short z stop f = omega (arith, shown-eleven z f, length-append (shownSigned z) (stop ∷ []))
 
 pub triple-short : (a b c : ℤ) (stop : ℕ) → SFits w32 a → SFits w32 b → SFits w32 c → length (triple a b c stop) ≤ 36

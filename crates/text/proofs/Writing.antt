@@ -14,7 +14,7 @@ use borrow.Author.Tests.{leb-true, leb-false}
 use mir.Syntax.{w32}
 use mir.Val.{toZ, ofZ}
 use Rattle.text.specs.Lines.{keptPart}
-use Rattle.text.specs.Show.{lastDigit, lastDigits, field, triple}
+use Rattle.text.specs.Show.{lastDigit, lastDigits, numberField, triple}
 
 -- ---- one part behind another
 pub sets-append : (l : List ℕ) (i : ℕ) (s t : List ℕ) → sets l i (s ++ t) ≡ sets (sets l i s) (i + length s) t
@@ -78,8 +78,8 @@ wrote-as buf at {s} {t} {r} {out} e w = subst (λ (x : List ℕ). Wrote buf at x
 
 -- the same of a number that the code reads back, at the number itself
 pub at-field : (buf : List ℕ) (at : ℕ) (v : ℤ) (stop : ℕ) {r : ℕ} {out : List ℕ} → toZ w32 (ofZ w32 v) ≡ v
-    → Wrote buf at (field (toZ w32 (ofZ w32 v)) stop) r out → Wrote buf at (field v stop) r out
-at-field buf at v stop {r} {out} e w = subst (λ (z : ℤ). Wrote buf at (field z stop) r out) e w
+    → Wrote buf at (numberField (toZ w32 (ofZ w32 v)) stop) r out → Wrote buf at (numberField v stop) r out
+at-field buf at v stop {r} {out} e w = subst (λ (z : ℤ). Wrote buf at (numberField z stop) r out) e w
 
 pub at-triple : (buf : List ℕ) (at : ℕ) (a b c : ℤ) (stop : ℕ) {r : ℕ} {out : List ℕ} → toZ w32 (ofZ w32 a) ≡ a → toZ w32 (ofZ w32 b) ≡ b → toZ w32 (ofZ w32 c) ≡ c
     → Wrote buf at (triple (toZ w32 (ofZ w32 a)) (toZ w32 (ofZ w32 b)) (toZ w32 (ofZ w32 c)) stop) r out → Wrote buf at (triple a b c stop) r out
@@ -89,8 +89,8 @@ at-triple buf at a b c stop {r} {out} p q s w =
     (subst (λ (x : ℤ). Wrote buf at (triple x (toZ w32 (ofZ w32 b)) (toZ w32 (ofZ w32 c)) stop) r out) p w))
 
 -- how long three numbers are
-pub triple-parts : (a b c : ℤ) (stop : ℕ) → length (triple a b c stop) ≡ length (field a 9) + (length (field b 9) + length (field c stop))
-triple-parts a b c stop = length-append (field a 9) (field b 9 ++ field c stop) ∙ ap (λ (n : ℕ). length (field a 9) + n) (length-append (field b 9) (field c stop))
+pub triple-parts : (a b c : ℤ) (stop : ℕ) → length (triple a b c stop) ≡ length (numberField a 9) + (length (numberField b 9) + length (numberField c stop))
+triple-parts a b c stop = length-append (numberField a 9) (numberField b 9 ++ numberField c stop) ∙ ap (λ (n : ℕ). length (numberField a 9) + n) (length-append (numberField b 9) (numberField c stop))
 
 pub wrote-byte : (buf : List ℕ) (at : ℕ) (s : List ℕ) (b : ℕ) {p : ℕ} {mid : List ℕ} → Wrote buf at s p mid → Wrote buf at (s ++ (b ∷ [])) (p + 1) (set mid p b)
 wrote-byte buf at s b {p} {mid} a = wrote-then buf at s (b ∷ []) a (refl, refl)

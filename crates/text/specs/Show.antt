@@ -29,9 +29,9 @@ shownSigned (pos n) = shown n
 shownSigned (negsuc n) = 45 ∷ shown (suc n)
 
 -- a number and the byte behind it
-abbrev pub field : ℤ → ℕ → List ℕ
-field v stop = shownSigned v ++ (stop ∷ [])
+abbrev pub numberField : ℤ → ℕ → List ℕ
+numberField v stop = shownSigned v ++ (stop ∷ [])
 
 -- three numbers, parted by tabs, and the byte behind them
 abbrev pub triple : ℤ → ℤ → ℤ → ℕ → List ℕ
-triple a b c stop = field a 9 ++ (field b 9 ++ field c stop)
+triple a b c stop = numberField a 9 ++ (numberField b 9 ++ numberField c stop)

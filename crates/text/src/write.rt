@@ -5,7 +5,7 @@ ghost use lib.Dec.{leb};
 ghost use lib.IntN.{natAbs};
 ghost use lib.ListN.{length};
 ghost use lib.Seq.{sets};
-ghost use Rattle.text.specs.Show.{shown, lastDigits, shownSigned, field, triple};
+ghost use Rattle.text.specs.Show.{shown, lastDigits, shownSigned, numberField, triple};
 
 // Inside the library: whether a buffer of `length` bytes that is filled up to `at` has room for `most` more.
 pub fn has_room(length: usize, at: usize, most: usize) -> bool
@@ -92,8 +92,8 @@ pub fn write_bytes(buf: &mut [u8], at: usize, s: &[u8]) -> usize
 
 // Inside the library: the text of `v` and the byte `stop` behind it.
 pub fn write_field(buf: &mut [u8], at: usize, v: i32, stop: u8) -> usize
-    requires { ⌜ at + length (field v stop) ≤ length (now buf) ⌝ }
-    ensures { λ r. ⌜ (r ≡ at + length (field v stop)) × (now (buf .exit) ≡ sets (now (buf .entry)) at (field v stop)) ⌝ }
+    requires { ⌜ at + length (numberField v stop) ≤ length (now buf) ⌝ }
+    ensures { λ r. ⌜ (r ≡ at + length (numberField v stop)) × (now (buf .exit) ≡ sets (now (buf .entry)) at (numberField v stop)) ⌝ }
 {
     let end = write_i32(buf, at, v);
     buf[end] = stop;

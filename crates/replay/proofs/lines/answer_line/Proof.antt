@@ -8,7 +8,7 @@ use lib.Seq.{length-take-le}
 use borrow.Author.Needs.{needs}
 use Rattle.replay.specs.Screen.{response}
 use Rattle.replay.specs.Dump.{dumpLine}
-use Rattle.replay.specs.Lines.{Left, turned, Session}
+use Rattle.replay.specs.Lines.{Left, turnDone, Session}
 use Rattle.replay.specs.Words.{sameWord, dumpWord}
 use Rattle.text.proofs.Parting.{part-end-within}
 use Rattle.replay.proofs.Answers.{answer-long, answer-dump, answer-turn, is-answered}
@@ -92,7 +92,7 @@ returns-3 c =
     let e = c .before .before .before .before .before .before .before .before .before .before .before .before .before .find .ensures in
     let d = c .before .before .write-reply .ensures in (
       is-answered o said
-          (ap turned (c .before .before .before .before .before .before .before .respond .ensures) ∙ ap (λ (k : ℕ). turned (response (take k said) said (k + 1) (l .0) (l .1))) e
+          (ap turnDone (c .before .before .before .before .before .before .before .respond .ensures) ∙ ap (λ (k : ℕ). turnDone (response (take k said) said (k + 1) (l .0) (l .1))) e
           ∙ answer-turn said l (omega (arith, c .before .before .before .before .before .before .before .before .before .before .before .before .before .before .if1 .left)) (ap (λ (k : ℕ). sameWord (take k said) dumpWord) (sym e) ∙ sym (c .before .before .before .before .before .before .before .before .before .before .same .ensures) ∙ c .before .before .before .before .before .before .before .before .before .if2 .left))
           (d .0, d .1),
       omega (arith, d .2),

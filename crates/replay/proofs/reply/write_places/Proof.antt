@@ -1,7 +1,7 @@
 -- `replay::reply::write_places` writes the three numbers one behind the other. Assumes nothing.
 use mathlib.Core.Path.{_∙_}
 use native.Mathlib.Omega.{arith}
-use Rattle.text.specs.Show.{field}
+use Rattle.text.specs.Show.{numberField}
 use Rattle.replay.specs.Reply.{natural}
 use Rattle.replay.proofs.Writes.{short-three, short-field, read-back-short}
 use Rattle.replay.proofs.reply.write_places.Statement.{statement}
@@ -25,7 +25,7 @@ returns : tie.Need-returns
 returns c =
     let s = c .before .before .before .before .before .before .before .before .before .before .before .before .before in
     let a = s .args in
-    short-three 11 12 12 (a .out .now) (a .at) (natural (a .number) 9) (field (a .a) 9) (field (a .b) 10)
+    short-three 11 12 12 (a .out .now) (a .at) (natural (a .number) 9) (numberField (a .a) 9) (numberField (a .b) 10)
     (c .before .before .before .before .before .before .before .before .before .before .write-natural .ensures)
     (short-field (a .a) 9 (s .fits .a) _ _ (c .before .before .before .before .before .before .write-field .ensures))
     (short-field (a .b) 10 (s .fits .b) _ _ (c .before .before .write-field2 .ensures))

@@ -1,7 +1,7 @@
 -- `replay::reply::write_rows` writes the three numbers one behind the other. Assumes nothing.
 use mathlib.Core.Path.{_∙_}
 use native.Mathlib.Omega.{arith}
-use Rattle.text.specs.Show.{field}
+use Rattle.text.specs.Show.{numberField}
 use Rattle.replay.specs.Reply.{natural}
 use Rattle.replay.proofs.Writes.{short-three, short-field, read-back-short}
 use Rattle.replay.proofs.reply.write_rows.Statement.{statement}
@@ -23,7 +23,7 @@ returns : tie.Need-returns
 returns c =
     let s = c .before .before .before .before .before .before .before .before .before .before .before .before .before in
     let a = s .args in
-    short-three 11 12 11 (a .out .now) (a .at) (natural (a .number) 9) (field (a .first) 9) (natural (a .count) 10)
+    short-three 11 12 11 (a .out .now) (a .at) (natural (a .number) 9) (numberField (a .first) 9) (natural (a .count) 10)
     (c .before .before .before .before .before .before .before .before .before .before .write-natural .ensures)
     (short-field (a .first) 9 (s .fits .first) _ _ (c .before .before .before .before .before .before .write-field .ensures))
     (c .before .before .write-natural2 .ensures)

@@ -3,18 +3,18 @@ use mathlib.Core.Path.{_∙_}
 use mathlib.Core.List.{_++_}
 use native.Mathlib.Omega.{arith}
 use mir.Facts.{toZ-ofZ}
-use Rattle.text.specs.Show.{field}
+use Rattle.text.specs.Show.{numberField}
 use Rattle.text.proofs.Writing.{Wrote, at-field, triple-parts, wrote-then}
 use Rattle.text.proofs.write.write_triple.Statement.{statement}
 use Rattle.text.proofs.write.write_triple.Tie as tie
 
 one : (c : tie.After-write-field)
-    → Wrote (c .before .before .before .args .buf .now) (c .before .before .before .args .at) (field (c .before .before .before .args .a) 9) (c .write-field .result) (c .write-field .last .0)
+    → Wrote (c .before .before .before .args .buf .now) (c .before .before .before .args .at) (numberField (c .before .before .before .args .a) 9) (c .write-field .result) (c .write-field .last .0)
 one c = at-field _ _ _ 9 (toZ-ofZ (c .before .before .before .fits .a)) (c .write-field .ensures)
 
 two : (c : tie.After-write-field2)
     → Wrote (c .before .before .before .before .write-field .last .0) (c .before .before .before .before .write-field .result)
-    (field (c .before .before .before .before .before .before .before .args .b) 9) (c .write-field2 .result) (c .write-field2 .last .0)
+    (numberField (c .before .before .before .before .before .before .before .args .b) 9) (c .write-field2 .result) (c .write-field2 .last .0)
 two c = at-field _ _ _ 9 (toZ-ofZ (c .before .before .before .before .before .before .before .fits .b)) (c .write-field2 .ensures)
 
 write-field-requires : tie.Need-write-field-requires
@@ -49,8 +49,8 @@ returns c =
     let w = one (c .before .before .before .before .before .before .before .before .before .before) in
     let x = two (c .before .before .before .before .before .before) in
     let y = at-field _ _ _ (s .args .stop) (toZ-ofZ (s .fits .c)) (c .before .before .write-field3 .ensures) in
-    wrote-then (s .args .buf .now) (s .args .at) (field (s .args .a) 9) (field (s .args .b) 9 ++ field (s .args .c) (s .args .stop)) w
-    (wrote-then _ _ (field (s .args .b) 9) (field (s .args .c) (s .args .stop)) x y)
+    wrote-then (s .args .buf .now) (s .args .at) (numberField (s .args .a) 9) (numberField (s .args .b) 9 ++ numberField (s .args .c) (s .args .stop)) w
+    (wrote-then _ _ (numberField (s .args .b) 9) (numberField (s .args .c) (s .args .stop)) x y)
 
 pub write-triple-spec : {M : Type 1} → statement M
 write-triple-spec =

@@ -1,5 +1,4 @@
 -- Laws of the bound on coordinates: the tests decide it, and a coordinate is at most 131,072 from 0. Assumes nothing.
-use mathlib.Core.Bool.{Bool}
 use Prim.Native.Nat.{ℕ, _≤_}
 use native.Mathlib.Nat.{le-trans}
 use native.Mathlib.Omega.{arith}

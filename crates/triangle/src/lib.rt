@@ -51,15 +51,16 @@ pub fn refusal(v1: Point, v2: Point, v3: Point) -> u32
     5
 }
 
-// Inside the library: twice the signed area of p, a, b, by differences and products of 64 bits.
+// Inside the library: twice the signed area of p, a, b, by differences and products of 64 bits. Each difference is taken from p, which changes no
+// product's sign.
 pub fn area_doubled(p: Point, a: Point, b: Point) -> i64
     requires { ⌜ Bounded p × Bounded a × Bounded b ⌝ }
     ensures { λ r. ⌜ r ≡ areaDoubled p a b ⌝ }
 {
-    let ax = a.0 as i64 - p.0 as i64;
-    let ay = a.1 as i64 - p.1 as i64;
-    let bx = b.0 as i64 - p.0 as i64;
-    let by = b.1 as i64 - p.1 as i64;
+    let ax = p.0 as i64 - a.0 as i64;
+    let ay = p.1 as i64 - a.1 as i64;
+    let bx = p.0 as i64 - b.0 as i64;
+    let by = p.1 as i64 - b.1 as i64;
     ax * by - bx * ay
 }
 

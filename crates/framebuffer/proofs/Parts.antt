@@ -13,7 +13,7 @@ use lib.ListN.{length, getD, set, take, drop, length-append, length-drop, List·
 use lib.Seq.{getD-set-same, getD-set-other, getD-take, length-take-le}
 use Rattle.layout.specs.Digits.{digit, value, setRun}
 use Rattle.layout.specs.Raster.{goodDepth, turned, fullByte}
-use Rattle.layout.proofs.Tests.{eq-or-not}
+use Rattle.whole.proofs.Tests.{eq-or-not}
 use Rattle.layout.proofs.Cells.{value-cong}
 use Rattle.layout.proofs.Places.{large}
 use Rattle.layout.proofs.Runs.{run-length, run-in, run-is}

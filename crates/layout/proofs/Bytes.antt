@@ -19,7 +19,7 @@ use borrow.Author.Tests.{eq-eqb, ne-eqb, leb-true, ltb-true, le-leb, lt-ltb, le-
 use Rattle.layout.specs.Digits.{digit, replaced, value, setCell, putDigits, setRun}
 use Rattle.layout.specs.Figure.{everywhere}
 use Rattle.layout.specs.Raster.{Raster, Sound, field, parts, per, turned, byteOf, slotOf, putPixel, getPixel, painted, fullByte}
-use Rattle.layout.proofs.Tests.{eq-or-not, lt-or-ge, same-test, and-true, true-and}
+use Rattle.whole.proofs.Tests.{eq-or-not, lt-or-ge, same-test, and-true, true-and}
 use Rattle.layout.proofs.Cells.{digit-lt, value-cong, value-digits, puts-len}
 use Rattle.layout.proofs.Places.{Depth, depth-of, column, per-pos, parts-pos, depth-pos, turned-below, turned-twice}
 use Rattle.layout.proofs.Fields.{replaced-mod, replaced-value, pow-mul, value-lt, mask, mask-not, mask-and, low-fields, merge}

@@ -11,7 +11,7 @@ use lib.ListN.{length, getD, set, length-set}
 use lib.Seq.{getD-set-same, getD-set-other, set-set, set-comm, set-getD, set-out}
 use Rattle.layout.specs.Digits.{digit, replaced, value, cell, setCell, putDigits, getDigits}
 use Rattle.layout.proofs.Screen.{Laws}
-use Rattle.layout.proofs.Tests.{eq-or-not, lt-or-ge}
+use Rattle.whole.proofs.Tests.{eq-or-not, lt-or-ge}
 
 module _ (B : ℕ) (pos : 0 < B) where
   -- ---- one number

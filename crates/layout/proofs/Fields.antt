@@ -11,7 +11,7 @@ use lib.Bits.{bitAnd, bitOr, and-block, or-block, and-mask, and-zero-r, or-zero-
 use lib.Pow.{pow-pos, pow-add}
 use borrow.Author.Tests.{eq-eqb, ne-eqb, lt-ltb, le-ltb}
 use Rattle.layout.specs.Digits.{digit, replaced, value}
-use Rattle.layout.proofs.Tests.{eq-or-not, lt-or-ge}
+use Rattle.whole.proofs.Tests.{eq-or-not, lt-or-ge}
 use Rattle.layout.proofs.Cells.{digit-lt, value-cong, value-digits}
 
 -- ---- powers

@@ -1,4 +1,3 @@
-pub mod Tests
 pub mod Screen
 pub mod Acts
 pub mod Cells

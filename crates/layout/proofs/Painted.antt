@@ -16,7 +16,7 @@ use borrow.Author.Tests.{eq-eqb, ne-eqb, lt-ltb, le-ltb}
 use Rattle.layout.specs.Paint.{putIf, paint}
 use Rattle.layout.specs.Figure.{single, everywhere}
 use Rattle.layout.specs.Raster.{Raster, Sound, field, parts, byteOf, slotOf, putPixel, putNo, painted}
-use Rattle.layout.proofs.Tests.{eq-or-not}
+use Rattle.whole.proofs.Tests.{eq-or-not}
 use Rattle.layout.proofs.Screen.{paint-cong, paint-none, paint-paint, put-paint}
 use Rattle.layout.proofs.Cells.{puts-len}
 use Rattle.layout.proofs.Places.{number-in, raster-laws}

@@ -8,7 +8,7 @@ use native.Mathlib.Omega.{arith}
 use lib.ListN.{length, getD, set, take, drop, length-set, take-append-drop}
 use lib.Seq.{getD-set-same, getD-set-other, ext-getD, set-out, set-append-left, length-take-le}
 use Rattle.layout.specs.Digits.{setRun}
-use Rattle.layout.proofs.Tests.{eq-or-not, lt-or-ge}
+use Rattle.whole.proofs.Tests.{eq-or-not, lt-or-ge}
 
 pub run-length : (start n : ℕ) (g : ℕ → ℕ) (b : List ℕ) → length (setRun start n g b) ≡ length b
 run-length start zero g b = refl

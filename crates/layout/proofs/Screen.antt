@@ -9,7 +9,7 @@ use native.Mathlib.Omega.{arith}
 use borrow.Author.Tests.{eq-eqb, ne-eqb, lt-ltb, le-ltb}
 use lib.Dec.{eqb, ltb}
 use Rattle.layout.specs.Paint.{putIf, paint, render}
-use Rattle.layout.proofs.Tests.{eq-or-not}
+use Rattle.whole.proofs.Tests.{eq-or-not}
 
 -- what setting (`put`) and reading (`get`) the pixels 0 to N - 1 obey. `Col v`: v is a colour; `Ok b`: the buffer is long enough
 pub record Laws (N : ℕ) (Col : ℕ → Type 0) (Buf : Type 0) (Ok : Buf → Type 0) (put : ℕ → ℕ → Buf → Buf) (get : ℕ → Buf → ℕ) : Type 0 where

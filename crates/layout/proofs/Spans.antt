@@ -8,7 +8,7 @@ use lib.Dec.{ltb, leb, eqb}
 use lib.IntN.{ℤ, pos}
 use borrow.Author.Tests.{ltb-true, leb-true, eqb-true, lt-ltb, le-leb, eq-eqb}
 use Rattle.layout.specs.Figure.{spanFigure, single}
-use Rattle.layout.proofs.Tests.{lt-or-ge, same-test, fails, and-true, true-and, or-true, true-or}
+use Rattle.whole.proofs.Tests.{lt-or-ge, same-test, fails, and-true, true-and, or-true, true-or}
 
 -- a span of columns of the frame
 abbrev pub columns : ℕ → ℕ → ℕ → ℤ → ℤ → Bool

@@ -4,3 +4,4 @@ pub mod Ring
 pub mod Machine
 pub mod Sizes
 pub mod Decides
+pub mod Tests

@@ -1,7 +1,7 @@
 -- Laws of a figure's call: its refusals, one nest after the other. Assumes nothing.
 use mathlib.Core.Path.{_≡_, sym, _∙_}
 use Prim.Native.Nat.{ℕ}
-use Rattle.layout.specs.Raster.{Sound}
+use Rattle.layout.specs.Packed.{Sound}
 use Rattle.framebuffer.specs.declared.Frame.{Frame}
 use Rattle.framebuffer.specs.Description.{raster, drawNumber}
 use Rattle.framebuffer.proofs.Refusals.{draw-nest, refused, passed, is-drawable, sound}

@@ -9,7 +9,8 @@ use Rattle.geometry.specs.declared.Point.{Point}
 use Rattle.geometry.specs.Place.{samePlace}
 use Rattle.line.specs.Line.{pointAt, points, hasPoint, someStep}
 use Rattle.layout.specs.Figure.{single}
-use Rattle.layout.specs.Raster.{Raster, Sound, painted}
+use Rattle.layout.specs.Layout.{painted}
+use Rattle.layout.specs.Packed.{Packed, Sound}
 use Rattle.layout.proofs.Painted.{painted-cong, painted-none, painted-painted}
 use Rattle.framebuffer.specs.declared.Pane.{Pane}
 use Rattle.framebuffer.specs.Rectangle.{inPane, inside}

@@ -10,7 +10,8 @@ use Rattle.whole.proofs.Decides.{decides-lt, decides-eq, decides-yes, decides-n
 use Rattle.whole.proofs.Order.{le-lt-more, more-lt-le, le-of, lt-le, lt-apart, le-antisym}
 use Rattle.whole.proofs.Machine.{lt-yes, lt-no}
 use Rattle.layout.specs.Figure.{spanFigure}
-use Rattle.layout.specs.Raster.{Raster, Sound, painted}
+use Rattle.layout.specs.Layout.{painted}
+use Rattle.layout.specs.Packed.{Packed, Sound}
 use Rattle.layout.proofs.Painted.{painted-cong, painted-none}
 use Rattle.framebuffer.specs.declared.Pane.{Pane}
 use Rattle.framebuffer.specs.Rectangle.{inPane, inside}

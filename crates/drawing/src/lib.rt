@@ -6,7 +6,7 @@ ghost use mathlib.Core.Bool.{Bool, not};
 ghost use lib.IntN.{ℤ};
 ghost use Rattle.whole.specs.Decides.{Decides};
 ghost use Rattle.geometry.specs.Bound.{Bounded};
-ghost use Rattle.layout.specs.Raster.{painted};
+ghost use Rattle.layout.specs.Layout.{painted};
 ghost use Rattle.triangle.specs.Triangle.{isFlat};
 ghost use Rattle.circle.specs.Refusal.{refusalOf};
 ghost use Rattle.edges.specs.Shape.{Shape, Spanned, Begun, Ready};

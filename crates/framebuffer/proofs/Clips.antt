@@ -11,7 +11,7 @@ use lib.Signed.{leZ, ltZ, _≤ℤ_}
 use borrow.Author.Tests.{ltb-true, leb-true, lt-ltb, le-ltb, le-leb}
 use Rattle.layout.specs.Figure.{spanFigure}
 use Rattle.whole.specs.Equal.{eqZ}
-use Rattle.layout.specs.Raster.{painted}
+use Rattle.layout.specs.Layout.{painted}
 use Rattle.whole.proofs.Tests.{lt-or-ge, same-test, fails, and-true, true-and, eqZ-true, eqZ-refl}
 use Rattle.layout.proofs.Spans.{columns, in-span, span-in}
 use Rattle.layout.proofs.Painted.{painted-cong, painted-none}

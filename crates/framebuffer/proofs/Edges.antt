@@ -8,7 +8,8 @@ use native.Mathlib.Omega.{arith}
 use lib.Bits.{bitAnd}
 use lib.ListN.{length, take, drop}
 use Rattle.layout.specs.Digits.{value, setRun}
-use Rattle.layout.specs.Raster.{rowBytes, field, parts, per, painted, fullByte}
+use Rattle.layout.specs.Layout.{painted}
+use Rattle.layout.specs.Packed.{rowBytes, field, parts, per, fullByte}
 use Rattle.layout.proofs.Places.{small, large, column, depth-pos, depth-of, per-pos}
 use Rattle.layout.proofs.Runs.{run-cong}
 use Rattle.layout.proofs.Spans.{columns}

@@ -7,7 +7,7 @@ use Prim.Native.Nat.{ℕ, _+_, _^_}
 use native.Mathlib.Omega.{arith}
 use lib.Dec.{leb, ltb}
 use Rattle.geometry.specs.declared.Point.{Point}
-use Rattle.layout.specs.Raster.{goodDepth}
+use Rattle.layout.specs.Packed.{goodDepth}
 use Rattle.framebuffer.specs.declared.Frame.{Frame}
 use Rattle.framebuffer.specs.Description.{size, sizeNumber, drawNumber, readNumber}
 use Rattle.framebuffer.specs.Rectangle.{inPane, ownPane}

@@ -6,7 +6,8 @@ use Prim.Native.Nat.{ℕ}
 use lib.IntN.{pos}
 use lib.ListN.{replicate}
 use Rattle.layout.specs.Figure.{single}
-use Rattle.layout.specs.Raster.{rowBytes, field, parts, per, byteOf, slotOf, painted}
+use Rattle.layout.specs.Layout.{painted}
+use Rattle.layout.specs.Packed.{rowBytes, field, parts, per, byteOf, slotOf}
 use Rattle.framebuffer.specs.declared.Frame.{Frame}
 use Rattle.framebuffer.specs.Description.{described, size, drawNumber, afterDraw}
 

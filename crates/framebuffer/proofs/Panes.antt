@@ -14,7 +14,7 @@ use borrow.Author.Tests.{ltb-true, leb-true, lt-ltb, le-leb}
 use Rattle.whole.specs.Equal.{eqZ}
 use Rattle.whole.proofs.Machine.{index-fits}
 use Rattle.layout.specs.Figure.{single}
-use Rattle.layout.specs.Raster.{putPixel, painted}
+use Rattle.layout.specs.Layout.{putPixel, painted}
 use Rattle.whole.proofs.Tests.{same-test, fails, and-true, true-and, eqZ-true}
 use Rattle.layout.proofs.Painted.{painted-cong, painted-none, put-single}
 use Rattle.framebuffer.specs.declared.Frame.{Frame}

@@ -10,7 +10,8 @@ use lib.IntN.{ℤ}
 use lib.Pow.{pow-mono}
 use mathlib.Core.List.{List}
 use borrow.Author.Tests.{ltb-false, leb-false, eq-eqb, ne-eqb, eqb-true, eqb-false, not-false}
-use Rattle.layout.specs.Raster.{Sound, goodDepth, rowBytes, parts, painted}
+use Rattle.layout.specs.Layout.{painted}
+use Rattle.layout.specs.Packed.{Sound, goodDepth, rowBytes, parts}
 use Rattle.layout.proofs.Places.{depth-le, pixel-in}
 use Rattle.framebuffer.specs.declared.Frame.{Frame}
 use Rattle.framebuffer.specs.Answer.{sized, read}

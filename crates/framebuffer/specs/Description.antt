@@ -6,7 +6,8 @@ use Prim.Native.Nat.{ℕ, _*_, _^_}
 use lib.Dec.{eqb, leb, ltb}
 use lib.IntN.{ℤ, natAbs}
 use Rattle.geometry.specs.declared.Point.{Point}
-use Rattle.layout.specs.Raster.{Raster, goodDepth, rowBytes, getPixel, painted}
+use Rattle.layout.specs.Layout.{getPixel, painted}
+use Rattle.layout.specs.Packed.{Packed, goodDepth, rowBytes}
 use Rattle.framebuffer.specs.declared.Frame.{Frame}
 use Rattle.framebuffer.specs.Rectangle.{inPane, ownPane}
 

@@ -6,7 +6,7 @@ use lib.Bits.{bitAnd, bitOr}
 use lib.IntN.{ℤ, pos, natAbs}
 use lib.ListN.{getD, set}
 use lib.Signed.{ltZ}
-use Rattle.layout.specs.Raster.{field, slotOf}
+use Rattle.layout.specs.Packed.{field, slotOf}
 
 -- the nearest number of low to high
 abbrev pub clipped : ℤ → ℕ → ℕ → ℕ

@@ -9,7 +9,7 @@ use Rattle.geometry.specs.declared.Point.{Point}
 use Rattle.line.specs.Line.{points}
 use Rattle.line.specs.Walk.{WalkerAt, Walking}
 use Rattle.line.proofs.Lengths.{major-size}
-use Rattle.layout.specs.Raster.{painted}
+use Rattle.layout.specs.Layout.{painted}
 use Rattle.layout.specs.Figure.{single}
 use Rattle.layout.proofs.Painted.{painted-length}
 use Rattle.framebuffer.specs.Description.{raster, drawNumber}

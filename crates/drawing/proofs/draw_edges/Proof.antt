@@ -4,7 +4,7 @@ use mathlib.Core.Bool.{_||_}
 use Prim.Native.Nat.{ℕ}
 use lib.ListN.{length}
 use borrow.Author.Needs.{needs}
-use Rattle.layout.specs.Raster.{painted}
+use Rattle.layout.specs.Layout.{painted}
 use Rattle.framebuffer.specs.Description.{raster, drawNumber}
 use Rattle.framebuffer.specs.Rectangle.{inside}
 use Rattle.drawing.specs.Figure.{lineFigure}

@@ -16,7 +16,7 @@ use Rattle.circle.specs.Circle.{spanStart, spanEnd}
 use Rattle.circle.proofs.Refusals.{accepted, widest}
 use Rattle.circle.proofs.Worked.{after-fits, after-is}
 use Rattle.layout.specs.Figure.{spanFigure}
-use Rattle.layout.specs.Raster.{painted}
+use Rattle.layout.specs.Layout.{painted}
 use Rattle.framebuffer.specs.Description.{raster, drawNumber}
 use Rattle.framebuffer.specs.Rectangle.{inside}
 use Rattle.drawing.specs.Figure.{circleFigure}

@@ -17,7 +17,7 @@ use Rattle.whole.proofs.Order.{le-self, lt-le}
 use Rattle.edges.specs.declared.Row.{Row}
 use Rattle.edges.specs.Shape.{Shape, Spanned, WalkAt, Rowing, Rowed, Begun}
 use Rattle.layout.specs.Figure.{spanFigure}
-use Rattle.layout.specs.Raster.{painted}
+use Rattle.layout.specs.Layout.{painted}
 use Rattle.framebuffer.specs.Description.{raster, drawNumber}
 use Rattle.framebuffer.specs.Rectangle.{inside}
 use Rattle.framebuffer.proofs.Refusals.{is-drawable}

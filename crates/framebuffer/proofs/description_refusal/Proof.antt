@@ -5,7 +5,7 @@ use native.Mathlib.Omega.{arith}
 use lib.Dec.{ltb}
 use borrow.Author.Needs.{needs}
 use borrow.Author.Tests.{lt-ltb, le-ltb, not-true, not-false}
-use Rattle.layout.specs.Raster.{goodDepth}
+use Rattle.layout.specs.Packed.{goodDepth}
 use Rattle.framebuffer.proofs.description_refusal.Statement.{statement}
 use Rattle.framebuffer.proofs.description_refusal.Tie as tie
 

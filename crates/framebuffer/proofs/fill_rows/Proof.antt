@@ -7,7 +7,8 @@ use lib.IntN.{pos}
 use lib.ListN.{length}
 use lib.Signed.{ltZ}
 use borrow.Author.Needs.{needs}
-use Rattle.layout.specs.Raster.{Sound, painted}
+use Rattle.layout.specs.Layout.{painted}
+use Rattle.layout.specs.Packed.{Sound}
 use Rattle.layout.proofs.Spans.{columns}
 use Rattle.layout.proofs.Painted.{rows-start, rows-then, rows-end}
 use Rattle.framebuffer.specs.Description.{raster, drawNumber}

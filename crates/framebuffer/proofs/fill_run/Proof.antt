@@ -9,7 +9,8 @@ use lib.Seq.{length-take-le}
 use borrow.Author.Needs.{needs}
 use Rattle.layout.specs.Digits.{setRun}
 use Rattle.layout.specs.Figure.{everywhere}
-use Rattle.layout.specs.Raster.{rowBytes, parts, painted, fullByte}
+use Rattle.layout.specs.Layout.{painted}
+use Rattle.layout.specs.Packed.{rowBytes, parts, fullByte}
 use Rattle.layout.proofs.Runs.{run-part}
 use Rattle.layout.proofs.Bytes.{Bytes, one-run}
 use Rattle.framebuffer.specs.declared.Frame.{Frame}

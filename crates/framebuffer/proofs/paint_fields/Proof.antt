@@ -8,7 +8,8 @@ use lib.Bits.{bitAnd}
 use lib.ListN.{length, take, drop}
 use borrow.Author.Needs.{needs}
 use Rattle.layout.specs.Digits.{setRun}
-use Rattle.layout.specs.Raster.{rowBytes, per, painted}
+use Rattle.layout.specs.Layout.{painted}
+use Rattle.layout.specs.Packed.{rowBytes, per}
 use Rattle.layout.proofs.Places.{parts-pos}
 use Rattle.layout.proofs.Spans.{columns}
 use Rattle.layout.proofs.Painted.{painted-length}

@@ -8,7 +8,7 @@ use lib.ListN.{length}
 use mir.Facts.{toZ-ofZ}
 use borrow.Author.Needs.{needs}
 use borrow.Author.Tests.{not-true, not-false}
-use Rattle.layout.specs.Raster.{painted}
+use Rattle.layout.specs.Layout.{painted}
 use Rattle.layout.proofs.Spans.{columns}
 use Rattle.framebuffer.specs.Description.{raster}
 use Rattle.framebuffer.specs.Rectangle.{isBetween}

@@ -9,7 +9,7 @@ use mir.Val.{toZ, ofZ}
 use borrow.Author.Needs.{needs}
 use borrow.Author.Tests.{not-true, not-false}
 use Rattle.whole.proofs.Machine.{field-back}
-use Rattle.layout.specs.Raster.{getPixel}
+use Rattle.layout.specs.Layout.{getPixel}
 use Rattle.framebuffer.specs.declared.Pane.{Pane}
 use Rattle.framebuffer.specs.Answer.{read}
 use Rattle.framebuffer.specs.Description.{raster, descriptionRefusal, bufferRefusal, outsideRefusal, readNumber, colourAt}

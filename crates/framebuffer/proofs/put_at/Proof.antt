@@ -7,7 +7,7 @@ use native.Mathlib.Omega.{arith}
 use lib.ListN.{length, getD, length-take, length-drop, set}
 use borrow.Author.Needs.{needs}
 use Rattle.layout.specs.Digits.{replaced}
-use Rattle.layout.specs.Raster.{goodDepth, field, parts, per, slotOf}
+use Rattle.layout.specs.Packed.{goodDepth, field, parts, per, slotOf}
 use Rattle.layout.proofs.Places.{small, large, depth-pos, depth-le, parts-pos}
 use Rattle.layout.proofs.Bytes.{pixel-set, pixel-stored}
 use Rattle.framebuffer.specs.Description.{raster}

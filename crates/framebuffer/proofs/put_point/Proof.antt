@@ -7,7 +7,7 @@ use mir.Syntax.{w32}
 use mir.Val.{toZ, ofZ}
 use borrow.Author.Needs.{needs}
 use Rattle.whole.proofs.Machine.{field-back}
-use Rattle.layout.specs.Raster.{putPixel}
+use Rattle.layout.specs.Layout.{putPixel}
 use Rattle.framebuffer.specs.Description.{raster}
 use Rattle.framebuffer.specs.Rectangle.{inPane}
 use Rattle.framebuffer.proofs.Refusals.{Drawable, is-drawable}

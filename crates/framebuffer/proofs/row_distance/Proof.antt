@@ -1,6 +1,6 @@
 -- `framebuffer::row_distance` works out the bytes that a row takes, which are few. Assumes nothing.
 use native.Mathlib.Omega.{arith}
-use Rattle.layout.specs.Raster.{rowBytes}
+use Rattle.layout.specs.Packed.{rowBytes}
 use Rattle.framebuffer.proofs.Refusals.{is-described, product, row-fits}
 use Rattle.framebuffer.proofs.row_distance.Statement.{statement}
 use Rattle.framebuffer.proofs.row_distance.Tie as tie

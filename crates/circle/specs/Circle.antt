@@ -3,7 +3,8 @@ use mathlib.Core.Bool.{Bool, cond, _&&_}
 use Prim.Native.Nat.{ℕ, zero, suc, _*_, _-_, _/_}
 use lib.Dec.{leb}
 use lib.IntN.{ℤ, pos, _+ℤ_, _-ℤ_, _*ℤ_}
-use lib.Signed.{leZ, ltZ}
+use lib.Signed.{ltZ}
+use Rattle.whole.specs.Interval.{between}
 use Rattle.geometry.specs.declared.Point.{Point}
 use Rattle.geometry.specs.declared.Doubled.{Doubled}
 
@@ -26,10 +27,6 @@ squaredDistance a b = (a .0 -ℤ b .0) *ℤ (a .0 -ℤ b .0) +ℤ (a .1 -ℤ b .
 -- "A pixel is contained if the squared distance of its doubled place from the doubled centre is below the threshold"
 abbrev pub contained : Point → ℕ → Point → Bool
 contained c d p = ltZ (squaredDistance (doubled p) (centre c d)) (pos (thresholdOf d))
-
--- x is at least a and below b
-abbrev pub between : ℤ → ℤ → ℤ → Bool
-between a b x = leZ a x && ltZ x b
 
 -- "the box": d columns from l, and d rows from t
 abbrev pub boxColumn : Point → ℕ → ℤ → Bool

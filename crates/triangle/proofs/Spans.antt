@@ -8,10 +8,10 @@ use Prim.Native.Nat.{ℕ, zero, suc, _+_, _≤_, _<_}
 use native.Mathlib.Decide.{decLt}
 use native.Mathlib.Omega.{arith}
 use lib.IntN.{ℤ, pos, _+ℤ_}
-use lib.Signed.{_≤ℤ_, _<ℤ_, leZ, ltZ, ≤ℤ-refl}
+use lib.Signed.{_≤ℤ_, _<ℤ_, leZ, ≤ℤ-refl}
 use Rattle.whole.specs.Decides.{Decides}
 use Rattle.whole.specs.Equal.{eqZ}
-use Rattle.whole.proofs.Decides.{decides-map, decides-and, decides-le, decides-lt, decides-eq, decides-no}
+use Rattle.whole.proofs.Decides.{decides-map, decides-between, decides-eq, decides-no}
 use Rattle.whole.proofs.Difference.{le-nat, lt-nat, eq-nat, nat-le, nat-lt, sum-nat}
 use Rattle.whole.proofs.Machine.{le-yes, le-no}
 use Rattle.whole.proofs.Order.{le-trans, le-antisym, lt-le}
@@ -66,7 +66,7 @@ past-before : (x z y : ℤ) → z ≡ y +ℤ pos 1 → x <ℤ z → x ≤ℤ y
 past-before x z y e h = nat-le (omega (arith, lt-nat h, sum-nat z y 1 e))
 
 pub hull-decides : (E : ℤ → Type 0) (s : Columns) (x : ℤ) → Spans E s → Decides (inSpan s x) (Hull E x)
-hull-decides E s x b = decides-map (decides-and (leZ (s .0) x) (ltZ x (s .1)) (decides-le (s .0) x) (decides-lt x (s .1))) (to b) (from b)
+hull-decides E s x b = decides-map (decides-between (s .0) (s .1) x) (to b) (from b)
   where
     to : Spans E s → (s .0 ≤ℤ x) × (x <ℤ s .1) → Hull E x
     to (inl b) h = record { first = s .0; last = b .last; from = h .0; to = past-before x (s .1) (b .last) (b .past) (h .1); at-first = b .at-first; at-last = b .at-last }

@@ -1,10 +1,11 @@
 -- A triangle's rows, and the columns of a row (01, "Triangles").
-use mathlib.Core.Bool.{Bool, cond, _&&_}
+use mathlib.Core.Bool.{Bool, cond}
 use mathlib.Core.List.{List, [], _∷_, _++_}
 use Prim.Native.Nat.{ℕ, zero, suc, _+_}
 use lib.IntN.{ℤ, pos, natAbs, _+ℤ_, _-ℤ_}
-use lib.Signed.{leZ, ltZ}
+use lib.Signed.{leZ}
 use Rattle.whole.specs.Equal.{eqZ}
+use Rattle.whole.specs.Interval.{between}
 use Rattle.geometry.specs.declared.Point.{Point}
 use Rattle.line.specs.Line.{pointAt, points}
 use Rattle.triangle.specs.declared.Sorted.{Sorted}
@@ -30,7 +31,7 @@ hull (x ∷ xs) = extended (x, x +ℤ pos 1) (hull xs)
 
 -- the span has the column x
 abbrev pub inSpan : Columns → ℤ → Bool
-inSpan s x = leZ (s .0) x && ltZ x (s .1)
+inSpan s x = between (s .0) (s .1) x
 
 -- the columns of those points on row y that the steps below n lead to
 abbrev pub columnsTo : (ℕ → Point) → ℤ → ℕ → List ℤ

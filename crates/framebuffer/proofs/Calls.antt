@@ -8,13 +8,13 @@ use lib.IntN.{ℤ}
 use borrow.Author.Tests.{eqb-true, eqb-false}
 use Rattle.layout.specs.Layout.{painted}
 use Rattle.framebuffer.specs.declared.Frame.{Frame}
-use Rattle.framebuffer.specs.declared.Pane.{Pane}
+use Rattle.framebuffer.specs.declared.Window.{Window}
 use Rattle.framebuffer.specs.declared.Drawn.{Drawn}
 use Rattle.framebuffer.specs.Answer.{drawn}
 use Rattle.framebuffer.specs.Description.{raster, drawNumber, afterDraw}
-use Rattle.framebuffer.specs.Rectangle.{Within, inside, ownPane}
+use Rattle.framebuffer.specs.Rectangle.{Within, inside, wholeWindow}
 use Rattle.framebuffer.proofs.Refusals.{draw-nest, refused, passed, is-drawable, unchanged}
-use Rattle.framebuffer.proofs.Panes.{own-within, painted-own}
+use Rattle.framebuffer.proofs.Windows.{own-within, painted-own}
 
 -- ---- the number: the frame's and the colour's, else the call's own
 module _ (f : Frame) (len colour own : ℕ) where
@@ -33,8 +33,8 @@ module _ (f : Frame) (len colour own : ℕ) where
   own-accepted e z = number-zero (sym e ∙ z) .1
 
 -- the frame's own rectangle ends within it
-pub within-own : {f : Frame} {pane : Pane} → pane ≡ ownPane f → Within pane f
-within-own {f} p = subst (λ (q : Pane). Within q f) (sym p) (own-within f)
+pub within-own : {f : Frame} {pane : Window} → pane ≡ wholeWindow f → Within pane f
+within-own {f} p = subst (λ (q : Window). Within q f) (sym p) (own-within f)
 
 -- ---- the answer and the bytes
 pub answered : {r n : ℕ} → r ≡ n → _≡_ {A = Drawn} (record { number = r }) (drawn n)
@@ -45,12 +45,12 @@ pub all-painted : (f : Frame) (colour : ℕ) (figure : ℤ → ℤ → Bool) (b 
 all-painted f colour figure b z h = h ∙ ap (λ (n : ℕ). afterDraw f n figure colour b) (sym z)
 
 -- from the frame's own rectangle, which takes nothing away
-pub own-painted : (f : Frame) (len colour own : ℕ) (figure : ℤ → ℤ → Bool) (b : List ℕ) {r : ℕ} {pane : Pane} {after : List ℕ}
-    → r ≡ drawNumber f len colour own → r ≡ 0 → pane ≡ ownPane f → after ≡ painted (raster f) (inside pane figure) colour b → after ≡ afterDraw f r figure colour b
+pub own-painted : (f : Frame) (len colour own : ℕ) (figure : ℤ → ℤ → Bool) (b : List ℕ) {r : ℕ} {pane : Window} {after : List ℕ}
+    → r ≡ drawNumber f len colour own → r ≡ 0 → pane ≡ wholeWindow f → after ≡ painted (raster f) (inside pane figure) colour b → after ≡ afterDraw f r figure colour b
 own-painted f len colour own figure b e z p h =
     all-painted f colour figure b z
     (h
-    ∙ ap (λ (q : Pane). painted (raster f) (inside q figure) colour b) p
+    ∙ ap (λ (q : Window). painted (raster f) (inside q figure) colour b) p
     ∙ painted-own f (is-drawable f len colour (frame-accepted f len colour own e z) .accepted .described) colour b figure)
 
 -- what answers the needs of a call

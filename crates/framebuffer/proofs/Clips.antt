@@ -16,12 +16,13 @@ use Rattle.whole.proofs.Tests.{lt-or-ge, same-test, fails, and-true, true-and, 
 use Rattle.layout.proofs.Spans.{columns, in-span, span-in}
 use Rattle.layout.proofs.Painted.{painted-cong, painted-none}
 use Rattle.framebuffer.specs.declared.Frame.{Frame}
-use Rattle.framebuffer.specs.declared.Pane.{Pane}
+use Rattle.framebuffer.specs.declared.Window.{Window}
 use Rattle.framebuffer.specs.Description.{raster}
-use Rattle.framebuffer.specs.Rectangle.{Within, isBetween, inPane, inside}
+use Rattle.framebuffer.specs.Rectangle.{Within, isBetween, inWindow, inside}
 use Rattle.framebuffer.specs.Words.{clipped}
-use Rattle.framebuffer.proofs.Refusals.{Described, sound}
-use Rattle.framebuffer.proofs.Panes.{between-pos, between-in, pane-in}
+use Rattle.framebuffer.specs.Judged.{Described}
+use Rattle.framebuffer.proofs.Refusals.{sound}
+use Rattle.framebuffer.proofs.Windows.{between-pos, between-in, pane-in}
 
 -- ---- the nearest number of low to high
 -- below, above, and between
@@ -85,18 +86,18 @@ module _ (x : ℤ) (low high u : ℕ) (h : low ≤ u) (k : u < high) where
   past-gt r (between e l m) = (λ q. ltb-true u r (ap (λ (z : ℤ). ltZ (pos u) z) (sym e) ∙ q), λ q. ap (λ (z : ℤ). ltZ (pos u) z) e ∙ lt-ltb u r q)
 
 -- ---- the span that is left
-module _ (f : Frame) (D : Described f) (colour : ℕ) (b : List ℕ) (q : Pane) (y start end : ℤ) (W : Within q f) where
+module _ (f : Frame) (D : Described f) (colour : ℕ) (b : List ℕ) (q : Window) (y start end : ℤ) (W : Within q f) where
   -- the figure has places on row y alone
   on-row : (u v : ℕ) → spanFigure y start end (pos u) (pos v) ≡ true → pos v ≡ y
   on-row u v e = eqZ-true (pos v) y (and-true (leZ start (pos u) && ltZ (pos u) end) (eqZ (pos v) y) e .1)
 
   -- no row of the rectangle
-  pub row-off : isBetween y (q .top) (q .bottom) ≡ false → b ≡ painted (raster f) (inside q (spanFigure y start end)) colour b
+  pub row-off : between (pos (q .top)) (pos (q .bottom)) y ≡ false → b ≡ painted (raster f) (inside q (spanFigure y start end)) colour b
   row-off h =
       sym (painted-none (raster f) (sound f D) colour b _ (λ u v hu hv. fails _ (λ e.
-      let p = and-true (inPane q (pos u) (pos v)) (spanFigure y start end (pos u) (pos v)) e in
-      let r = and-true (isBetween (pos u) (q .left) (q .right)) (isBetween (pos v) (q .top) (q .bottom)) (p .0) .1 in
-      true≢false (sym r ∙ ap (λ (z : ℤ). isBetween z (q .top) (q .bottom)) (on-row u v (p .1)) ∙ h))))
+      let p = and-true (inWindow q (pos u) (pos v)) (spanFigure y start end (pos u) (pos v)) e in
+      let r = and-true (between (pos (q .left)) (pos (q .right)) (pos u)) (between (pos (q .top)) (pos (q .bottom)) (pos v)) (p .0) .1 in
+      true≢false (sym r ∙ ap (λ (z : ℤ). between (pos (q .top)) (pos (q .bottom)) z) (on-row u v (p .1)) ∙ h))))
 
   abbrev from : ℕ
   from = clipped start (q .left) (q .right)
@@ -104,7 +105,7 @@ module _ (f : Frame) (D : Described f) (colour : ℕ) (b : List ℕ) (q : Pane) 
   abbrev past : ℕ
   past = clipped end (q .left) (q .right)
 
-  module _ (row : isBetween y (q .top) (q .bottom) ≡ true) where
+  module _ (row : between (pos (q .top)) (pos (q .bottom)) y ≡ true) where
     row-is : y ≡ pos (natAbs y)
     row-is = between-pos y (q .top) (q .bottom) row
 
@@ -122,14 +123,14 @@ module _ (f : Frame) (D : Described f) (colour : ℕ) (b : List ℕ) (q : Pane) 
             let l : q .left ≤ u = omega arith in
             let r : u < q .right = omega arith in
             let here : pos v ≡ y = ap pos i ∙ sym row-is in
-            true-and (true-and (between-in u (q .left) (q .right) l r) (ap (λ (z : ℤ). isBetween z (q .top) (q .bottom)) here ∙ row))
+            true-and (true-and (between-in u (q .left) (q .right) l r) (ap (λ (z : ℤ). between (pos (q .top)) (pos (q .bottom)) z) here ∙ row))
             (true-and (true-and (from-le start (q .left) (q .right) u l r from (nearest start (q .left) (q .right)) .1 a)
             (past-gt end (q .left) (q .right) u l r past (nearest end (q .left) (q .right)) .1 z))
             (ap (λ (z : ℤ). eqZ z y) here ∙ eqZ-refl y))
 
         back : inside q (spanFigure y start end) (pos u) (pos v) ≡ true → columns (natAbs y) from past (pos u) (pos v) ≡ true
         back e =
-            let p = and-true (inPane q (pos u) (pos v)) (spanFigure y start end (pos u) (pos v)) e in
+            let p = and-true (inWindow q (pos u) (pos v)) (spanFigure y start end (pos u) (pos v)) e in
             let s = and-true (leZ start (pos u) && ltZ (pos u) end) (eqZ (pos v) y) (p .1) in
             let t = and-true (leZ start (pos u)) (ltZ (pos u) end) (s .0) in
             let r = pane-in q u v (p .0) .0 in

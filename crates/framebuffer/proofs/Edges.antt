@@ -18,7 +18,8 @@ use Rattle.layout.proofs.Bytes.{Bytes, byte-at, head, tail, inner, full-one, gr
 use Rattle.framebuffer.specs.declared.Frame.{Frame}
 use Rattle.framebuffer.specs.Description.{raster, size}
 use Rattle.framebuffer.specs.Words.{onwardMask, mergedAt}
-use Rattle.framebuffer.proofs.Refusals.{Drawable, sound}
+use Rattle.framebuffer.specs.Judged.{Drawable}
+use Rattle.framebuffer.proofs.Refusals.{sound}
 
 module _ (f : Frame) (len colour : ℕ) (A : Drawable f len colour) (s : f .depth < 8) where
   abbrev d : ℕ
@@ -28,7 +29,7 @@ module _ (f : Frame) (len colour : ℕ) (A : Drawable f len colour) (s : f .dept
   n = per d
 
   abbrev row : ℕ
-  row = rowBytes (f .width) (f .depth)
+  row = packed f .distance
 
   thin : (field d ≡ d) × (parts d ≡ 1)
   thin = small d (le-of-lt s) (depth-pos d (A .accepted .described .depth))
@@ -130,15 +131,15 @@ module _ (f : Frame) (len colour : ℕ) (A : Drawable f len colour) (s : 8 ≤ f
   place x = column (f .depth) (depth-of (f .depth) (A .accepted .described .depth)) x ∙ ap (λ (k : ℕ). x / k * parts (f .depth)) alone ∙ ap (λ (k : ℕ). k * parts (f .depth)) (div-one x)
 
   -- columns take up room for a pixel at least
-  pub pixels-apart : (y x z : ℕ) {a e : ℕ} → x < z → a ≡ y * rowBytes (f .width) (f .depth) + x * f .depth / 8 → e ≡ y * rowBytes (f .width) (f .depth) + z * f .depth / 8 → a + parts (f .depth) ≤ e
+  pub pixels-apart : (y x z : ℕ) {a e : ℕ} → x < z → a ≡ y * packed f .distance + x * f .depth / 8 → e ≡ y * packed f .distance + z * f .depth / 8 → a + parts (f .depth) ≤ e
   pixels-apart y x z h ea ee =
       let l : (x + 1) * parts (f .depth) ≤ z * parts (f .depth) = mul-le-mul-right (parts (f .depth)) (omega arith) in
       omega (arith, place x, place z)
 
   pub pixels-are : (y x z : ℕ) (b t t′ : List ℕ) (a k : ℕ) → y < f .height → Bytes b → x ≤ z → z ≤ f .width
-      → a ≡ y * rowBytes (f .width) (f .depth) + x * f .depth / 8 → a + k ≡ y * rowBytes (f .width) (f .depth) + z * f .depth / 8 → a + k ≤ length b
+      → a ≡ y * packed f .distance + x * f .depth / 8 → a + k ≡ y * packed f .distance + z * f .depth / 8 → a + k ≤ length b
       → t ≡ take k (drop a b) → t′ ≡ setRun 0 (length t) (fullByte (f .depth) (f .big) colour) t
       → take a b ++ (t′ ++ drop k (drop a b)) ≡ painted (raster f) (columns y x z) colour b
   pixels-are y x z b t t′ a k hy v h w ea ek l e e′ =
-      groups-filled (raster f) (sound f (A .accepted .described)) colour (A .below) y x z b t t′ a k h (subst (λ (i : ℕ). i ≤ f .width) (sym (one z)) w) hy (ea ∙ ap (λ (i : ℕ). y * rowBytes (f .width) (f .depth) + i) (place x)) (ek ∙ ap (λ (i : ℕ). y * rowBytes (f .width) (f .depth) + i) (place z)) l v e e′
+      groups-filled (raster f) (sound f (A .accepted .described)) colour (A .below) y x z b t t′ a k h (subst (λ (i : ℕ). i ≤ f .width) (sym (one z)) w) hy (ea ∙ ap (λ (i : ℕ). y * packed f .distance + i) (place x)) (ek ∙ ap (λ (i : ℕ). y * packed f .distance + i) (place z)) l v e e′
       ∙ ap₂ (λ (i j : ℕ). painted (raster f) (columns y i j) colour b) (one x) (one z)

@@ -8,7 +8,8 @@ use borrow.Author.Needs.{needs}
 use borrow.Author.Tests.{le-leb, lt-leb}
 use Rattle.layout.proofs.Places.{depth-le}
 use Rattle.framebuffer.specs.Description.{drawNumber, colourRefusal}
-use Rattle.framebuffer.proofs.Refusals.{Accepted, is-accepted, refused, passed, frame-nest, one-shifted}
+use Rattle.framebuffer.specs.Judged.{Accepted}
+use Rattle.framebuffer.proofs.Refusals.{is-accepted, refused, passed, frame-nest, one-shifted}
 use Rattle.framebuffer.proofs.draw_refusal.Statement.{statement}
 use Rattle.framebuffer.proofs.draw_refusal.Tie as tie
 

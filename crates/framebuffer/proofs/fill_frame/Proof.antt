@@ -24,8 +24,8 @@ fill-run-requires c κs =
     let t = c .before .if1 .taken in
     (c .before .before .before .before .before .pre, omega arith)
 
-fill-rows-requires : tie.Need-fill-rows-requires
-fill-rows-requires c κs =
+fill-each-row-requires : tie.Need-fill-each-row-requires
+fill-each-row-requires c κs =
     let s = c .before .before .before .before .before in
     (s .pre, padded (s .args .frame) (λ e. c .before .if1 .left (ap (λ (n : ℕ). n * 8) (c .before .before .before .row-distance .ensures .0) ∙ e)))
 
@@ -39,7 +39,7 @@ same-length-2 : tie.Need-same-length-2
 same-length-2 c = search needs
 
 returns-2 : tie.Need-returns-2
-returns-2 c = c .before .before .fill-rows .ensures
+returns-2 c = c .before .before .fill-each-row .ensures
 
 pub fill-frame-spec : {M : Type 1} → statement M
 fill-frame-spec =
@@ -49,7 +49,7 @@ fill-frame-spec =
     mul-if1
     mul-if1-2
     fill-run-requires
-    fill-rows-requires
+    fill-each-row-requires
     same-length
     returns
     same-length-2

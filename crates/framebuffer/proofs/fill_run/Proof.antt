@@ -15,7 +15,8 @@ use Rattle.layout.proofs.Runs.{run-part}
 use Rattle.layout.proofs.Bytes.{Bytes, one-run}
 use Rattle.framebuffer.specs.declared.Frame.{Frame}
 use Rattle.framebuffer.specs.Description.{raster, size}
-use Rattle.framebuffer.proofs.Refusals.{Drawable, is-drawable, frame-passed, description-passed, sound, one-pixel}
+use Rattle.framebuffer.specs.Judged.{Drawable}
+use Rattle.framebuffer.proofs.Refusals.{is-drawable, frame-passed, description-passed, sound, one-pixel}
 use Rattle.framebuffer.proofs.fill_run.Statement.{statement}
 use Rattle.framebuffer.proofs.fill_run.Tie as tie
 
@@ -50,7 +51,7 @@ same-length : tie.Need-same-length
 same-length c = search needs
 
 -- the run is the frame
-run : (f : Frame) (colour : ℕ) (b : List ℕ) (A : Drawable f (length b) colour) → rowBytes (f .width) (f .depth) * 8 ≡ f .width * f .depth → Bytes b
+run : (f : Frame) (colour : ℕ) (b : List ℕ) (A : Drawable f (length b) colour) → packed f .distance * 8 ≡ f .width * f .depth → Bytes b
     → painted (raster f) everywhere colour b ≡ setRun 0 (size f) (fullByte (f .depth) (f .big) colour) b
 unfolding size
 run f colour b A e v = one-run (raster f) (sound f (A .accepted .described)) colour (A .below) b e (A .accepted .room) v

@@ -6,7 +6,8 @@ use native.Mathlib.Omega.{arith}
 use lib.ListN.{length, length-take, length-drop}
 use borrow.Author.Needs.{needs}
 use Rattle.layout.specs.Packed.{parts}
-use Rattle.framebuffer.proofs.Refusals.{Drawable, is-drawable, place-small, end-room}
+use Rattle.framebuffer.specs.Judged.{Drawable}
+use Rattle.framebuffer.proofs.Refusals.{is-drawable, place-small, end-room}
 use Rattle.framebuffer.proofs.Edges.{pixels-are, pixels-apart}
 use Rattle.framebuffer.proofs.paint_columns.Statement.{statement}
 use Rattle.framebuffer.proofs.paint_columns.Tie as tie

@@ -15,7 +15,8 @@ use Rattle.layout.proofs.Spans.{columns}
 use Rattle.layout.proofs.Painted.{painted-length}
 use Rattle.framebuffer.specs.Description.{raster}
 use Rattle.framebuffer.specs.Words.{mergedAt}
-use Rattle.framebuffer.proofs.Refusals.{Drawable, is-drawable, place-small, pixel-room, end-room}
+use Rattle.framebuffer.specs.Judged.{Drawable}
+use Rattle.framebuffer.proofs.Refusals.{is-drawable, place-small, pixel-room, end-room}
 use Rattle.framebuffer.proofs.Edges.{ends-in, ends-with, bytes-to, head-after, in-order, head-is, tail-is, inner-is, whole-is, joined}
 use Rattle.framebuffer.proofs.paint_fields.Statement.{statement}
 use Rattle.framebuffer.proofs.paint_fields.Tie as tie

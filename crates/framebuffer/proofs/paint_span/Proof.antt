@@ -13,8 +13,9 @@ use Rattle.layout.proofs.Spans.{columns}
 use Rattle.framebuffer.specs.Description.{raster}
 use Rattle.framebuffer.specs.Rectangle.{isBetween}
 use Rattle.framebuffer.specs.Words.{clipped}
-use Rattle.framebuffer.proofs.Refusals.{Described, is-drawable}
-use Rattle.framebuffer.proofs.Panes.{within-small, cast-fits, between-pos, in-between}
+use Rattle.framebuffer.specs.Judged.{Described}
+use Rattle.framebuffer.proofs.Refusals.{is-drawable}
+use Rattle.framebuffer.proofs.Windows.{within-small, cast-fits, between-pos, in-between}
 use Rattle.framebuffer.proofs.Clips.{row-off, clip-bounds, span-left, span-gone}
 use Rattle.framebuffer.proofs.paint_span.Statement.{statement}
 use Rattle.framebuffer.proofs.paint_span.Tie as tie
@@ -31,8 +32,8 @@ is-between-requires : tie.Need-is-between-requires
 is-between-requires c κs = let h = small (c .before) in (h .2, h .3)
 
 -- whether it has the row
-row : (c : tie.After-is-between) → (let a = c .before .before .args in isBetween (a .y) (a .pane .top) (a .pane .bottom) ≡ c .is-between .result)
-row c = let a = c .before .before .args in sym (c .is-between .ensures ∙ ap (λ (z : ℤ). isBetween z (a .pane .top) (a .pane .bottom)) (toZ-ofZ (c .before .before .fits .y)))
+row : (c : tie.After-is-between) → (let a = c .before .before .args in between (pos (a .pane .top)) (pos (a .pane .bottom)) (a .y) ≡ c .is-between .result)
+row c = let a = c .before .before .args in sym (c .is-between .ensures ∙ ap (λ (z : ℤ). between (pos (a .pane .top)) (pos (a .pane .bottom)) z) (toZ-ofZ (c .before .before .fits .y)))
 
 returns : tie.Need-returns
 returns c =
@@ -40,7 +41,7 @@ returns c =
     let a = s .args in
     row-off (a .frame) (ok s) (a .colour) (a .buf .now) (a .pane) (a .y) (a .start) (a .end) (s .pre .1) (row (c .before) ∙ not-true _ (c .if1 .taken))
 
-inner : (c : tie.Else1) → (let a = c .before .before .before .args in isBetween (a .y) (a .pane .top) (a .pane .bottom) ≡ true)
+inner : (c : tie.Else1) → (let a = c .before .before .before .args in between (pos (a .pane .top)) (pos (a .pane .bottom)) (a .y) ≡ true)
 inner c = row (c .before) ∙ not-false _ (c .if1 .left)
 
 clip-requires : tie.Need-clip-requires
@@ -69,7 +70,7 @@ paint-columns-requires c κs =
     let b = s .pre .1 .bottom in
     let r = s .pre .1 .right in
     let i = inner (c .before .before .before .before) in
-    let l = in-between (natAbs (a .y)) (a .pane .top) (a .pane .bottom) (ap (λ (z : ℤ). isBetween z (a .pane .top) (a .pane .bottom)) (sym (between-pos (a .y) (a .pane .top) (a .pane .bottom) i)) ∙ i) .1 in
+    let l = in-between (natAbs (a .y)) (a .pane .top) (a .pane .bottom) (ap (λ (z : ℤ). between (pos (a .pane .top)) (pos (a .pane .bottom)) z) (sym (between-pos (a .y) (a .pane .top) (a .pane .bottom) i)) ∙ i) .1 in
     let p = past (c .before .before) in
     let h = clip-bounds (a .end) (a .pane .left) (a .pane .right) (s .pre .1 .columns) .1 in
     (s .pre .0, subst (λ (z : ℤ). natAbs z < a .frame .height) (sym (toZ-ofZ (s .fits .y))) (omega arith), omega arith, omega arith)

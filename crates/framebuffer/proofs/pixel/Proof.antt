@@ -10,12 +10,13 @@ use borrow.Author.Needs.{needs}
 use borrow.Author.Tests.{not-true, not-false}
 use Rattle.whole.proofs.Machine.{field-back}
 use Rattle.layout.specs.Layout.{getPixel}
-use Rattle.framebuffer.specs.declared.Pane.{Pane}
+use Rattle.framebuffer.specs.declared.Window.{Window}
 use Rattle.framebuffer.specs.Answer.{read}
 use Rattle.framebuffer.specs.Description.{raster, descriptionRefusal, bufferRefusal, outsideRefusal, readNumber, colourAt}
-use Rattle.framebuffer.specs.Rectangle.{Within, inPane, ownPane}
-use Rattle.framebuffer.proofs.Refusals.{Described, is-accepted, refused, passed, frame-nest, refused-read}
-use Rattle.framebuffer.proofs.Panes.{own-within, within-small, pane-pos, cast-fits, point-in}
+use Rattle.framebuffer.specs.Rectangle.{Within, inWindow, wholeWindow}
+use Rattle.framebuffer.specs.Judged.{Described}
+use Rattle.framebuffer.proofs.Refusals.{is-accepted, refused, passed, frame-nest, refused-read}
+use Rattle.framebuffer.proofs.Windows.{own-within, within-small, pane-pos, cast-fits, point-in}
 use Rattle.framebuffer.proofs.pixel.Statement.{statement}
 use Rattle.framebuffer.proofs.pixel.Tie as tie
 
@@ -43,7 +44,7 @@ pane-requires c κs = search needs
 holds-requires : tie.Need-holds-requires
 holds-requires c κs =
     let f = c .before .before .before .before .before .before .args .frame in
-    within-small (subst (λ (q : Pane). Within q f) (sym (c .pane .ensures)) (own-within f)) (ok (c .before .before .before))
+    within-small (subst (λ (q : Window). Within q f) (sym (c .pane .ensures)) (own-within f)) (ok (c .before .before .before))
 
 -- the coordinates, as the code reads them, and whether the frame holds them
 across : (c : tie.After-struct-told2) → toZ w32 (ofZ w32 (c .before .before .before .before .before .args .p .0)) ≡ c .before .before .before .before .before .args .p .0
@@ -52,12 +53,12 @@ across c = field-back w32 (c .before .before .before .before .before .args .p .0
 down : (c : tie.After-struct-told2) → toZ w32 (ofZ w32 (c .before .before .before .before .before .args .p .1)) ≡ c .before .before .before .before .before .args .p .1
 down c = field-back w32 (c .before .before .before .before .before .args .p .1) (c .struct-told2 .given .1 .0 .1)
 
-held : (c : tie.After-holds) → (let a = c .before .before .before .before .before .before .before .args in inPane (ownPane (a .frame)) (a .p .0) (a .p .1) ≡ c .holds .result)
+held : (c : tie.After-holds) → (let a = c .before .before .before .before .before .before .before .args in inWindow (wholeWindow (a .frame)) (a .p .0) (a .p .1) ≡ c .holds .result)
 held c =
     let a = c .before .before .before .before .before .before .before .args in
     sym (c .holds .ensures
-    ∙ ap (λ (q : Pane). inPane q (toZ w32 (ofZ w32 (a .p .0))) (toZ w32 (ofZ w32 (a .p .1)))) (c .before .pane .ensures)
-    ∙ ap₂ (inPane (ownPane (a .frame))) (across (c .before .before)) (down (c .before .before)))
+    ∙ ap (λ (q : Window). inWindow q (toZ w32 (ofZ w32 (a .p .0))) (toZ w32 (ofZ w32 (a .p .1)))) (c .before .pane .ensures)
+    ∙ ap₂ (inWindow (wholeWindow (a .frame))) (across (c .before .before)) (down (c .before .before)))
 
 -- so the place is in the frame, or 8 is answered
 number : (c : tie.After-holds) (t : Bool) → c .holds .result ≡ t → (let a = c .before .before .before .before .before .before .before .args in readNumber (a .frame) (length (a .buf .now)) (a .p) ≡ cond (not t) 8 0)
@@ -74,7 +75,7 @@ returns-2 c =
 inner : (c : tie.Else2) → (let p = c .before .before .before .before .before .before .before .before .args .p in (p .0 ≡ pos (natAbs (p .0))) × (p .1 ≡ pos (natAbs (p .1))))
 inner c =
     let a = c .before .before .before .before .before .before .before .before .args in
-    pane-pos (ownPane (a .frame)) (a .p .0) (a .p .1) (held (c .before) ∙ not-false _ (c .if2 .left))
+    pane-pos (wholeWindow (a .frame)) (a .p .0) (a .p .1) (held (c .before) ∙ not-false _ (c .if2 .left))
 
 cast-read-point : tie.Need-cast-read-point
 cast-read-point c = cast-fits (record { sfits = c .before .before .before .struct-told2 .given .0 .1 }) (inner c .0)
@@ -87,7 +88,7 @@ read-point-requires c κs =
     let a = c .before .before .before .before .before .before .before .before .args in
     let told = c .before .before .before in
     let z = zero (c .before .before .before .before .before) in
-    let p = point-in (a .frame) (ok (c .before .before .before .before .before)) 0 (a .buf .now) (ownPane (a .frame)) (a .p .0) (a .p .1) (own-within (a .frame)) (held (c .before) ∙ not-false _ (c .if2 .left)) in
+    let p = point-in (a .frame) (ok (c .before .before .before .before .before)) 0 (a .buf .now) (wholeWindow (a .frame)) (a .p .0) (a .p .1) (own-within (a .frame)) (held (c .before) ∙ not-false _ (c .if2 .left)) in
     (z, subst (λ (x : ℤ). natAbs x < a .frame .width) (sym (across told)) (p .0), subst (λ (y : ℤ). natAbs y < a .frame .height) (sym (down told)) (p .1))
 
 returns-3 : tie.Need-returns-3

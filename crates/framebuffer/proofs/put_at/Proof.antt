@@ -11,7 +11,8 @@ use Rattle.layout.specs.Packed.{goodDepth, field, parts, per, slotOf}
 use Rattle.layout.proofs.Places.{small, large, depth-pos, depth-le, parts-pos}
 use Rattle.layout.proofs.Bytes.{pixel-set, pixel-stored}
 use Rattle.framebuffer.specs.Description.{raster}
-use Rattle.framebuffer.proofs.Refusals.{Drawable, is-drawable, frame-passed, description-passed, sound, pixel-room, pixel-small}
+use Rattle.framebuffer.specs.Judged.{Drawable}
+use Rattle.framebuffer.proofs.Refusals.{is-drawable, frame-passed, description-passed, sound, pixel-room, pixel-small}
 use Rattle.framebuffer.proofs.put_at.Statement.{statement}
 use Rattle.framebuffer.proofs.put_at.Tie as tie
 

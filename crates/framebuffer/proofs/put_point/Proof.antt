@@ -9,9 +9,10 @@ use borrow.Author.Needs.{needs}
 use Rattle.whole.proofs.Machine.{field-back}
 use Rattle.layout.specs.Layout.{putPixel}
 use Rattle.framebuffer.specs.Description.{raster}
-use Rattle.framebuffer.specs.Rectangle.{inPane}
-use Rattle.framebuffer.proofs.Refusals.{Drawable, is-drawable}
-use Rattle.framebuffer.proofs.Panes.{within-small, pane-pos, cast-fits, point-in, point-put, point-off}
+use Rattle.framebuffer.specs.Rectangle.{inWindow}
+use Rattle.framebuffer.specs.Judged.{Drawable}
+use Rattle.framebuffer.proofs.Refusals.{is-drawable}
+use Rattle.framebuffer.proofs.Windows.{within-small, pane-pos, cast-fits, point-in, point-put, point-off}
 use Rattle.framebuffer.proofs.put_point.Statement.{statement}
 use Rattle.framebuffer.proofs.put_point.Tie as tie
 
@@ -29,8 +30,8 @@ across c = field-back w32 (c .before .before .before .args .p .0) (c .struct-tol
 down : (c : tie.After-struct-told2) → toZ w32 (ofZ w32 (c .before .before .before .args .p .1)) ≡ c .before .before .before .args .p .1
 down c = field-back w32 (c .before .before .before .args .p .1) (c .struct-told2 .given .1 .0 .1)
 
-held : (c : tie.After-holds) → inPane (c .before .before .before .before .args .pane) (c .before .before .before .before .args .p .0) (c .before .before .before .before .args .p .1) ≡ c .holds .result
-held c = sym (c .holds .ensures ∙ ap₂ (inPane (c .before .before .before .before .args .pane)) (across (c .before)) (down (c .before)))
+held : (c : tie.After-holds) → inWindow (c .before .before .before .before .args .pane) (c .before .before .before .before .args .p .0) (c .before .before .before .before .args .p .1) ≡ c .holds .result
+held c = sym (c .holds .ensures ∙ ap₂ (inWindow (c .before .before .before .before .args .pane)) (across (c .before)) (down (c .before)))
 
 -- there neither is negative
 inner : (c : tie.Then1) → (let p = c .before .before .before .before .before .args .p in (p .0 ≡ pos (natAbs (p .0))) × (p .1 ≡ pos (natAbs (p .1))))

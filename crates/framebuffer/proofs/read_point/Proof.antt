@@ -11,7 +11,8 @@ use Rattle.layout.specs.Packed.{goodDepth, field, parts, per, slotOf}
 use Rattle.layout.proofs.Places.{small, large, depth-pos, depth-le}
 use Rattle.layout.proofs.Bytes.{pixel-get, pixel-loaded}
 use Rattle.framebuffer.specs.Description.{raster}
-use Rattle.framebuffer.proofs.Refusals.{Accepted, is-accepted, description-passed, sound, pixel-room, pixel-small}
+use Rattle.framebuffer.specs.Judged.{Accepted}
+use Rattle.framebuffer.proofs.Refusals.{is-accepted, description-passed, sound, pixel-room, pixel-small}
 use lib.Pow.{pow-pos}
 use Rattle.framebuffer.proofs.read_point.Statement.{statement}
 use Rattle.framebuffer.proofs.read_point.Tie as tie

@@ -1,4 +1,4 @@
--- `framebuffer::fill_rows` has painted the rows above y after each turn. Assumes nothing.
+-- `framebuffer::fill_each_row` has painted the rows above y after each turn. Assumes nothing.
 use mathlib.Core.Path.{_≡_, refl, sym, ap, subst, _∙_}
 use Prim.Native.Nat.{ℕ, _-_, _≤_}
 use native.Mathlib.Nat.{le-refl}
@@ -13,8 +13,8 @@ use Rattle.layout.proofs.Spans.{columns}
 use Rattle.layout.proofs.Painted.{rows-start, rows-then, rows-end}
 use Rattle.framebuffer.specs.Description.{raster, drawNumber}
 use Rattle.framebuffer.proofs.Refusals.{is-drawable, sound}
-use Rattle.framebuffer.proofs.fill_rows.Statement.{statement}
-use Rattle.framebuffer.proofs.fill_rows.Tie as tie
+use Rattle.framebuffer.proofs.fill_each_row.Statement.{statement}
+use Rattle.framebuffer.proofs.fill_each_row.Tie as tie
 
 abbrev Inv-loop : tie.InvT-loop
 Inv-loop buf₀ frame colour width height y₀ buf y =
@@ -61,6 +61,6 @@ returns c =
     let l = c .before .loop in
     l .inv .2 ∙ rows-end (raster (s .args .frame)) (ok s) (s .args .colour) (s .args .buf .now) (l .y) (omega arith)
 
-pub fill-rows-spec : {M : Type 1} → statement M
-fill-rows-spec =
+pub fill-each-row-spec : {M : Type 1} → statement M
+fill-each-row-spec =
     tie.close (tie.spec Inv-loop μ-loop loop-holds paint-columns-requires add-y loop-less loop-again same-length returns)

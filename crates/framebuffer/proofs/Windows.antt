@@ -18,10 +18,11 @@ use Rattle.layout.specs.Layout.{putPixel, painted}
 use Rattle.whole.proofs.Tests.{same-test, fails, and-true, true-and, eqZ-true}
 use Rattle.layout.proofs.Painted.{painted-cong, painted-none, put-single}
 use Rattle.framebuffer.specs.declared.Frame.{Frame}
-use Rattle.framebuffer.specs.declared.Pane.{Pane}
+use Rattle.framebuffer.specs.declared.Window.{Window}
 use Rattle.framebuffer.specs.Description.{raster}
-use Rattle.framebuffer.specs.Rectangle.{Within, isBetween, inPane, inside, ownPane}
-use Rattle.framebuffer.proofs.Refusals.{Described, sound}
+use Rattle.framebuffer.specs.Rectangle.{Within, isBetween, inWindow, inside, wholeWindow}
+use Rattle.framebuffer.specs.Judged.{Described}
+use Rattle.framebuffer.proofs.Refusals.{sound}
 
 -- ---- what a range and a rectangle say
 -- a number of a range is not negative
@@ -39,40 +40,40 @@ in-between u low high e = let p = and-true (leb low u) (ltb u high) e in (leb-tr
 pub between-in : (u low high : ℕ) → low ≤ u → u < high → isBetween (pos u) low high ≡ true
 between-in u low high a b = true-and (le-leb _ _ a) (lt-ltb _ _ b)
 
-pub pane-in : (q : Pane) (x y : ℕ) → inPane q (pos x) (pos y) ≡ true → ((q .left ≤ x) × (x < q .right)) × ((q .top ≤ y) × (y < q .bottom))
+pub pane-in : (q : Window) (x y : ℕ) → inWindow q (pos x) (pos y) ≡ true → ((q .left ≤ x) × (x < q .right)) × ((q .top ≤ y) × (y < q .bottom))
 pane-in q x y e =
-    let p = and-true (isBetween (pos x) (q .left) (q .right)) (isBetween (pos y) (q .top) (q .bottom)) e in
+    let p = and-true (between (pos (q .left)) (pos (q .right)) (pos x)) (between (pos (q .top)) (pos (q .bottom)) (pos y)) e in
     (in-between x (q .left) (q .right) (p .0), in-between y (q .top) (q .bottom) (p .1))
 
-pub in-pane : (q : Pane) (x y : ℕ) → q .left ≤ x → x < q .right → q .top ≤ y → y < q .bottom → inPane q (pos x) (pos y) ≡ true
+pub in-pane : (q : Window) (x y : ℕ) → q .left ≤ x → x < q .right → q .top ≤ y → y < q .bottom → inWindow q (pos x) (pos y) ≡ true
 in-pane q x y a b c d = true-and (between-in x (q .left) (q .right) a b) (between-in y (q .top) (q .bottom) c d)
 
 -- the coordinates of a place in a rectangle are not negative
-pub pane-pos : (q : Pane) (x y : ℤ) → inPane q x y ≡ true → (x ≡ pos (natAbs x)) × (y ≡ pos (natAbs y))
+pub pane-pos : (q : Window) (x y : ℤ) → inWindow q x y ≡ true → (x ≡ pos (natAbs x)) × (y ≡ pos (natAbs y))
 pane-pos q x y e =
-    let p = and-true (isBetween x (q .left) (q .right)) (isBetween y (q .top) (q .bottom)) e in
+    let p = and-true (between (pos (q .left)) (pos (q .right)) x) (between (pos (q .top)) (pos (q .bottom)) y) e in
     (between-pos x (q .left) (q .right) (p .0), between-pos y (q .top) (q .bottom) (p .1))
 
-pub own-within : (f : Frame) → Within (ownPane f) f
+pub own-within : (f : Frame) → Within (wholeWindow f) f
 own-within f = record { columns = omega arith; rows = omega arith; right = le-refl (f .width); bottom = le-refl (f .height) }
 
 -- its ends are few enough for a signed number
-pub within-small : {q : Pane} {f : Frame} → Within q f → Described f → (q .left ≤ q .right) × (q .right ≤ 2048) × (q .top ≤ q .bottom) × (q .bottom ≤ 2048)
+pub within-small : {q : Window} {f : Frame} → Within q f → Described f → (q .left ≤ q .right) × (q .right ≤ 2048) × (q .top ≤ q .bottom) × (q .bottom ≤ 2048)
 within-small W D = let r = W .right in let b = W .bottom in let w = D .width in let h = D .height in (W .columns, omega arith, W .rows, omega arith)
 
 module _ (f : Frame) (D : Described f) (colour : ℕ) (b : List ℕ) where
   -- the frame's own rectangle takes nothing away
-  pub painted-own : (s : ℤ → ℤ → Bool) → painted (raster f) (inside (ownPane f) s) colour b ≡ painted (raster f) s colour b
+  pub painted-own : (s : ℤ → ℤ → Bool) → painted (raster f) (inside (wholeWindow f) s) colour b ≡ painted (raster f) s colour b
   painted-own s =
       painted-cong (raster f) (sound f D) colour b _ _
-      (λ x y hx hy. ap (λ (t : Bool). t && s (pos x) (pos y)) (in-pane (ownPane f) x y (omega arith) hx (omega arith) hy))
+      (λ x y hx hy. ap (λ (t : Bool). t && s (pos x) (pos y)) (in-pane (wholeWindow f) x y (omega arith) hx (omega arith) hy))
 
   -- one pixel, in the rectangle or not
-  module _ (q : Pane) (x y : ℤ) where
-    pub point-in : Within q f → inPane q x y ≡ true → (natAbs x < f .width) × (natAbs y < f .height)
+  module _ (q : Window) (x y : ℤ) where
+    pub point-in : Within q f → inWindow q x y ≡ true → (natAbs x < f .width) × (natAbs y < f .height)
     point-in W e =
         let z = pane-pos q x y e in
-        let p = pane-in q (natAbs x) (natAbs y) (ap₂ (inPane q) (sym (z .0)) (sym (z .1)) ∙ e) in
+        let p = pane-in q (natAbs x) (natAbs y) (ap₂ (inWindow q) (sym (z .0)) (sym (z .1)) ∙ e) in
         let r = p .0 .1 in
         let s = p .1 .1 in
         let a = W .right in
@@ -80,19 +81,19 @@ module _ (f : Frame) (D : Described f) (colour : ℕ) (b : List ℕ) where
         (omega arith, omega arith)
 
     -- where the figure of one pixel has a place, that is the pixel
-    single-is : (u v : ℕ) → single x y (pos u) (pos v) ≡ true → inPane q (pos u) (pos v) ≡ inPane q x y
-    single-is u v h = let p = and-true (eqZ (pos u) x) (eqZ (pos v) y) h in ap₂ (inPane q) (eqZ-true (pos u) x (p .0)) (eqZ-true (pos v) y (p .1))
+    single-is : (u v : ℕ) → single x y (pos u) (pos v) ≡ true → inWindow q (pos u) (pos v) ≡ inWindow q x y
+    single-is u v h = let p = and-true (eqZ (pos u) x) (eqZ (pos v) y) h in ap₂ (inWindow q) (eqZ-true (pos u) x (p .0)) (eqZ-true (pos v) y (p .1))
 
-    pub point-put : Within q f → inPane q x y ≡ true → putPixel (raster f) (natAbs x) (natAbs y) colour b ≡ painted (raster f) (inside q (single x y)) colour b
+    pub point-put : Within q f → inWindow q x y ≡ true → putPixel (raster f) (natAbs x) (natAbs y) colour b ≡ painted (raster f) (inside q (single x y)) colour b
     point-put W e =
         let p = point-in W e in
         let z = pane-pos q x y e in
         put-single (raster f) (sound f D) colour b (natAbs x) (natAbs y) (p .0) (p .1)
         ∙ ap₂ (λ (i j : ℤ). painted (raster f) (single i j) colour b) (sym (z .0)) (sym (z .1))
-        ∙ painted-cong (raster f) (sound f D) colour b _ _ (λ u v hu hv. same-test _ _ (λ h. true-and (single-is u v h ∙ e) h) (λ h. and-true (inPane q (pos u) (pos v)) _ h .1))
+        ∙ painted-cong (raster f) (sound f D) colour b _ _ (λ u v hu hv. same-test _ _ (λ h. true-and (single-is u v h ∙ e) h) (λ h. and-true (inWindow q (pos u) (pos v)) _ h .1))
 
-    pub point-off : inPane q x y ≡ false → b ≡ painted (raster f) (inside q (single x y)) colour b
+    pub point-off : inWindow q x y ≡ false → b ≡ painted (raster f) (inside q (single x y)) colour b
     point-off e =
         sym (painted-none (raster f) (sound f D) colour b _ (λ u v hu hv. fails _ (λ h.
-        let p = and-true (inPane q (pos u) (pos v)) (single x y (pos u) (pos v)) h in
+        let p = and-true (inWindow q (pos u) (pos v)) (single x y (pos u) (pos v)) h in
         true≢false (sym (p .0) ∙ single-is u v (p .1) ∙ e))))

@@ -5,6 +5,7 @@ ghost use Prim.Native.Nat.{_<_, _≤_, min};
 ghost use lib.IntN.{pos, _+ℤ_};
 ghost use lib.Signed.{_≤ℤ_};
 ghost use Rattle.whole.specs.Equal.{eqZ};
+ghost use Rattle.refusals.specs.First.{first};
 ghost use Rattle.geometry.specs.Bound.{Bounded};
 ghost use Rattle.geometry.specs.Answer.{verdict, span};
 ghost use Rattle.triangle.specs.Order.{before, placed, sorted, Down};
@@ -12,7 +13,7 @@ ghost use Rattle.triangle.specs.Triangle.{areaDoubled, noneBelow, onEdge
 ghost use Rattle.triangle.specs.Offsets.{reach, start, firstOffset, lastOffset};
 ghost use Rattle.triangle.specs.Row.{extended, hull, columns, edgeColumns, rowSpan, firstRow, rowCount};
 ghost use Rattle.triangle.specs.Box.{isBeyond, isOutside};
-ghost use Rattle.triangle.specs.Answer.{vertexRefusal, rowsAnswer};
+ghost use Rattle.triangle.specs.Answer.{vertexTests, rowsAnswer};
 use geometry::Point;
 use geometry::Span;
 use geometry::Verdict;
@@ -43,12 +44,12 @@ pub struct RowRange {
 
 // Inside the library: 5 where a vertex is out of bounds, else 0.
 pub fn refusal(v1: Point, v2: Point, v3: Point) -> u32
-    ensures { λ r. ⌜ r ≡ vertexRefusal v1 v2 v3 ⌝ }
+    ensures { λ r. ⌜ r ≡ first (vertexTests v1 v2 v3) ⌝ }
 {
-    if geometry::in_bounds(v1) & (geometry::in_bounds(v2) & geometry::in_bounds(v3)) {
-        return 0;
+    if !(geometry::in_bounds(v1) & (geometry::in_bounds(v2) & geometry::in_bounds(v3))) {
+        return 5;
     }
-    5
+    0
 }
 
 // Inside the library: twice the signed area of p, a, b, by differences and products of 64 bits. Each difference is taken from p, which changes no
@@ -190,7 +191,7 @@ fn holds(v1: Point, v2: Point, v3: Point, p: Point) -> bool
 
 // Whether the triangle contains p: any pixel may be asked.
 pub fn contains(v1: Point, v2: Point, v3: Point, p: Point) -> Verdict
-    ensures { λ r. ⌜ r ≡ verdict (vertexRefusal v1 v2 v3) (contained v1 v2 v3 p) ⌝ }
+    ensures { λ r. ⌜ r ≡ verdict (first (vertexTests v1 v2 v3)) (contained v1 v2 v3 p) ⌝ }
 {
     let number = refusal(v1, v2, v3);
     if number != 0 {
@@ -204,7 +205,7 @@ pub fn contains(v1: Point, v2: Point, v3: Point, p: Point) -> Verdict
 
 // The first row of a triangle, and how many it has.
 pub fn rows(v1: Point, v2: Point, v3: Point) -> RowRange
-    ensures { λ r. ⌜ r ≡ rowsAnswer (vertexRefusal v1 v2 v3) (firstRow v1 v2 v3) (rowCount v1 v2 v3) ⌝ }
+    ensures { λ r. ⌜ r ≡ rowsAnswer (first (vertexTests v1 v2 v3)) (firstRow v1 v2 v3) (rowCount v1 v2 v3) ⌝ }
 {
     let number = refusal(v1, v2, v3);
     if number != 0 {
@@ -347,7 +348,7 @@ pub fn scanline_intersection(t: Sorted, y: i32) -> Columns
 
 // The columns of row y of the triangle: any row may be asked.
 pub fn row_span(v1: Point, v2: Point, v3: Point, y: i32) -> Span
-    ensures { λ r. ⌜ r ≡ span (vertexRefusal v1 v2 v3) (rowSpan v1 v2 v3 y .0) (rowSpan v1 v2 v3 y .1) ⌝ }
+    ensures { λ r. ⌜ r ≡ span (first (vertexTests v1 v2 v3)) (rowSpan v1 v2 v3 y .0) (rowSpan v1 v2 v3 y .1) ⌝ }
 {
     let number = refusal(v1, v2, v3);
     if number != 0 {

@@ -8,11 +8,12 @@ use lib.ListN.{length}
 use lib.Signed.{ltZ}
 use borrow.Author.Needs.{needs}
 use Rattle.layout.specs.Layout.{painted}
-use Rattle.layout.specs.Packed.{Sound}
+use Rattle.layout.proofs.Placing.{Placing}
 use Rattle.layout.proofs.Spans.{columns}
 use Rattle.layout.proofs.Painted.{rows-start, rows-then, rows-end}
-use Rattle.framebuffer.specs.Description.{raster, drawNumber}
-use Rattle.framebuffer.proofs.Refusals.{is-drawable, sound}
+use Rattle.framebuffer.specs.Description.{raster}
+use Rattle.framebuffer.specs.Judged.{Drawable}
+use Rattle.framebuffer.proofs.Refusals.{sound}
 use Rattle.framebuffer.proofs.fill_each_row.Statement.{statement}
 use Rattle.framebuffer.proofs.fill_each_row.Tie as tie
 
@@ -24,8 +25,8 @@ abbrev μ-loop : tie.MeasureT-loop
 μ-loop buf₀ frame colour width height y₀ buf y = frame .height - y
 
 -- what the call may lean on
-ok : (c : tie.Start Inv-loop μ-loop) → Sound (raster (c .args .frame))
-ok c = sound (c .args .frame) (is-drawable (c .args .frame) (length (c .args .buf .now)) (c .args .colour) (c .pre .0) .accepted .described)
+ok : (c : tie.Start Inv-loop μ-loop) → Placing (raster (c .args .frame))
+ok c = sound (c .args .frame) (c .pre .0 .accepted .described)
 
 loop-holds : tie.Need-loop-holds Inv-loop μ-loop
 loop-holds c = let a = c .before .args in (omega arith, refl, sym (rows-start (raster (a .frame)) (ok (c .before)) (a .colour) (a .buf .now)))
@@ -34,7 +35,7 @@ paint-columns-requires : tie.Need-paint-columns-requires Inv-loop μ-loop
 paint-columns-requires c κs =
     let s = c .before .before .before .before in
     let l = c .before .before .loop in
-    (subst (λ (n : ℕ). drawNumber (s .args .frame) n (s .args .colour) 0 ≡ 0) (sym (l .inv .1)) (s .pre .0), omega arith, s .pre .1, le-refl (s .args .frame .width))
+    (subst (λ (n : ℕ). Drawable (s .args .frame) n (s .args .colour)) (sym (l .inv .1)) (s .pre .0), omega arith, s .pre .1, le-refl (s .args .frame .width))
 
 add-y : tie.Need-add-y Inv-loop μ-loop
 add-y c = search needs

@@ -1,9 +1,9 @@
 -- `framebuffer::Window::holds` looks at the column and at the row. Assumes nothing.
 use mathlib.Core.Path.{ap, ap₂, _∙_}
 use mathlib.Core.Bool.{_&&_}
-use lib.IntN.{ℤ}
+use lib.IntN.{ℤ, pos}
 use mir.Facts.{toZ-ofZ}
-use Rattle.framebuffer.specs.Rectangle.{isBetween}
+use Rattle.whole.specs.Interval.{between}
 use Rattle.framebuffer.proofs.Window.holds.Statement.{statement}
 use Rattle.framebuffer.proofs.Window.holds.Tie as tie
 

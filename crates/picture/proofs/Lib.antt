@@ -4,3 +4,4 @@ pub mod Ties
 pub mod Runs
 pub mod Known
 pub mod Table
+pub mod Kept

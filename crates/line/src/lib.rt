@@ -260,10 +260,11 @@ pub fn point(start: Point, end: Point, step: u32) -> Step
 fn progress(a: i32, b: i32, p: i32) -> i64
     ensures { λ r. ⌜ r ≡ toward a b *ℤ (p -ℤ a) ⌝ }
 {
+    let d = p as i64 - a as i64;
     if a <= b {
-        return p as i64 - a as i64;
+        return d;
     }
-    a as i64 - p as i64
+    -d
 }
 
 // Whether `across` are the moves along the minor axis at step `along`: the doubled area between the ideal line and the point is within the band

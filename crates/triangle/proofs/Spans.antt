@@ -1,21 +1,22 @@
 -- Laws of spans: a span of columns runs from the smallest to one past the largest, or is 0 to 0 where there are none; there is one such span; the span of
 -- two sets of columns is that of both joined; and a row's span, as it is defined, is the span of the edge points on the row. Assumes nothing.
-use mathlib.Core.Path.{_≡_, refl, sym, ap, _∙_}
+use mathlib.Core.Path.{_≡_, refl, sym, ap, subst, _∙_}
 use mathlib.Core.Bool.{Bool, true, false, cond}
 use mathlib.Core.List.{List, [], _∷_, _++_, List·Memᴰ, List·Memᴰ·head, List·Memᴰ·tail, List·Memᴰ·not-nil, List·Memᴰ·cases-cons, List·Memᴰ·append-cases, Memᴰ·append-left, Memᴰ·append-right}
 use mathlib.Core.Logic.{_⊎_, inl, inr, ⊎-elim}
-use Prim.Native.Nat.{ℕ, zero, suc, _+_, _≤_, _<_}
+use Prim.Native.Nat.{ℕ, zero, suc, _<_}
 use native.Mathlib.Decide.{decLt}
 use native.Mathlib.Omega.{arith}
 use lib.IntN.{ℤ, pos, _+ℤ_}
-use lib.Signed.{_≤ℤ_, _<ℤ_, leZ, ≤ℤ-refl}
+use lib.Signed.{_≤ℤ_, _<ℤ_, ≤ℤ-refl}
 use Rattle.whole.specs.Decides.{Decides}
 use Rattle.whole.specs.Equal.{eqZ}
 use Rattle.whole.proofs.Decides.{decides-map, decides-between, decides-eq, decides-no}
 use Rattle.whole.proofs.Difference.{le-nat, lt-nat, eq-nat, nat-le, nat-lt, sum-nat}
-use Rattle.whole.proofs.Machine.{le-yes, le-no}
-use Rattle.whole.proofs.Order.{le-trans, le-antisym, lt-le}
+use Rattle.whole.proofs.Order.{le-trans, le-antisym, lt-le-lt}
 use Rattle.geometry.specs.declared.Point.{Point}
+use Rattle.geometry.specs.Extreme.{lesser, greater}
+use Rattle.geometry.proofs.Extreme.{InOrder, in-order}
 use Rattle.line.specs.Line.{pointAt, points, HasPoint}
 use Rattle.triangle.specs.declared.Columns.{Columns}
 use Rattle.triangle.proofs.Run.{Run}
@@ -77,17 +78,6 @@ hull-decides E s x b = decides-map (decides-between (s .0) (s .1) x) (to b) (fro
     from (inr n) h = absurd (n .1 (h .first) (h .at-first))
 
 -- ---- two spans joined
--- the smaller of two least, and the larger of two largest
-record Least (E : ℤ → Type 0) (a : ℤ) : Type 0 where
-  at : E a
-  least : (x : ℤ) → E x → a ≤ℤ x
-
-record Past (E : ℤ → Type 0) (b : ℤ) : Type 0 where
-  last : ℤ
-  past : b ≡ last +ℤ pos 1
-  at : E last
-  largest : (x : ℤ) → E x → x ≤ℤ last
-
 full : (E : ℤ → Type 0) (s : Columns) → Bounds E s → eqZ (s .0) (s .1) ≡ false
 full E s b = decides-no (decides-eq (s .0) (s .1)) (λ e. omega (arith, eq-nat e, lt-nat (before-past (s .0) (s .1) (b .last) (b .past) (b .least (b .last) (b .at-last)))))
 
@@ -99,23 +89,34 @@ module _ (E F : ℤ → Type 0) (s t : Columns) where
   Both x = E x ⊎ F x
 
   module _ (a : Bounds E s) (b : Bounds F t) where
-    join-first : (p : Bool) → (p ≡ true → s .0 ≤ℤ t .0) → (p ≡ false → t .0 <ℤ s .0) → Least Both (cond p (s .0) (t .0))
-    join-first true f g = record { at = inl (a .at-first); least = λ x. ⊎-elim (a .least x) (λ q. le-trans (f refl) (b .least x q)) }
-    join-first false f g = record { at = inr (b .at-first); least = λ x. ⊎-elim (λ q. le-trans (lt-le (g refl)) (a .least x q)) (b .least x) }
+    join-both : Bounds Both (lesser (s .0) (t .0), greater (s .1) (t .1))
+    join-both = by (past .high-is)
+      where
+        first : InOrder (s .0) (t .0) (lesser (s .0) (t .0)) (greater (s .0) (t .0))
+        first = in-order (s .0) (t .0)
 
-    join-last : (p : Bool) → (p ≡ true → s .1 ≤ℤ t .1) → (p ≡ false → t .1 <ℤ s .1) → Past Both (cond p (t .1) (s .1))
-    join-last true f g =
-        let l : a .last ≤ℤ b .last = nat-le (omega (arith, le-nat (f refl), sum-nat (s .1) (a .last) 1 (a .past), sum-nat (t .1) (b .last) 1 (b .past))) in
-        record { last = b .last; past = b .past; at = inr (b .at-last); largest = λ x. ⊎-elim (λ q. le-trans (a .largest x q) l) (b .largest x) }
-    join-last false f g =
-        let l : b .last ≤ℤ a .last = nat-le (omega (arith, lt-nat (g refl), sum-nat (s .1) (a .last) 1 (a .past), sum-nat (t .1) (b .last) 1 (b .past))) in
-        record { last = a .last; past = a .past; at = inl (a .at-last); largest = λ x. ⊎-elim (a .largest x) (λ q. le-trans (b .largest x q) l) }
+        past : InOrder (s .1) (t .1) (lesser (s .1) (t .1)) (greater (s .1) (t .1))
+        past = in-order (s .1) (t .1)
 
-    join-both : Bounds Both (cond (leZ (s .0) (t .0)) (s .0) (t .0), cond (leZ (s .1) (t .1)) (t .1) (s .1))
-    join-both =
-        let f = join-first (leZ (s .0) (t .0)) le-yes le-no in
-        let l = join-last (leZ (s .1) (t .1)) le-yes le-no in
-        record { last = l .last; past = l .past; at-first = f .at; at-last = l .at; least = f .least; largest = l .largest }
+        -- every column is before the greater end
+        below : (x : ℤ) → Both x → x <ℤ greater (s .1) (t .1)
+        below x (inl q) = lt-le-lt (before-past x (s .1) (a .last) (a .past) (a .largest x q)) (past .to-first)
+        below x (inr q) = lt-le-lt (before-past x (t .1) (b .last) (b .past) (b .largest x q)) (past .to-second)
+
+        over : (z : ℤ) → greater (s .1) (t .1) ≡ z +ℤ pos 1 → Both z → Bounds Both (lesser (s .0) (t .0), greater (s .1) (t .1))
+        over z e q =
+            record {
+              last = z;
+              past = e;
+              at-first = ⊎-elim (λ h. inl (subst E (sym h) (a .at-first))) (λ h. inr (subst F (sym h) (b .at-first))) (first .low-is);
+              at-last = q;
+              least = λ x. ⊎-elim (λ h. le-trans (first .from-first) (a .least x h)) (λ h. le-trans (first .from-second) (b .least x h));
+              largest = λ x h. past-before x (greater (s .1) (t .1)) z e (below x h);
+            }
+
+        by : (greater (s .1) (t .1) ≡ s .1) ⊎ (greater (s .1) (t .1) ≡ t .1) → Bounds Both (lesser (s .0) (t .0), greater (s .1) (t .1))
+        by (inl e) = over (a .last) (e ∙ a .past) (inl (a .at-last))
+        by (inr e) = over (b .last) (e ∙ b .past) (inr (b .at-last))
 
   pub join-spans : Spans E s → Spans F t → Spans Both (extended s t)
   unfolding extended

@@ -3,22 +3,15 @@ use mathlib.Core.Bool.{Bool, cond}
 use mathlib.Core.List.{List, [], _∷_, _++_}
 use Prim.Native.Nat.{ℕ, zero, suc, _+_}
 use lib.IntN.{ℤ, pos, natAbs, _+ℤ_, _-ℤ_}
-use lib.Signed.{leZ}
 use Rattle.whole.specs.Equal.{eqZ}
 use Rattle.whole.specs.Interval.{between}
 use Rattle.geometry.specs.declared.Point.{Point}
+use Rattle.geometry.specs.Extreme.{lesser, greater}
 use Rattle.line.specs.Line.{pointAt, points}
 use Rattle.triangle.specs.declared.Sorted.{Sorted}
 use Rattle.triangle.specs.declared.Columns.{Columns}
 use Rattle.triangle.specs.Order.{sorted}
 use Rattle.triangle.specs.Triangle.{isFlat}
-
--- the smaller and the larger of two columns
-abbrev pub lesser : ℤ → ℤ → ℤ
-lesser a b = cond (leZ a b) a b
-
-abbrev pub greater : ℤ → ℤ → ℤ
-greater a b = cond (leZ a b) b a
 
 -- the span that takes in a and b: a span is its first column and one past its last, and empty if they are the same
 unfoldable pub extended : Columns → Columns → Columns

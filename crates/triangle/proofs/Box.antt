@@ -21,8 +21,9 @@ use Rattle.line.specs.Line.{HasPoint}
 use Rattle.triangle.specs.declared.Sorted.{Sorted}
 use Rattle.triangle.specs.Order.{sorted}
 use Rattle.triangle.specs.Triangle.{areaDoubled, isFlat, contained}
-use Rattle.triangle.specs.Between.{EdgePoint, Between}
+use Rattle.triangle.specs.EdgePoint.{EdgePoint}
 use Rattle.triangle.specs.Box.{isBeyond, isOutside}
+use Rattle.triangle.proofs.Between.{InRow}
 use Rattle.triangle.proofs.Edge.{edge-left, edge-right, edge-top, edge-bottom}
 use Rattle.triangle.proofs.Order.{All, sorted-all}
 use Rattle.triangle.proofs.Triangle.{contained-decides}
@@ -46,7 +47,7 @@ module _ (v1 v2 v3 p : Point) (c : contained v1 v2 v3 p ≡ true) (z : ℤ) wher
   abbrev t : Sorted
   t = sorted v1 v2 v3
 
-  in-row : Between (isFlat v1 v2 v3) (t .p1) (t .p2) (t .p3) p
+  in-row : InRow (isFlat v1 v2 v3) (t .p1) (t .p2) (t .p3) p
   in-row = contained-decides v1 v2 v3 p .yes c
 
   -- the row's first and last edge point

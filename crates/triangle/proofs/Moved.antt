@@ -19,7 +19,7 @@ use Rattle.triangle.specs.declared.Columns.{Columns}
 use Rattle.geometry.proofs.Place.{Before, before-decides}
 use Rattle.triangle.specs.Order.{three, placed, sorted}
 use Rattle.triangle.specs.Triangle.{noneBelow, noneAbove, isFlat, isInside, onEdge, contained}
-use Rattle.triangle.specs.Between.{EdgePoint}
+use Rattle.triangle.specs.EdgePoint.{EdgePoint}
 use Rattle.triangle.specs.Row.{rowSpan}
 use Rattle.triangle.proofs.Area.{area-moved}
 use Rattle.triangle.proofs.Spans.{Bounds, Spans, span-one}

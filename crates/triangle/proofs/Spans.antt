@@ -20,7 +20,8 @@ use Rattle.geometry.proofs.Extreme.{InOrder, in-order}
 use Rattle.line.specs.Line.{pointAt, points, HasPoint}
 use Rattle.triangle.specs.declared.Columns.{Columns}
 use Rattle.triangle.proofs.Run.{Run}
-use Rattle.triangle.specs.Row.{extended, hull, inSpan, columnsTo, columns}
+use Rattle.triangle.proofs.Between.{Between}
+use Rattle.triangle.specs.Row.{extended, hull, inSpan, columnsTo, lineColumns}
 
 -- ---- the span of the columns E
 pub record Bounds (E : ℤ → Type 0) (s : Columns) : Type 0 where
@@ -51,29 +52,21 @@ span-map E F s f g (inl b) =
     inl (record { last = b .last; past = b .past; at-first = f (s .0) (b .at-first); at-last = f (b .last) (b .at-last); least = λ x q. b .least x (g x q); largest = λ x q. b .largest x (g x q) })
 span-map E F s f g (inr n) = inr (n .0, λ x q. n .1 x (g x q))
 
--- a column is in the span exactly if it lies between two of E
-pub record Hull (E : ℤ → Type 0) (x : ℤ) : Type 0 where
-  pub first : ℤ
-  pub last : ℤ
-  pub from : first ≤ℤ x
-  pub to : x ≤ℤ last
-  pub at-first : E first
-  pub at-last : E last
-
 before-past : (x z y : ℤ) → z ≡ y +ℤ pos 1 → x ≤ℤ y → x <ℤ z
 before-past x z y e h = nat-lt (omega (arith, le-nat h, sum-nat z y 1 e))
 
 past-before : (x z y : ℤ) → z ≡ y +ℤ pos 1 → x <ℤ z → x ≤ℤ y
 past-before x z y e h = nat-le (omega (arith, lt-nat h, sum-nat z y 1 e))
 
-pub hull-decides : (E : ℤ → Type 0) (s : Columns) (x : ℤ) → Spans E s → Decides (inSpan s x) (Hull E x)
-hull-decides E s x b = decides-map (decides-between (s .0) (s .1) x) (to b) (from b)
+-- a column is in the span exactly if it lies between two of E
+pub span-decides : (E : ℤ → Type 0) (s : Columns) (x : ℤ) → Spans E s → Decides (inSpan s x) (Between E x)
+span-decides E s x b = decides-map (decides-between (s .0) (s .1) x) (to b) (from b)
   where
-    to : Spans E s → (s .0 ≤ℤ x) × (x <ℤ s .1) → Hull E x
+    to : Spans E s → (s .0 ≤ℤ x) × (x <ℤ s .1) → Between E x
     to (inl b) h = record { first = s .0; last = b .last; from = h .0; to = past-before x (s .1) (b .last) (b .past) (h .1); at-first = b .at-first; at-last = b .at-last }
     to (inr n) h = absurd (omega (arith, le-nat (h .0), lt-nat (h .1), eq-nat (ap (λ (c : Columns). c .0) (n .0)), eq-nat (ap (λ (c : Columns). c .1) (n .0))))
 
-    from : Spans E s → Hull E x → (s .0 ≤ℤ x) × (x <ℤ s .1)
+    from : Spans E s → Between E x → (s .0 ≤ℤ x) × (x <ℤ s .1)
     from (inl b) h = (le-trans (b .least (h .first) (h .at-first)) (h .from), before-past x (s .1) (b .last) (b .past) (le-trans (h .to) (b .largest (h .last) (h .at-last))))
     from (inr n) h = absurd (n .1 (h .first) (h .at-first))
 
@@ -174,23 +167,23 @@ module _ (f : ℕ → Point) (x y : ℤ) where
       by false d fewer (no l) = absurd (d .no refl (ap (λ (p : Point). p .1) (sym (here l))))
 
 module _ (s e : Point) (x y : ℤ) where
-  pub column-has : List·Memᴰ x (columns s e y) → HasPoint s e (x, y)
-  unfolding columns
+  pub column-has : List·Memᴰ x (lineColumns s e y) → HasPoint s e (x, y)
+  unfolding lineColumns
   column-has m = let q = listed (pointAt s e) x y (points s e) m in record { step = q .k; walked = omega (arith, q .below); here = q .here }
 
-  pub has-column : HasPoint s e (x, y) → List·Memᴰ x (columns s e y)
-  unfolding columns
+  pub has-column : HasPoint s e (x, y) → List·Memᴰ x (lineColumns s e y)
+  unfolding lineColumns
   has-column h = lists (pointAt s e) x y (points s e) (record { k = h .step; below = omega (arith, h .walked); here = h .here })
 
 -- the span of a line's points on a row
-pub line-spans : (s e : Point) (y : ℤ) → Spans (λ x. HasPoint s e (x, y)) (hull (columns s e y))
-line-spans s e y = span-map (λ x. List·Memᴰ x (columns s e y)) (λ x. HasPoint s e (x, y)) _ (λ x. column-has s e x y) (λ x. has-column s e x y) (list-spans (columns s e y))
+pub line-spans : (s e : Point) (y : ℤ) → Spans (λ x. HasPoint s e (x, y)) (hull (lineColumns s e y))
+line-spans s e y = span-map (λ x. List·Memᴰ x (lineColumns s e y)) (λ x. HasPoint s e (x, y)) _ (λ x. column-has s e x y) (λ x. has-column s e x y) (list-spans (lineColumns s e y))
 
 -- it is the run, or there is none
-pub run-span : (s e : Point) (y lo hi : ℤ) → Run s e y lo hi → hull (columns s e y) ≡ (lo, hi +ℤ pos 1)
+pub run-span : (s e : Point) (y lo hi : ℤ) → Run s e y lo hi → hull (lineColumns s e y) ≡ (lo, hi +ℤ pos 1)
 run-span s e y lo hi r =
     span-one (λ x. HasPoint s e (x, y)) _ _ (line-spans s e y)
     (inl (record { last = hi; past = refl; at-first = r .on lo (≤ℤ-refl lo) (r .some); at-last = r .on hi (r .some) (≤ℤ-refl hi); least = λ x q. r .has x q .0; largest = λ x q. r .has x q .1 }))
 
-pub no-span : (s e : Point) (y : ℤ) → ((x : ℤ) → HasPoint s e (x, y) → ⊥) → hull (columns s e y) ≡ (pos 0, pos 0)
+pub no-span : (s e : Point) (y : ℤ) → ((x : ℤ) → HasPoint s e (x, y) → ⊥) → hull (lineColumns s e y) ≡ (pos 0, pos 0)
 no-span s e y n = span-one (λ x. HasPoint s e (x, y)) _ _ (line-spans s e y) (inr (refl, n))

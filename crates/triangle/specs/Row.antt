@@ -32,12 +32,12 @@ columnsTo f y zero = []
 columnsTo f y (suc n) = cond (eqZ (f n .1) y) (f n .0 ∷ columnsTo f y n) (columnsTo f y n)
 
 -- the columns of a line's points on row y
-unfoldable pub columns : Point → Point → ℤ → List ℤ
-columns s e y = columnsTo (pointAt s e) y (points s e)
+unfoldable pub lineColumns : Point → Point → ℤ → List ℤ
+lineColumns s e y = columnsTo (pointAt s e) y (points s e)
 
 -- the columns of the edge points on row y; zero area: of the line p1 to p3 only
 abbrev pub edgeColumns : Bool → Sorted → ℤ → List ℤ
-edgeColumns flat t y = cond flat (columns (t .p1) (t .p3) y) (columns (t .p1) (t .p2) y ++ (columns (t .p1) (t .p3) y ++ columns (t .p2) (t .p3) y))
+edgeColumns flat t y = cond flat (lineColumns (t .p1) (t .p3) y) (lineColumns (t .p1) (t .p2) y ++ (lineColumns (t .p1) (t .p3) y ++ lineColumns (t .p2) (t .p3) y))
 
 module _ (v1 v2 v3 : Point) where
   -- the span of row y

@@ -10,8 +10,8 @@ ghost use Rattle.geometry.specs.Bound.{Bounded};
 ghost use Rattle.geometry.specs.Answer.{verdict, span};
 ghost use Rattle.triangle.specs.Order.{placed, sorted, Down};
 ghost use Rattle.triangle.specs.Triangle.{areaDoubled, noneBelow, noneAbove, onEdge, isFlat, contained};
-ghost use Rattle.triangle.specs.Offsets.{reach, start, firstOffset, lastOffset};
-ghost use Rattle.triangle.specs.Row.{extended, hull, columns, edgeColumns, rowSpan, firstRow, rowCount};
+ghost use Rattle.triangle.specs.Offsets.{reach, reachFrom, firstOffset, lastOffset};
+ghost use Rattle.triangle.specs.Row.{extended, hull, lineColumns, edgeColumns, rowSpan, firstRow, rowCount};
 ghost use Rattle.triangle.specs.Box.{isBeyond, isOutside};
 ghost use Rattle.triangle.specs.Answer.{vertexTests, rowsAnswer};
 use geometry::Point;
@@ -63,6 +63,14 @@ pub fn area_doubled(p: Point, a: Point, b: Point) -> i64
     let bx = p.0 as i64 - b.0 as i64;
     let by = p.1 as i64 - b.1 as i64;
     ax * by - bx * ay
+}
+
+// Inside the library: whether an accepted triangle has an area.
+pub fn is_solid(v1: Point, v2: Point, v3: Point) -> bool
+    requires { ⌜ Bounded v1 × Bounded v2 × Bounded v3 ⌝ }
+    ensures { λ r. ⌜ r ≡ not (isFlat v1 v2 v3) ⌝ }
+{
+    area_doubled(v1, v2, v3) != 0
 }
 
 // c put into its place among a and b, which are sorted.
@@ -231,7 +239,7 @@ fn reach_on(wide: u32, high: u32, row: u32) -> u64
 // The first column on a row of an edge that is wider than high: one past the last of the row above.
 fn first_on(wide: u32, high: u32, row: u32) -> u32
     requires { ⌜ (wide ≤ 262144) × (high < wide) × (0 < high) × (row ≤ high) ⌝ }
-    ensures { λ r. ⌜ r ≡ start wide high row ⌝ }
+    ensures { λ r. ⌜ r ≡ reachFrom wide high row ⌝ }
 {
     if row == 0 {
         return 0;
@@ -289,7 +297,7 @@ fn offset(rightward: bool, right: u32, left: u32) -> i32
 // Inside the library: the columns of the points on row y of an edge that runs down.
 pub fn bresenham_intersection(start: Point, end: Point, y: i32) -> Columns
     requires { ⌜ (Bounded start × Bounded end) × (start .1 ≤ℤ end .1) ⌝ }
-    ensures { λ r. ⌜ r ≡ hull (columns start end y) ⌝ }
+    ensures { λ r. ⌜ r ≡ hull (lineColumns start end y) ⌝ }
 {
     let x = start.0;
     let top = start.1;

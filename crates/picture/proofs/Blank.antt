@@ -3,7 +3,8 @@ use mathlib.Core.Path.{_≡_, sym, ap, subst, _∙_}
 use mathlib.Core.Bool.{true}
 use Prim.Native.Nat.{ℕ, _/_, _%_, _^_, _<_}
 use lib.ListN.{replicate}
-use Rattle.layout.specs.Raster.{Raster, goodDepth, field, parts, getNo}
+use Rattle.layout.specs.Layout.{getNo}
+use Rattle.layout.specs.Packed.{Packed, goodDepth, field, parts}
 use Rattle.layout.proofs.Fields.{pow-mul}
 use Rattle.layout.proofs.Kept.{zeros-read}
 use Rattle.layout.proofs.Places.{depth-of}

@@ -5,7 +5,8 @@ use Rattle.line.specs.Line.{moves, wide, high, major, minor, xMoves, yMoves, po
 use Rattle.triangle.specs.Order.{before, sorted}
 use Rattle.triangle.specs.Row.{extended, hull, columns, rowSpan, firstRow, rowCount}
 use Rattle.triangle.specs.Triangle.{areaDoubled, noneBelow, noneAbove, onEdge, isFlat, isInside, contained}
-use Rattle.layout.specs.Raster.{rowBytes, field, parts, per, byteOf, slotOf, painted}
+use Rattle.layout.specs.Layout.{painted}
+use Rattle.layout.specs.Packed.{rowBytes, field, parts, per, byteOf, slotOf}
 use Rattle.framebuffer.specs.Description.{size}
 use Rattle.picture.specs.Known.{table, allHold}
 

@@ -17,7 +17,8 @@ use Rattle.triangle.specs.Answer.{vertexRefusal}
 use Rattle.circle.specs.Refusal.{refusalOf}
 use Rattle.layout.specs.Acts.{acts, pictured}
 use Rattle.layout.specs.Paint.{render}
-use Rattle.layout.specs.Raster.{field, parts, putNo, painted}
+use Rattle.layout.specs.Layout.{putNo, painted}
+use Rattle.layout.specs.Packed.{field, parts}
 use Rattle.layout.proofs.Acts as abstract
 use Rattle.layout.proofs.Painted.{painted-length}
 use Rattle.layout.proofs.Places.{number-in, raster-laws}

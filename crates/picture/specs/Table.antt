@@ -8,7 +8,7 @@ use lib.Signed.{leZ}
 use Rattle.geometry.specs.declared.Point.{Point}
 use Rattle.geometry.specs.Bound.{inBounds}
 use Rattle.line.specs.Line.{major}
-use Rattle.layout.specs.Raster.{goodDepth}
+use Rattle.layout.specs.Packed.{goodDepth}
 use Rattle.framebuffer.specs.declared.Frame.{Frame}
 use Rattle.framebuffer.specs.Description.{size}
 use Rattle.framebuffer.specs.Rectangle.{inPane, ownPane}

@@ -17,26 +17,23 @@ use Rattle.whole.proofs.Order.{le-self, lt-le}
 use Rattle.edges.specs.declared.Row.{Row}
 use Rattle.edges.specs.Shape.{Shape, Spanned, WalkAt, Rowing, Rowed, Begun}
 use Rattle.layout.specs.Figure.{spanFigure}
-use Rattle.layout.specs.Raster.{painted}
-use Rattle.framebuffer.specs.Description.{raster, drawNumber}
-use Rattle.framebuffer.specs.Rectangle.{inside}
-use Rattle.framebuffer.proofs.Refusals.{is-drawable}
-use Rattle.drawing.proofs.Calls.{sound-at}
+use Rattle.framebuffer.specs.Judged.{Ready, brushed}
+use Rattle.drawing.proofs.Figures.{brush-sound}
 use Rattle.drawing.proofs.Fill.{inside-of, past-fits, begun-at, row-fits, nearer, still-below, none-above, none-below, row-columns}
 use Rattle.drawing.proofs.Rows.{above, rows-start, rows-turn, rows-end}
 use Rattle.drawing.proofs.fill_rows.Statement.{statement}
 use Rattle.drawing.proofs.fill_rows.Tie as tie
 
 abbrev Inv-loop : tie.InvT-loop
-Inv-loop buf₀ frame pane top bottom colour w₀ y₀ buf w y =
+Inv-loop buf₀ brush top bottom w₀ y₀ buf w y =
     (length buf ≡ length buf₀) × (toZ w32 top ≤ℤ toZ w32 y)
     × ((t : Shape) → Begun t (toZ w32 top) (toZ w32 bottom) w₀
     → WalkAt t (toZ w32 y) w
-    × ((figure : ℤ → ℤ → Bool) → drawNumber frame (length buf₀) colour 0 ≡ 0 → ((x v : ℤ) → Decides (figure x v) (Spanned t x v))
-    → buf ≡ painted (raster frame) (inside pane (above figure (toZ w32 y))) colour buf₀))
+    × ((figure : ℤ → ℤ → Bool) → Ready brush (length buf₀) → ((x v : ℤ) → Decides (figure x v) (Spanned t x v))
+    → buf ≡ brushed brush (above figure (toZ w32 y)) buf₀))
 
 abbrev μ-loop : tie.MeasureT-loop
-μ-loop buf₀ frame pane top bottom colour w₀ y₀ buf w y = (up (toZ w32 bottom) + dn (toZ w32 y) + 1) - (up (toZ w32 y) + dn (toZ w32 bottom))
+μ-loop buf₀ brush top bottom w₀ y₀ buf w y = (up (toZ w32 bottom) + dn (toZ w32 y) + 1) - (up (toZ w32 y) + dn (toZ w32 bottom))
 
 -- the numbers that the loop has by their bits
 begun : (s : tie.Start Inv-loop μ-loop) {t : Shape} → Begun t (s .args .top) (s .args .bottom) (s .args .walk) → Begun t (toZ w32 (ofZ w32 (s .args .top))) (toZ w32 (ofZ w32 (s .args .bottom))) (s .args .walk)
@@ -50,7 +47,7 @@ loop-holds c =
       λ t b. (
         b .at,
         λ figure ok says.
-            sym (rows-start (raster (a .frame)) (sound-at (a .frame) (length (a .buf .now)) (a .colour) ok) (a .pane) (a .colour) (a .buf .now) figure (toZ w32 (ofZ w32 (a .top)))
+            sym (rows-start (a .brush) (brush-sound ok) (a .buf .now) figure (toZ w32 (ofZ w32 (a .top)))
             (λ u v l. none-above t figure says u v (subst (λ (z : ℤ). pos v <ℤ z) (sym (b .first)) l))),
       ),
     )
@@ -66,11 +63,11 @@ module _ (c : tie.In-loop Inv-loop μ-loop) where
   abbrev y : ℤ
   y = toZ w32 (c .before .loop .y)
 
-  some : Begun (entry .pre .2 .t) (toZ w32 (ofZ w32 (entry .args .top))) (toZ w32 (ofZ w32 (entry .args .bottom))) (entry .args .walk)
-  some = begun entry (entry .pre .2 .begun)
+  some : Begun (entry .pre .1 .t) (toZ w32 (ofZ w32 (entry .args .top))) (toZ w32 (ofZ w32 (entry .args .bottom))) (entry .args .walk)
+  some = begun entry (entry .pre .1 .begun)
 
   rowing : Rowing (c .before .loop .w)
-  rowing = record { t = entry .pre .2 .t; y = y; at = c .before .loop .inv .2 (entry .pre .2 .t) some .0; few = some .few }
+  rowing = record { t = entry .pre .1 .t; y = y; at = c .before .loop .inv .2 (entry .pre .1 .t) some .0; few = some .few }
 
   -- all that a turn asks of the test: `<` would do too. That no row is left out is asked after the loop
   not-past : y ≤ℤ toZ w32 (ofZ w32 (entry .args .bottom))
@@ -100,7 +97,7 @@ module _ (c : tie.After-struct-told Inv-loop μ-loop) where
   high-back = field-back w32 (row .high) (c .struct-told .given .1 .1 .0 .1)
 
   end-fits : SFits w32 (toZ w32 (ofZ w32 (row .high)) +ℤ pos 1)
-  end-fits = subst (λ (z : ℤ). SFits w32 (z +ℤ pos 1)) (sym high-back) (past-fits row (taken (entry turn .pre .2 .t) (some turn)) (inside-of (some turn .at)))
+  end-fits = subst (λ (z : ℤ). SFits w32 (z +ℤ pos 1)) (sym high-back) (past-fits row (taken (entry turn .pre .1 .t) (some turn)) (inside-of (some turn .at)))
 
   end-is : toZ w32 (ofZ w32 (toZ w32 (ofZ w32 (row .high)) +ℤ pos 1)) ≡ row .high +ℤ pos 1
   end-is = toZ-ofZ end-fits ∙ ap (λ (z : ℤ). z +ℤ pos 1) high-back
@@ -112,7 +109,7 @@ paint-span-requires : tie.Need-paint-span-requires Inv-loop μ-loop
 paint-span-requires c κs =
     let h = c .before .before .before .before .before in
     let s = entry h in
-    (subst (λ (n : ℕ). drawNumber (s .args .frame) n (s .args .colour) 0 ≡ 0) (sym (h .before .loop .inv .0)) (s .pre .0), s .pre .1)
+    subst (Ready (s .args .brush)) (sym (h .before .loop .inv .0)) (s .pre .0)
 
 add-y : tie.Need-add-y Inv-loop μ-loop
 add-y c = next-row (c .before .before .before .before .before .before .before .before .before)
@@ -139,15 +136,15 @@ loop-again c =
           let done = taken told t b in
           subst
           (λ (v : ℤ). WalkAt t v (r .walk)
-          × ((figure : ℤ → ℤ → Bool) → drawNumber (a .frame) (length (a .buf .now)) (a .colour) 0 ≡ 0 → ((x z : ℤ) → Decides (figure x z) (Spanned t x z))
-          → paint .paint-span .last .0 ≡ painted (raster (a .frame)) (inside (a .pane) (above figure v)) (a .colour) (a .buf .now)))
+          × ((figure : ℤ → ℤ → Bool) → Ready (a .brush) (length (a .buf .now)) → ((x z : ℤ) → Decides (figure x z) (Spanned t x z))
+          → paint .paint-span .last .0 ≡ brushed (a .brush) (above figure v) (a .buf .now)))
           (sym (next-back h)) (
             done .walk,
             λ figure ok says.
                 paint .paint-span .ensures
-                ∙ (λ i. painted (raster (a .frame)) (inside (a .pane) (spanFigure (y h) (low-back i) (end-is told i))) (a .colour) (l .inv .2 t b .1 figure ok says i))
-                ∙ rows-turn (raster (a .frame)) (sound-at (a .frame) (length (a .buf .now)) (a .colour) ok) (a .pane) (a .colour) (a .buf .now) figure (y h) (r .low) (r .high +ℤ pos 1)
-                (λ u v hu hv e. row-columns t figure says (y h) r done u v (omega (arith, is-drawable (a .frame) (length (a .buf .now)) (a .colour) ok .accepted .described .width)) e),
+                ∙ (λ i. brushed (a .brush) (spanFigure (y h) (low-back i) (end-is told i)) (l .inv .2 t b .1 figure ok says i))
+                ∙ rows-turn (a .brush) (brush-sound ok) (a .buf .now) figure (y h) (r .low) (r .high +ℤ pos 1)
+                (λ u v hu hv e. row-columns t figure says (y h) r done u v (omega (arith, ok .drawable .accepted .described .width)) e),
           ),
     )
 
@@ -163,7 +160,7 @@ returns c =
     let g = begun s b in
     let past : toZ w32 (ofZ w32 (a .bottom)) <ℤ toZ w32 (l .y) = search tests in
     l .inv .2 t g .1 figure (s .pre .0) says
-    ∙ rows-end (raster (a .frame)) (sound-at (a .frame) (length (a .buf .now)) (a .colour) (s .pre .0)) (a .pane) (a .colour) (a .buf .now) figure (toZ w32 (l .y))
+    ∙ rows-end (a .brush) (brush-sound (s .pre .0)) (a .buf .now) figure (toZ w32 (l .y))
     (λ u v k. none-below t figure says u v (nat-lt (omega (arith, lt-nat past, le-nat k, eq-nat (g .last)))))
 
 pub fill-rows-spec : {M : Type 1} → statement M

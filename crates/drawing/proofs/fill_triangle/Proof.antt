@@ -21,7 +21,7 @@ sorted-yx-requires : tie.Need-sorted-yx-requires
 sorted-yx-requires c κs = search needs
 
 is-solid-requires : tie.Need-is-solid-requires
-is-solid-requires c κs = c .before .before .before .before .before .pre .2
+is-solid-requires c κs = c .before .before .before .before .before .pre .1
 
 -- from the walks on
 module _ (c : tie.After-new) where
@@ -37,7 +37,7 @@ module _ (c : tie.After-new) where
   begun : (let a = entry .args in let t = vertices .sorted-yx .result in Begun (shape (a .v1) (a .v2) (a .v3)) (t .p1 .1) (t .p3 .1) (c .new .result))
   begun =
       let a = entry .args in
-      begun-at (begun-fresh (a .v1) (a .v2) (a .v3) (sorted-all Bounded (a .v1) (a .v2) (a .v3) (entry .pre .2 .0) (entry .pre .2 .1) (entry .pre .2 .2)) (c .new .result) fresh)
+      begun-at (begun-fresh (a .v1) (a .v2) (a .v3) (sorted-all Bounded (a .v1) (a .v2) (a .v3) (entry .pre .1 .0) (entry .pre .1 .1) (entry .pre .1 .2)) (c .new .result) fresh)
       (ap (λ (t : Sorted). t .p1 .1) (vertices .sorted-yx .ensures)) (ap (λ (t : Sorted). t .p3 .1) (vertices .sorted-yx .ensures))
 
 -- the rows as they are read
@@ -50,13 +50,13 @@ begun-read c =
 new-requires : tie.Need-new-requires
 new-requires c κs =
     let s = c .before .before .before .before .before .before in
-    let all = sorted-bounded (s .args .v1) (s .args .v2) (s .args .v3) _ (c .before .before .before .before .sorted-yx .ensures) (s .pre .2) in
+    let all = sorted-bounded (s .args .v1) (s .args .v2) (s .args .v3) _ (c .before .before .before .before .sorted-yx .ensures) (s .pre .1) in
     (all .first, all .second, all .third)
 
 fill-rows-requires : tie.Need-fill-rows-requires
 fill-rows-requires c κs =
     let s = entry (c .before .before .before) in
-    (s .pre .0, s .pre .1, record { t = shape (s .args .v1) (s .args .v2) (s .args .v3); begun = begun-read c })
+    (s .pre .0, record { t = shape (s .args .v1) (s .args .v2) (s .args .v3); begun = begun-read c })
 
 same-length : tie.Need-same-length
 same-length c = search needs

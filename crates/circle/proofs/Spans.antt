@@ -14,17 +14,17 @@ use Rattle.whole.proofs.Decides.{decides-map, decides-between, decides-leb, dec
 use Rattle.whole.proofs.Difference.{le-nat, lt-nat, nat-le, nat-lt, nat-eq, sum-nat}
 use Rattle.geometry.specs.declared.Point.{Point}
 use Rattle.geometry.specs.Answer.{verdict, span}
-use Rattle.circle.specs.Circle.{thresholdOf, contained, boxColumn, boxRow, inBox, first, leadOf, spanStart, spanEnd}
+use Rattle.circle.specs.Circle.{thresholdOf, contained, boxColumn, boxRow, inBox, firstPassing, leadOf, spanStart, spanEnd}
 use Rattle.circle.specs.Root.{Root}
 use Rattle.circle.proofs.Roots.{Rooted, rooted, square-mono, square-below}
 use Rattle.circle.proofs.Containment.{away, contained-is, threshold-high, threshold-low, inner-decides, inner-is, less-nat, side-is, outside}
 
 -- ---- a search ends at the first number that passes
-first-is : (test : ℕ → Bool) (k n r : ℕ) → ((j : ℕ) → j < r → test j ≡ false) → test r ≡ true → k ≤ r → r < k + n → first test k n ≡ r
-first-is test k zero r before at h g = absurd (omega arith)
-first-is test k (suc n) r before at h g = by (decLe (suc k) r) (λ q. first-is test (suc k) n r before at q (omega arith))
+passing-is : (test : ℕ → Bool) (k n r : ℕ) → ((j : ℕ) → j < r → test j ≡ false) → test r ≡ true → k ≤ r → r < k + n → firstPassing test k n ≡ r
+passing-is test k zero r before at h g = absurd (omega arith)
+passing-is test k (suc n) r before at h g = by (decLe (suc k) r) (λ q. passing-is test (suc k) n r before at q (omega arith))
   where
-    by : Dec (suc k ≤ r) → (suc k ≤ r → first test (suc k) n ≡ r) → cond (test k) k (first test (suc k) n) ≡ r
+    by : Dec (suc k ≤ r) → (suc k ≤ r → firstPassing test (suc k) n ≡ r) → cond (test k) k (firstPassing test (suc k) n) ≡ r
     by (yes q) on = rw (before k q) (on q)
     by (no q) on =
         let e : k ≡ r = omega arith in
@@ -82,7 +82,7 @@ module _ (c : Point) (d : ℕ) (y : ℤ) (row : boxRow c d y ≡ true) (s : ℕ)
   -- the search for the first contained column ends at what the root leaves out
   pub lead-is : leadOf c d y ≡ out
   lead-is =
-      first-is (λ j. contained c d (c .0 +ℤ pos j, y)) 0 d out
+      passing-is (λ j. contained c d (c .0 +ℤ pos j, y)) 0 d out
       (λ j h. row-columns (c .0 +ℤ pos j) ∙ decides-no (inner-decides (c .0) (c .0 +ℤ pos j) d out) (λ q. omega (arith, q .0, sum-nat (c .0 +ℤ pos j) (c .0) j refl)))
       (row-columns (c .0 +ℤ pos out) ∙ decides-yes (inner-decides (c .0) (c .0 +ℤ pos out) d out) (
         omega (arith, sum-nat (c .0 +ℤ pos out) (c .0) out refl),

@@ -121,8 +121,9 @@ pub fn contains(topleft: Point, diameter: u32, p: Point) -> Verdict
     }
 }
 
-// How many columns of the box come before the first contained one, on a row of the box. A column is contained exactly if it is at most dx
-// half pixels from the centre, so of the rest of the side one half comes before and the other after.
+// How many columns of the box come before the first contained one, on a row of the box. dy and dx count half pixels: a column is contained exactly
+// if it is at most dx from the centre, and the box's first column is diameter - 1 from it. Half of what lies between, rounded up, is a number of
+// columns: in that last division the half pixels end, and nothing after it is doubled.
 fn lead(topleft: Point, diameter: u32, y: i32) -> u32
     requires { ⌜ Fits topleft diameter × (inBox topleft diameter (topleft .0, y) ≡ true) ⌝ }
     ensures { λ r. ⌜ r ≡ leadOf topleft diameter y ⌝ }

@@ -2,17 +2,12 @@
 // contains.
 ghost use mathlib.Core.Path.{_≡_};
 ghost use mathlib.Core.List.{_++_};
-ghost use mathlib.Core.Bool.{Bool, not};
-ghost use lib.IntN.{ℤ};
 ghost use lib.ListN.{length};
-ghost use Rattle.whole.specs.Decides.{Decides};
 ghost use Rattle.refusals.specs.First.{first};
 ghost use Rattle.geometry.specs.Bound.{Bounded};
 ghost use Rattle.line.specs.Answer.{endTests};
 ghost use Rattle.triangle.specs.Answer.{vertexTests};
-ghost use Rattle.triangle.specs.Triangle.{isFlat};
 ghost use Rattle.circle.specs.Refusal.{Fits, circleTests};
-ghost use Rattle.edges.specs.Shape.{Shape, Spanned, Begun, Ready as Standing};
 ghost use Rattle.framebuffer.specs.Description.{drawTests};
 ghost use Rattle.framebuffer.specs.Drawing.{outcome};
 ghost use Rattle.framebuffer.specs.Judged.{Ready, brushed};
@@ -144,41 +139,24 @@ pub fn draw_circle(
     Drawn { number }
 }
 
-// The rows of a triangle from top to bottom, from walks that stand at its top, as far as the rectangle holds them.
-fn fill_rows(buf: &mut [u8], brush: Brush, walk: edges::Walk, top: i32, bottom: i32)
-    requires { ⌜ Ready brush (length (now buf)) × Standing top bottom walk ⌝ }
-    ensures { λ r. ⌜ ((t : Shape) (figure : ℤ → ℤ → Bool) → Begun t top bottom walk → ((x y : ℤ) → Decides (figure x y) (Spanned t x y)) → now (buf .exit) ≡ brushed brush figure (now (buf .entry))) ⌝ }
-{
-    let mut w = walk;
-    let mut y = top;
-    while y <= bottom {
-        let row = w.row(y);
-        let end = row.high + 1;
-        framebuffer::paint_span(buf, brush, y, row.low, end);
-        w = row.walk;
-        y += 1;
-    }
-}
-
-// Whether an accepted triangle has an area.
-fn is_solid(v1: Point, v2: Point, v3: Point) -> bool
-    requires { ⌜ Bounded v1 × Bounded v2 × Bounded v3 ⌝ }
-    ensures { λ r. ⌜ r ≡ not (isFlat v1 v2 v3) ⌝ }
-{
-    triangle::area_doubled(v1, v2, v3) != 0
-}
-
-// The rows of an accepted triangle, as far as the rectangle holds them.
+// The rows of an accepted triangle from the top down, each from the walks along its edges, as far as the rectangle holds them.
 fn fill_triangle(buf: &mut [u8], brush: Brush, v1: Point, v2: Point, v3: Point)
     requires { ⌜ Ready brush (length (now buf)) × (Bounded v1 × Bounded v2 × Bounded v3) ⌝ }
     ensures { λ r. ⌜ now (buf .exit) ≡ brushed brush (triangleFigure v1 v2 v3) (now (buf .entry)) ⌝ }
 {
     let t = triangle::sorted_yx(v1, v2, v3);
-    let p1 = t.p1;
-    let p2 = t.p2;
-    let p3 = t.p3;
-    let walk = edges::Walk::new(p1, p2, p3, is_solid(v1, v2, v3));
-    fill_rows(buf, brush, walk, p1.1, p3.1);
+    let top = t.p1;
+    let last = t.p3;
+    let bottom = last.1;
+    let mut walk = edges::Walk::new(t, triangle::is_solid(v1, v2, v3));
+    let mut y = top.1;
+    while y <= bottom {
+        let row = walk.row(y);
+        let end = row.high + 1;
+        framebuffer::paint_span(buf, brush, y, row.low, end);
+        walk = row.walk;
+        y += 1;
+    }
 }
 
 // Draws a filled triangle.

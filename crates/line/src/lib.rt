@@ -180,7 +180,7 @@ pub fn moves_at(major: u32, up: u32, k: u32) -> u32
 }
 
 // The coordinate that is so many major and minor moves from a, each move being -1, 0 or 1.
-fn placed(a: i32, major: i32, along: i32, minor: i32, across: i32) -> i32
+fn coordinate(a: i32, major: i32, along: i32, minor: i32, across: i32) -> i32
     requires { ⌜ Placing a major along minor across ⌝ }
     ensures { λ r. ⌜ r ≡ a +ℤ major *ℤ along +ℤ minor *ℤ across ⌝ }
 {
@@ -195,8 +195,8 @@ fn point_at(start: Point, end: Point, step: u32) -> Point
     let c = course_of(start, end);
     let m = moves_at(c.threshold as u32, c.up as u32, step) as i32;
     let k = step as i32;
-    let x = placed(start.0, c.xmajor, k, c.xminor, m);
-    let y = placed(start.1, c.ymajor, k, c.yminor, m);
+    let x = coordinate(start.0, c.xmajor, k, c.xminor, m);
+    let y = coordinate(start.1, c.ymajor, k, c.yminor, m);
     Point(x, y)
 }
 
@@ -260,10 +260,11 @@ pub fn point(start: Point, end: Point, step: u32) -> Step
 fn progress(a: i32, b: i32, p: i32) -> i64
     ensures { λ r. ⌜ r ≡ toward a b *ℤ (p -ℤ a) ⌝ }
 {
+    let d = p as i64 - a as i64;
     if a <= b {
-        return p as i64 - a as i64;
+        return d;
     }
-    a as i64 - p as i64
+    -d
 }
 
 // Whether `across` are the moves along the minor axis at step `along`: the doubled area between the ideal line and the point is within the band

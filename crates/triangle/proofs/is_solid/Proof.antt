@@ -1,4 +1,4 @@
--- `drawing::is_solid` tests the doubled area. Assumes nothing.
+-- `triangle::is_solid` tests the doubled area. Assumes nothing.
 use mathlib.Core.Path.{ap, _∙_}
 use mathlib.Core.Bool.{not}
 use lib.IntN.{ℤ, pos}
@@ -7,9 +7,9 @@ use mir.Val.{SFits}
 use borrow.Author.Needs.{needs}
 use Rattle.whole.specs.Equal.{eqZ}
 use Rattle.whole.proofs.Machine.{zero-test}
 use Rattle.triangle.specs.Triangle.{isFlat}
-use Rattle.drawing.proofs.is_solid.Statement.{statement}
-use Rattle.drawing.proofs.is_solid.Tie as tie
+use Rattle.triangle.proofs.is_solid.Statement.{statement}
+use Rattle.triangle.proofs.is_solid.Tie as tie
 
 area-doubled-requires : tie.Need-area-doubled-requires
 area-doubled-requires c κs = search needs

@@ -1,11 +1,11 @@
--- `line::placed` is the sum that it says, of small numbers. Assumes nothing.
+-- `line::coordinate` is the sum that it says, of small numbers. Assumes nothing.
 use lib.IntN.{_*ℤ_}
 use mir.Syntax.{w32}
 use mir.Val.{toZ, ofZ}
 use Rattle.whole.proofs.Machine.{Has, read, plus, times, fits, back}
 use Rattle.geometry.proofs.Bound.{coord}
-use Rattle.line.proofs.placed.Statement.{statement}
-use Rattle.line.proofs.placed.Tie as tie
+use Rattle.line.proofs.coordinate.Statement.{statement}
+use Rattle.line.proofs.coordinate.Tie as tie
 
 -- the sum, part by part, as the code works it out
 module _ (c : tie.Start) where
@@ -30,5 +30,5 @@ add-result-2 c = fits (plus (back (plus (back (coord (c .pre .from))) (back (alo
 returns : tie.Need-returns
 returns c = back (plus (back (plus (back (coord (c .pre .from))) (back (along c)) tt)) (back (across c)) tt) .is
 
-pub placed-spec : {M : Type 1} → statement M
-placed-spec = tie.close (tie.spec mul-result add-result mul-result-2 add-result-2 returns)
+pub coordinate-spec : {M : Type 1} → statement M
+coordinate-spec = tie.close (tie.spec mul-result add-result mul-result-2 add-result-2 returns)

@@ -1,4 +1,4 @@
--- `triangle::in_order` compares rows, and columns where the rows are the same. Assumes nothing.
+-- `geometry::in_order` compares rows, and columns where the rows are the same. Assumes nothing.
 use mathlib.Core.Path.{_≡_, sym, ap, _∙_}
 use mathlib.Core.Bool.{Bool, cond}
 use lib.Signed.{leZ, ltZ}
@@ -7,10 +7,10 @@ use mir.Val.{SFits, ofZ}
 use borrow.Author.Needs.{sfits-of}
 use Rattle.whole.proofs.Decides.{decides-eq, decides-yes, decides-no}
 use Rattle.whole.proofs.Machine.{le-test, lt-test, eq-bits}
 use Rattle.geometry.specs.declared.Point.{Point}
-use Rattle.triangle.specs.Order.{before}
-use Rattle.triangle.proofs.in_order.Statement.{statement}
-use Rattle.triangle.proofs.in_order.Tie as tie
+use Rattle.geometry.specs.Place.{before}
+use Rattle.geometry.proofs.in_order.Statement.{statement}
+use Rattle.geometry.proofs.in_order.Tie as tie
 
 same-row : (a b : Point) → a .1 ≡ b .1 → leZ (a .0) (b .0) ≡ before a b
 unfolding before

@@ -12,12 +12,12 @@ shift-requires : tie.Need-shift-requires
 shift-requires c κs = search needs
 
 shl-merge : tie.Need-shl-merge
-shl-merge c = omega (arith, shift-small (c .before .args .depth) (c .before .args .x) (c .before .pre .0 .good) (c .before .pre .0 .small) (c .shift .ensures))
+shl-merge c = omega (arith, shift-small (c .before .args .depth) _ (c .before .pre .0 .good) (c .before .pre .0 .small) (c .shift .ensures))
 
 cast-merge : tie.Need-cast-merge
 cast-merge c =
     let s = c .before in
-    record { fits = moved-fits (s .args .depth) (s .args .x) (s .pre .0 .good) (s .pre .0 .small) (c .shift .result) (c .shift .ensures) (s .args .colour) (s .pre .1) }
+    record { fits = moved-fits (s .args .depth) _ (s .pre .0 .good) (s .pre .0 .small) (c .shift .result) (c .shift .ensures) (s .args .colour) (s .pre .1) }
 
 mask-requires : tie.Need-mask-requires
 mask-requires c κs = search needs

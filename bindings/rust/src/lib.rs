@@ -33,6 +33,11 @@
 #[cfg(all(no_archive, not(doc)))]
 compile_error!(env!("NO_ARCHIVE"));
 
+// The examples of the page for those who come from embedded-graphics are tests too.
+#[cfg(doctest)]
+#[doc = include_str!("../../../docs/FROM-EMBEDDED-GRAPHICS.md")]
+struct FromEmbeddedGraphics;
+
 mod circle;
 mod contains;
 mod filled;

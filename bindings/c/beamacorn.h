@@ -8,7 +8,7 @@
  * Every function takes whatever numbers it is given. An answer's `number` is 0, or says why the call was refused; several reasons give the lowest.
  * With a refusal every other number of the answer is 0, `yes` is false, and no byte of the buffer is changed. So no value means anything before the
  * number was looked at, and `false` alone does not mean "outside": ask `beamacorn_says`, which has three answers. With BEAMACORN_STRICT defined, GCC
- * and Clang warn wherever a program reads `yes` itself.
+ * and Clang warn wherever a C program reads `yes` itself.
  *
  * The range: coordinates of a vertex, of a line end and of a circle's top-left corner are accepted from -131,072 to 131,071; x grows to the right, y
  * downwards. A pixel or a row that is asked about, or set, may be any int32_t. A frame has at most 2,048 by 2,048 pixels.
@@ -30,7 +30,7 @@
 #define BEAMACORN_VERSION_MINOR 1
 #define BEAMACORN_VERSION_PATCH 0
 
-#if defined BEAMACORN_STRICT && defined __GNUC__
+#if defined BEAMACORN_STRICT && defined __GNUC__ && !defined __cplusplus
 #define BEAMACORN_BEHIND_THE_NUMBER __attribute__((deprecated("no with a refusal too: ask beamacorn_says")))
 #else
 #define BEAMACORN_BEHIND_THE_NUMBER
@@ -68,7 +68,7 @@ typedef enum {
     BEAMACORN_SAYS_NOTHING /* refused: `number` says why */
 } beamacorn_said;
 
-#if defined BEAMACORN_STRICT && defined __GNUC__
+#if defined BEAMACORN_STRICT && defined __GNUC__ && !defined __cplusplus
 #pragma GCC diagnostic push
 #pragma GCC diagnostic ignored "-Wdeprecated-declarations"
 #endif
@@ -89,7 +89,7 @@ static inline beamacorn_said beamacorn_says(beamacorn_verdict verdict)
     }
     return verdict.yes ? BEAMACORN_SAYS_YES : BEAMACORN_SAYS_NO;
 }
-#if defined BEAMACORN_STRICT && defined __GNUC__
+#if defined BEAMACORN_STRICT && defined __GNUC__ && !defined __cplusplus
 #pragma GCC diagnostic pop
 #endif
 

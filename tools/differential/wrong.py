@@ -1,4 +1,4 @@
-"""Models that are wrong in one way each: the mistakes that look right of 01 (docs/RULES.md) and others of their kind, which a run must find."""
+"""Models that are wrong in one way each: the errors that look right of 01 (docs/RULES.md) and others of their kind, which a run must find."""
 
 from contextlib import contextmanager
 from unittest.mock import patch

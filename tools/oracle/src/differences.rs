@@ -1,4 +1,4 @@
-//! The two differences in `Triangle::contains` that 01 (docs/RULES.md) names among the mistakes that look right, as rules:
+//! The two differences in `Triangle::contains` that 01 (docs/RULES.md) names among the errors that look right, as rules:
 //! for which triangle and pixel each holds, what the Rust says there and what 01 says.
 
 use embedded_graphics::{

@@ -1,16 +1,21 @@
 /*
- * Beamacorn: lines, triangles, circles and packed frames, exact for every input.
+ * Beamacorn: lines, triangles, circles and packed frames, exact for every input. docs/RULES.md has the rules.
  *
- * Link target/staticlib/libbeamacorn.a, which `rt staticlib beamacorn` proves and writes. It needs nothing but the C library's memory functions,
+ * Link libbeamacorn.a, which `rt staticlib beamacorn` proves and writes to target/staticlib. It needs nothing but the C library's memory functions,
  * allocates nothing and keeps nothing between calls, so that any thread may call at any time; two calls at once must not lend the same buffer if one
  * of them draws.
  *
  * Every function takes whatever numbers it is given. An answer's `number` is 0, or says why the call was refused; several reasons give the lowest.
- * With a refusal every other number of the answer is 0, `yes` is false, and no byte of the buffer is changed. `false` alone does not
- * mean "outside": look at the number first.
+ * With a refusal every other number of the answer is 0, `yes` is false, and no byte of the buffer is changed. So no value means anything before the
+ * number was looked at, and `false` alone does not mean "outside": ask `beamacorn_says`, which has three answers. With BEAMACORN_STRICT defined, GCC
+ * and Clang warn wherever a C program reads `yes` itself.
  *
- * Coordinates: x grows to the right, y downwards. Those of a vertex, of a line end and of a circle's top-left corner are accepted from -131,072 to
- * 131,071. A pixel or a row that is asked about, or set, may be any int32_t.
+ * The range: coordinates of a vertex, of a line end and of a circle's top-left corner are accepted from -131,072 to 131,071; x grows to the right, y
+ * downwards. A pixel or a row that is asked about, or set, may be any int32_t. A frame has at most 2,048 by 2,048 pixels.
+ *
+ * What is larger must be counted in a larger unit before it is asked about. A wedge of 160,000 Mbit/s fits in units of 10 Mbit/s; the answer is then that
+ * of the coarser grid, and a sample within one unit of an edge may count otherwise. The 604,800 seconds of a week do not fit: use the second of the day or
+ * the minute of the week.
  */
 #ifndef BEAMACORN_H
 #define BEAMACORN_H
@@ -18,6 +23,18 @@
 #include <stdbool.h>
 #include <stddef.h>
 #include <stdint.h>
+
+/* The version of this header and of the library, as in CHANGELOG.md. */
+#define BEAMACORN_VERSION "0.1.0"
+#define BEAMACORN_VERSION_MAJOR 0
+#define BEAMACORN_VERSION_MINOR 1
+#define BEAMACORN_VERSION_PATCH 0
+
+#if defined BEAMACORN_STRICT && defined __GNUC__ && !defined __cplusplus
+#define BEAMACORN_BEHIND_THE_NUMBER __attribute__((deprecated("no with a refusal too: ask beamacorn_says")))
+#else
+#define BEAMACORN_BEHIND_THE_NUMBER
+#endif
 
 #ifdef __cplusplus
 extern "C" {
@@ -38,11 +55,43 @@ enum {
 
 /* ---- Questions on lines, triangles and circles. These stay as they are. ---- */
 
-/* A yes or no; no with a refusal. */
+/* A yes or no; no with a refusal, so that `yes` says something only where `number` is 0. */
 typedef struct {
     uint32_t number;
-    bool yes;
+    bool yes BEAMACORN_BEHIND_THE_NUMBER;
 } beamacorn_verdict;
+
+/* What a verdict says. None of the three is another in disguise, and a compiler warns of a `switch` that leaves one out. */
+typedef enum {
+    BEAMACORN_SAYS_NO,
+    BEAMACORN_SAYS_YES,
+    BEAMACORN_SAYS_NOTHING /* refused: `number` says why */
+} beamacorn_said;
+
+#if defined BEAMACORN_STRICT && defined __GNUC__ && !defined __cplusplus
+#pragma GCC diagnostic push
+#pragma GCC diagnostic ignored "-Wdeprecated-declarations"
+#endif
+/*
+ * Yes, no, or nothing with a refusal.
+ *
+ *     beamacorn_verdict inside = beamacorn_triangle_contains(0, 0, 86400, 0, 0, 40000, second, load);
+ *     switch (beamacorn_says(inside)) {
+ *     case BEAMACORN_SAYS_YES: ++minutes; break;
+ *     case BEAMACORN_SAYS_NO: break;
+ *     case BEAMACORN_SAYS_NOTHING: return refused(inside.number);
+ *     }
+ */
+static inline beamacorn_said beamacorn_says(beamacorn_verdict verdict)
+{
+    if (verdict.number != BEAMACORN_DONE) {
+        return BEAMACORN_SAYS_NOTHING;
+    }
+    return verdict.yes ? BEAMACORN_SAYS_YES : BEAMACORN_SAYS_NO;
+}
+#if defined BEAMACORN_STRICT && defined __GNUC__ && !defined __cplusplus
+#pragma GCC diagnostic pop
+#endif
 
 /* A row's columns, from `start` to one before `end`; 0 to 0 where there are none. */
 typedef struct {
@@ -74,6 +123,9 @@ typedef struct {
 /*
  * How many points the line from (x1, y1) to (x2, y2) has: one more than the larger of its width and its height.
  * Refused with 5.
+ *
+ *     beamacorn_length line = beamacorn_line_length(0, 0, 5, 2);
+ *     if (line.number == 0) { walk(line.points); }
  */
 beamacorn_length beamacorn_line_length(int32_t x1, int32_t y1, int32_t x2, int32_t y2);
 
@@ -81,12 +133,19 @@ beamacorn_length beamacorn_line_length(int32_t x1, int32_t y1, int32_t x2, int32
  * The point of the line from (x1, y1) to (x2, y2) at a step. Step 0 is the start, the number of points less 1 is the end. Which pixels lie between
  * depends on the end that the line starts from.
  * Refused with 5, and with 7 for a later step.
+ *
+ *     beamacorn_step at = beamacorn_line_point(0, 0, 5, 2, 3);
+ *     if (at.number == 0) { visit(at.x, at.y); }
  */
 beamacorn_step beamacorn_line_point(int32_t x1, int32_t y1, int32_t x2, int32_t y2, uint32_t step);
 
 /*
  * Whether the pixel (x, y) is a point of the line from (x1, y1) to (x2, y2). Its cost does not grow with the line.
  * Refused with 5.
+ *
+ *     beamacorn_verdict on = beamacorn_line_has_point(0, 0, 5, 2, 3, 1);
+ *     if (on.number != 0) { return refused(on.number); }
+ *     if (beamacorn_says(on) == BEAMACORN_SAYS_YES) { visit(3, 1); }
  */
 beamacorn_verdict beamacorn_line_has_point(int32_t x1, int32_t y1, int32_t x2, int32_t y2, int32_t x, int32_t y);
 
@@ -95,18 +154,28 @@ beamacorn_verdict beamacorn_line_has_point(int32_t x1, int32_t y1, int32_t x2, i
  * the pixel (x, y). A point of an edge is contained, the edge walked from its upper end, or from the left one where it is level; an outline
  * walks its edges in the order given, and may have others. Its cost does not grow with the triangle.
  * Refused with 5.
+ *
+ *     beamacorn_verdict inside = beamacorn_triangle_contains(0, 0, 86400, 0, 0, 40000, second, load);
+ *     if (inside.number != 0) { return refused(inside.number); }
+ *     minutes += beamacorn_says(inside) == BEAMACORN_SAYS_YES;
  */
 beamacorn_verdict beamacorn_triangle_contains(int32_t x1, int32_t y1, int32_t x2, int32_t y2, int32_t x3, int32_t y3, int32_t x, int32_t y);
 
 /*
  * The triangle's first row, and how many rows it has: at least 1.
  * Refused with 5.
+ *
+ *     beamacorn_rows rows = beamacorn_triangle_rows(0, 0, 4, 2, 2, 1);
+ *     if (rows.number == 0) { visit_rows(rows.first, rows.count); }
  */
 beamacorn_rows beamacorn_triangle_rows(int32_t x1, int32_t y1, int32_t x2, int32_t y2, int32_t x3, int32_t y3);
 
 /*
  * The columns of row y that the triangle contains: 0 to 0 for a row above or below it. Its cost does not grow with the triangle.
  * Refused with 5.
+ *
+ *     beamacorn_span row = beamacorn_triangle_row_span(0, 0, 4, 2, 2, 1, y);
+ *     if (row.number == 0) { for (int32_t x = row.start; x < row.end; ++x) { visit(x, y); } }
  */
 beamacorn_span beamacorn_triangle_row_span(int32_t x1, int32_t y1, int32_t x2, int32_t y2, int32_t x3, int32_t y3, int32_t y);
 
@@ -114,12 +183,19 @@ beamacorn_span beamacorn_triangle_row_span(int32_t x1, int32_t y1, int32_t x2, i
  * Whether the circle whose box has the top-left corner (left, top) and sides of `diameter` pixels contains the pixel (x, y). The diameter 0
  * contains nothing.
  * Refused with 5, and with 6 where the box ends past 131,072.
+ *
+ *     beamacorn_verdict inside = beamacorn_circle_contains(0, 0, 3, x, y);
+ *     if (inside.number != 0) { return refused(inside.number); }
+ *     if (beamacorn_says(inside) == BEAMACORN_SAYS_YES) { visit(x, y); }
  */
 beamacorn_verdict beamacorn_circle_contains(int32_t left, int32_t top, uint32_t diameter, int32_t x, int32_t y);
 
 /*
  * The columns of row y that the circle contains: 0 to 0 for a row outside its box.
  * Refused with 5, and with 6 where the box ends past 131,072.
+ *
+ *     beamacorn_span row = beamacorn_circle_row_span(0, 0, 3, y);
+ *     if (row.number == 0) { for (int32_t x = row.start; x < row.end; ++x) { visit(x, y); } }
  */
 beamacorn_span beamacorn_circle_row_span(int32_t left, int32_t top, uint32_t diameter, int32_t y);
 
@@ -154,12 +230,18 @@ typedef struct {
 /*
  * How many bytes a buffer for the frame must have, in either order.
  * Refused with 1 and 2.
+ *
+ *     beamacorn_size frame = beamacorn_frame_size(320, 200, 1);
+ *     if (frame.number == 0) { buf = calloc(frame.bytes, 1); }
  */
 beamacorn_size beamacorn_frame_size(uint32_t width, uint32_t height, uint32_t depth);
 
 /*
  * Sets the pixel (x, y) to the colour. Outside the frame that is done, and changes nothing.
  * Refused with 1 to 4.
+ *
+ *     beamacorn_drawn call = beamacorn_set_pixel(buf, len, 320, 200, 1, 0, x, y, 1);
+ *     if (call.number != 0) { return refused(call.number); }
  */
 beamacorn_drawn beamacorn_set_pixel(uint8_t *buf, size_t len, uint32_t width, uint32_t height, uint32_t depth, uint32_t order,
                                     int32_t x, int32_t y, uint32_t colour);
@@ -167,6 +249,9 @@ beamacorn_drawn beamacorn_set_pixel(uint8_t *buf, size_t len, uint32_t width, ui
 /*
  * The colour of the pixel (x, y).
  * Refused with 1 to 3, and with 8 outside the frame.
+ *
+ *     beamacorn_read pixel = beamacorn_pixel(buf, len, 320, 200, 1, 0, x, y);
+ *     if (pixel.number == 0) { show(pixel.colour); }
  */
 beamacorn_read beamacorn_pixel(const uint8_t *buf, size_t len, uint32_t width, uint32_t height, uint32_t depth, uint32_t order,
                                int32_t x, int32_t y);
@@ -174,6 +259,9 @@ beamacorn_read beamacorn_pixel(const uint8_t *buf, size_t len, uint32_t width, u
 /*
  * Sets every pixel of the frame to the colour.
  * Refused with 1 to 4.
+ *
+ *     beamacorn_drawn call = beamacorn_fill(buf, len, 320, 200, 1, 0, 1);
+ *     if (call.number != 0) { return refused(call.number); }
  */
 beamacorn_drawn beamacorn_fill(uint8_t *buf, size_t len, uint32_t width, uint32_t height, uint32_t depth, uint32_t order,
                                uint32_t colour);
@@ -181,6 +269,9 @@ beamacorn_drawn beamacorn_fill(uint8_t *buf, size_t len, uint32_t width, uint32_
 /*
  * Draws the points of the line from (x1, y1) to (x2, y2) that lie in the frame.
  * Refused with 1 to 5.
+ *
+ *     beamacorn_drawn call = beamacorn_draw_line(buf, len, 320, 200, 1, 0, 0, 0, 5, 2, 1);
+ *     if (call.number != 0) { return refused(call.number); }
  */
 beamacorn_drawn beamacorn_draw_line(uint8_t *buf, size_t len, uint32_t width, uint32_t height, uint32_t depth, uint32_t order,
                                     int32_t x1, int32_t y1, int32_t x2, int32_t y2, uint32_t colour);
@@ -188,6 +279,9 @@ beamacorn_drawn beamacorn_draw_line(uint8_t *buf, size_t len, uint32_t width, ui
 /*
  * Draws the filled triangle: every pixel of the frame that beamacorn_triangle_contains says yes to.
  * Refused with 1 to 5.
+ *
+ *     beamacorn_drawn call = beamacorn_draw_triangle(buf, len, 320, 200, 1, 0, 0, 0, 9, 0, 0, 9, 1);
+ *     if (call.number != 0) { return refused(call.number); }
  */
 beamacorn_drawn beamacorn_draw_triangle(uint8_t *buf, size_t len, uint32_t width, uint32_t height, uint32_t depth, uint32_t order,
                                         int32_t x1, int32_t y1, int32_t x2, int32_t y2, int32_t x3, int32_t y3, uint32_t colour);
@@ -195,6 +289,9 @@ beamacorn_drawn beamacorn_draw_triangle(uint8_t *buf, size_t len, uint32_t width
 /*
  * Draws the triangle's outline: the lines from the first vertex to the second, on to the third, and back to the first.
  * Refused with 1 to 5.
+ *
+ *     beamacorn_drawn call = beamacorn_draw_outline(buf, len, 320, 200, 1, 0, 0, 0, 9, 0, 0, 9, 1);
+ *     if (call.number != 0) { return refused(call.number); }
  */
 beamacorn_drawn beamacorn_draw_outline(uint8_t *buf, size_t len, uint32_t width, uint32_t height, uint32_t depth, uint32_t order,
                                        int32_t x1, int32_t y1, int32_t x2, int32_t y2, int32_t x3, int32_t y3, uint32_t colour);
@@ -202,6 +299,9 @@ beamacorn_drawn beamacorn_draw_outline(uint8_t *buf, size_t len, uint32_t width,
 /*
  * Draws the filled circle: every pixel of the frame that beamacorn_circle_contains says yes to.
  * Refused with 1 to 6.
+ *
+ *     beamacorn_drawn call = beamacorn_draw_circle(buf, len, 320, 200, 1, 0, 10, 10, 25, 1);
+ *     if (call.number != 0) { return refused(call.number); }
  */
 beamacorn_drawn beamacorn_draw_circle(uint8_t *buf, size_t len, uint32_t width, uint32_t height, uint32_t depth, uint32_t order,
                                       int32_t left, int32_t top, uint32_t diameter, uint32_t colour);

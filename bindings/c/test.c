@@ -99,6 +99,13 @@ static void circles(void)
     CHECK(is_verdict(beamacorn_circle_contains(-131073, 0, 1, 0, 0), 5, false));
 }
 
+static void verdicts(void)
+{
+    CHECK(beamacorn_says(beamacorn_circle_contains(0, 0, 3, 1, 0)) == BEAMACORN_SAYS_YES);
+    CHECK(beamacorn_says(beamacorn_circle_contains(0, 0, 3, 0, 0)) == BEAMACORN_SAYS_NO);
+    CHECK(beamacorn_says(beamacorn_circle_contains(0, 131072, 3, 0, 0)) == BEAMACORN_SAYS_NOTHING);
+}
+
 static void frames(void)
 {
     uint8_t buf[8] = {0};
@@ -176,6 +183,7 @@ int main(void)
     lines();
     triangles();
     circles();
+    verdicts();
     frames();
     drawing();
     printf("%d checks, %d failed\n", checks, failures);

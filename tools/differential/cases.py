@@ -8,6 +8,7 @@ from .frames import Drawings
 from .refusals import Limits
 
 FRAMES = [*product((0, 1, 2, 3, 5, 8, 9, 13, 17, 24, 33), (0, 1, 2, 5, 12, 20)), (100, 80), (320, 9), (2, 2_048), (2_048, 2)]
+LONG_SIDE = 1_000
 
 
 def once_by_rust(random, sizes):
@@ -20,25 +21,38 @@ def once_by_rust(random, sizes):
         "triangles at the range's corners": corners.triangles(),
         "circles at the range's corners": corners.circles(),
         "every pixel of small frames": frames.every_pixel(random, sizes),
+        "drawing at the range's corners": frames.corners(random, common(sizes), corners.LOW, corners.HIGH),
     }
 
 
 def round_by_rust(random, sizes):
     """Kinds and what makes a batch, which the Rust can answer."""
     near = Figures(random, corners.LOW, corners.HIGH, corners.LOW, corners.HIGH)
-    drawings = Drawings(random, sizes, reach=4_000, with_fill=False, refused=0)
-    return {
+    drawings = Drawings(random, common(sizes), corners.LOW, corners.HIGH, with_fill=False, refused=0)
+    kinds = {
         "lines": lambda: near.lines(8_000),
         "triangles": lambda: near.triangles(8_000),
         "circles": lambda: near.circles(800),
         "drawing": lambda: drawings.sequences(300),
     }
+    if long_sizes := wide_and_high(sizes):
+        long_ones = Drawings(random, long_sizes, corners.LOW, corners.HIGH, with_fill=False, refused=0)
+        kinds["drawing on wide and high frames"] = lambda: long_ones.sequences(40)
+    return kinds
+
+
+def common(sizes):
+    return [size for size in sizes if max(size) < LONG_SIDE]
+
+
+def wide_and_high(sizes):
+    return [size for size in sizes if max(size) >= LONG_SIDE]
 
 
 def round_by_model(random):
     """Kinds and what makes a batch, beyond what the Rust can answer."""
     far = Figures(random, -131_072, 131_071, -(2**31), 2**31 - 1)
-    drawings = Drawings(random, FRAMES, reach=130_000, with_fill=True, refused=0.2)
+    drawings = Drawings(random, FRAMES, far.low, far.high, with_fill=True, refused=0.2)
     limits = Limits(random)
     return {
         "far lines": lambda: far.lines(1_000),

@@ -1,6 +1,6 @@
 """Frames and drawing calls, with the bytes after each: at the sizes that the Rust was compiled for, and at others."""
 
-from itertools import product
+from itertools import chain, product
 
 from model.frames import Frame
 from model.replay import BYTES, MOST_DUMPED
@@ -9,6 +9,8 @@ from .questions import asked
 
 DEPTHS = [1, 2, 4, 8, 16, 24, 32]
 SMALL = 200
+CORNER_DIAMETERS = [1, 4, 100, 8_191, 8_192, 8_193, 16_383, 16_384]
+AT_THE_ENDS = 0.05
 
 
 def size_of(width, height, depth):
@@ -37,11 +39,38 @@ def one_by_one(random, width, height, depth, order):
     return lines
 
 
-class Drawings:
-    """Sequences of calls on frames of the given sizes: on them, near them and as far off as reach; a share of the calls is refused."""
+def corners(random, sizes, low, high):
+    """Figures whose places are the range's corners and middles, up to the circle whose box is the whole range, each on a frame of its own."""
+    # Halfway out, where many points of a line are ties: one pixel more or less at its far end shows near the frame.
+    places = product([low, low // 2, -1, 0, (high + 1) // 2, high], repeat=2)
+    figures = [("line", *start, *end) for start, end in product(places, repeat=2)]
+    triples = product(product([low, -1, high], repeat=2), repeat=3)
+    figures += [(word, *chain(*vertices)) for vertices in triples for word in ("triangle", "outline")]
+    figures += [("circle", left, top, diameter) for diameter in CORNER_DIAMETERS for left, top in boxes(low, high, diameter)]
+    for word in ("line", "triangle", "outline", "circle"):
+        yield [line for figure in figures if figure[0] == word for line in drawn_alone(random, random.choice(sizes), figure)]
 
-    def __init__(self, random, sizes, reach, with_fill, refused):
-        self.random, self.sizes, self.reach, self.refused = random, sizes, reach, refused
+
+def boxes(low, high, diameter):
+    """Where a circle's box touches the ends of the range, and between."""
+    last = high + 1 - diameter
+    return product(sorted({low, last, (low + last) // 2}), repeat=2)
+
+
+def drawn_alone(random, size, figure):
+    """A figure on a frame of its own, and the bytes after."""
+    depth = random.choice([depth for depth in DEPTHS if size_of(*size, depth) <= BYTES])
+    bytes_of_frame = size_of(*size, depth)
+    frame = asked("frame", *size, depth, random.randrange(2), bytes_of_frame)
+    return [frame, asked(*figure, random.randint(1, 2**depth - 1)), *dumps(bytes_of_frame)]
+
+
+class Drawings:
+    """Sequences of calls on frames of the given sizes, with figures from low to high: on the frame, near it, far off and at the ends of the range. A share
+    of the calls is refused."""
+
+    def __init__(self, random, sizes, low, high, with_fill, refused):
+        self.random, self.sizes, self.low, self.high, self.refused = random, sizes, low, high, refused
         self.calls = [self.pixel, self.line, self.triangle, self.outline, self.circle] + [self.fill] * with_fill
 
     def sequences(self, count):
@@ -92,11 +121,19 @@ class Drawings:
         return self.triangle(width, height, colour, "outline")
 
     def circle(self, width, height, colour):
-        diameter = self.random.choice([self.random.randrange(6), self.random.randrange(2 * (width + height) + 6)])
-        left, top = self.place(width, height)
-        return asked("circle", left - diameter // 2, top - diameter // 2, diameter, colour)
+        """A circle about a place, moved until its box lies in the range."""
+        across = self.high - self.low + 1
+        likely = [6] * 3 + [2 * (width + height) + 6] * 3 + [2 ** self.random.randint(0, across.bit_length() - 1), across]
+        diameter = min(self.random.randint(0, self.random.choice(likely)), across)
+        corner = (self.bounded(centre - diameter // 2, self.high + 1 - max(diameter, 1)) for centre in self.place(width, height))
+        return asked("circle", *corner, diameter, colour)
 
     def place(self, width, height):
-        """A place in the frame, near it or far away."""
-        reach = self.random.choice([0, 0, 2, 10, self.reach])
-        return tuple(self.random.randint(-reach, max(side - 1, 0) + reach) for side in (width, height))
+        """A place in the frame, near it, far away or at an end of the range."""
+        if self.random.random() < AT_THE_ENDS:
+            return self.random.choice([self.low, self.high]), self.random.choice([self.low, self.high, 0])
+        reach = self.random.choice([0, 0, 2, 10, -self.low])
+        return tuple(self.bounded(self.random.randint(-reach, max(side - 1, 0) + reach), self.high) for side in (width, height))
+
+    def bounded(self, coordinate, most):
+        return max(self.low, min(coordinate, most))

@@ -1,4 +1,4 @@
-"""Lines of REPLAY.md that ask about one figure, and the places worth asking about."""
+"""Lines of docs/REPLAY.md that ask about one figure, and the places worth asking about."""
 
 from itertools import product
 

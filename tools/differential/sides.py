@@ -1,4 +1,4 @@
-"""The programs that answer lines: our own, the Rust and the model of 01."""
+"""The programs that answer lines: our own, the Rust and the model of 01 (docs/RULES.md)."""
 
 import subprocess
 import sys

@@ -1,4 +1,4 @@
-"""Models that are wrong in one way each: 01's "Errors that look right" and others of their kind, which a run must find."""
+"""Models that are wrong in one way each: the errors that look right of 01 (docs/RULES.md) and others of their kind, which a run must find."""
 
 from contextlib import contextmanager
 from unittest.mock import patch
@@ -12,10 +12,10 @@ from model.triangles import Triangle
 
 
 class WrongModel:
-    """Answers as the model would with one of its functions replaced."""
+    """Answers as the model would with one of its functions replaced. If a kind of cases is named, that kind must find it."""
 
-    def __init__(self, name, owner, function, replacement):
-        self.name = name
+    def __init__(self, name, owner, function, replacement, kind=None):
+        self.name, self.kind = name, kind
         self.change = patch.object(owner, function, replacement)
 
     def ask(self, batch):
@@ -52,6 +52,12 @@ def models():
         WrongModel("a refused call draws", Replay, "drawn", drawn_all_the_same),
         WrongModel("a circle's row is not shortened on the right", Circle, "span", not_shortened(Circle.span)),
         WrongModel("a line without its last point", Line, "contains", without_last(Line.contains)),
+        WrongModel("lines cut short at 8,190", Line, "__init__", cut_short(Line.__init__), "drawing at the range's corners"),
+        WrongModel("no circle from 16,000 on", Circle, "contains", small_circles(Circle.contains), "drawing at the range's corners"),
+        WrongModel("no points of a line beyond 4,000", Line, "__init__", near_lines(Line.__init__), "drawing"),
+        WrongModel("no circle from 6,000 on", Circle, "contains", small_circles(Circle.contains, 6_000), "drawing"),
+        WrongModel("columns from 1,024 on not painted", Frame, "paint", painted_to(1_024, 2_048), "drawing on wide and high frames"),
+        WrongModel("rows from 1,024 on not painted", Frame, "paint", painted_to(2_048, 1_024), "drawing on wide and high frames"),
     ]
 
 
@@ -125,3 +131,31 @@ def not_shortened(span):
 
 def without_last(contains):
     return lambda self, x, y: contains(self, x, y) and (x, y) != self.point(self.major)
+
+
+def cut_short(init):
+    return lambda self, *ends: init(self, *(min(coordinate, 8_190) for coordinate in ends))
+
+
+def near_lines(init):
+    """Lines with an end that far away are their start alone."""
+
+    def replacement(self, x1, y1, x2, y2):
+        far = max(map(abs, (x1, y1, x2, y2))) > 4_000 + 2_048
+        init(self, x1, y1, *((x1, y1) if far else (x2, y2)))
+
+    return replacement
+
+
+def small_circles(contains, least=16_000):
+    return lambda self, x, y: self.diameter < least and contains(self, x, y)
+
+
+def painted_to(columns, rows):
+    def paint(self, buffer, contains, colour):
+        for y in range(min(self.height, rows)):
+            for x in range(min(self.width, columns)):
+                if contains(x, y):
+                    self.set(buffer, x, y, colour)
+
+    return paint

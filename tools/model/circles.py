@@ -1,4 +1,4 @@
-"""01, "Circles"."""
+"""01 (docs/RULES.md), "Circles"."""
 
 from bisect import bisect_left
 

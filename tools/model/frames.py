@@ -1,4 +1,4 @@
-"""01, "Packed frames", and painting as demand 3 has it: every pixel of the frame that the figure contains is set."""
+"""01 (docs/RULES.md), "Packed frames", and painting as demand 3 has it: every pixel of the frame that the figure contains is set."""
 
 from dataclasses import dataclass
 

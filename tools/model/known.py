@@ -1,4 +1,4 @@
-"""01, "Known small answers" 1 to 14, the listing of `spans`, and the examples under "Errors that look right"."""
+"""The known answers 1 to 14 of 01 (docs/RULES.md), the listing of `spans`, and errors that look right."""
 
 # Under each number the lines that ask for it and, behind ->, the answers.
 KNOWN = """

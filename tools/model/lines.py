@@ -1,4 +1,4 @@
-"""01, "Lines"."""
+"""01 (docs/RULES.md), "Lines"."""
 
 from bisect import bisect_left, bisect_right
 

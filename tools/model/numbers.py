@@ -1,4 +1,4 @@
-"""01, "Numbers an operation may answer": each refusal by the table's words, and which one wins."""
+"""01 (docs/RULES.md), "Numbers an operation may answer": each refusal by the table's words, and which one wins."""
 
 
 def lowest(*tests):

@@ -1,4 +1,4 @@
-"""The program `replay` of REPLAY.md, over the model: a line in, a line out."""
+"""The program `replay` of docs/REPLAY.md, over the model: a line in, a line out."""
 
 import re
 from functools import lru_cache
@@ -31,7 +31,7 @@ line, triangle, circle = (lru_cache(maxsize=16)(figure) for figure in (Line, Tri
 
 
 class BadLine(Exception):
-    """A line that is none of REPLAY.md's."""
+    """A line that is none of docs/REPLAY.md's."""
 
 
 class Replay:

@@ -1,4 +1,4 @@
-"""01, "Triangles"."""
+"""01 (docs/RULES.md), "Triangles"."""
 
 from .lines import Line
 

@@ -1,4 +1,4 @@
-use crate::{Point, Refusal, library};
+use crate::{FilledPoints, Point, Rectangle, Refusal, filled::Figure, library};
 use core::ops::Range;
 
 /// A filled circle, by its box.
@@ -10,6 +10,9 @@ use core::ops::Range;
 /// assert_eq!(circle.contains(Point::new(0, 0)), Ok(false));
 /// assert_eq!(circle.row_span(0), Ok(1..2));
 /// assert_eq!(circle.row_span(1), Ok(0..3));
+/// assert_eq!(circle.rows(), Ok(0..3));
+/// assert!(circle.points()?.eq([(1, 0), (0, 1), (1, 1), (2, 1), (1, 2)].map(Point::from)));
+/// # Ok::<(), beamacorn::Refusal>(())
 /// ```
 #[derive(Clone, Copy, Debug, Default, Eq, Hash, PartialEq)]
 pub struct Circle {
@@ -26,14 +29,58 @@ impl Circle {
     }
 
     /// Whether the circle contains the pixel.
+    ///
+    /// # Errors
+    ///
+    /// [`Refusal::OUT_OF_BOUNDS`] if the corner is out of range, [`Refusal::CIRCLE_TOO_FAR`] if the box ends past 131,072.
     pub fn contains(&self, point: Point) -> Result<bool, Refusal> {
         let Circle { top_left, diameter } = *self;
         library::beamacorn_circle_contains(top_left.x, top_left.y, diameter, point.x, point.y).answer()
     }
 
     /// The columns of row `y` that the circle contains: `0..0` for a row outside its box.
+    ///
+    /// # Errors
+    ///
+    /// [`Refusal::OUT_OF_BOUNDS`] if the corner is out of range, [`Refusal::CIRCLE_TOO_FAR`] if the box ends past 131,072.
     pub fn row_span(&self, y: i32) -> Result<Range<i32>, Refusal> {
         let Circle { top_left, diameter } = *self;
         library::beamacorn_circle_row_span(top_left.x, top_left.y, diameter, y).answer()
+    }
+
+    /// The rows of the circle, from its first to one past its last: those of its box. Each has a pixel.
+    ///
+    /// # Errors
+    ///
+    /// [`Refusal::OUT_OF_BOUNDS`] if the corner is out of range, [`Refusal::CIRCLE_TOO_FAR`] if the box ends past 131,072.
+    pub fn rows(&self) -> Result<Range<i32>, Refusal> {
+        Ok(self.bounding_box()?.rows())
+    }
+
+    /// The pixels, row by row.
+    ///
+    /// # Errors
+    ///
+    /// [`Refusal::OUT_OF_BOUNDS`] if the corner is out of range, [`Refusal::CIRCLE_TOO_FAR`] if the box ends past 131,072.
+    pub fn points(&self) -> Result<FilledPoints, Refusal> {
+        Ok(FilledPoints::new(Figure::Circle(*self), self.rows()?))
+    }
+
+    /// The box that the circle is given by.
+    ///
+    /// # Errors
+    ///
+    /// [`Refusal::OUT_OF_BOUNDS`] if the corner is out of range, [`Refusal::CIRCLE_TOO_FAR`] if the box ends past 131,072.
+    pub fn bounding_box(&self) -> Result<Rectangle, Refusal> {
+        let Circle { top_left: Point { x, y }, diameter } = *self;
+        // Any row is refused if the circle is; an accepted one has its ends in an `i32`.
+        self.row_span(y)?;
+        Ok(Rectangle::spanning(x..x.saturating_add_unsigned(diameter), y..y.saturating_add_unsigned(diameter)))
+    }
+
+    /// The same circle moved.
+    #[must_use]
+    pub fn translate(&self, by: Point) -> Self {
+        Circle { top_left: self.top_left + by, ..*self }
     }
 }

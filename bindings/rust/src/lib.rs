@@ -14,20 +14,45 @@
 //! assert_eq!(far.contains(Point::new(0, 0)), Err(Refusal::OUT_OF_BOUNDS));
 //! ```
 //!
+//! # The range
+//!
 //! Coordinates of line ends, vertices and a circle's top-left corner are accepted from -131,072 to 131,071. A pixel or a row that is asked about may
 //! have any.
+//!
+//! What is larger must be counted in a larger unit before it is asked about: 160,000 Mbit/s are 16,000 units of 10 Mbit/s. The answer is then that of the
+//! coarser grid, and a sample within one unit of an edge may count otherwise. The 604,800 seconds of a week do not fit: use the second of the day or the
+//! minute of the week.
+//!
+//! # Refused is not no
+//!
+//! Never write `.unwrap_or(false)` behind [`contains`](Triangle::contains): it makes a wedge that is out of range one that contains nothing, and a busy
+//! link is billed as idle. Hand the refusal on with `?`, or count it.
 
 #![no_std]
 
+#[cfg(all(no_archive, not(doc)))]
+compile_error!(env!("NO_ARCHIVE"));
+
+// The examples of the page for those who come from embedded-graphics are tests too.
+#[cfg(doctest)]
+#[doc = include_str!("../../../docs/FROM-EMBEDDED-GRAPHICS.md")]
+struct FromEmbeddedGraphics;
+
 mod circle;
+mod contains;
+mod filled;
 mod library;
 mod line;
 mod point;
+mod rectangle;
 mod refusal;
 mod triangle;
 
 pub use circle::Circle;
+pub use contains::ContainsPoint;
+pub use filled::FilledPoints;
 pub use line::{Line, Points};
 pub use point::Point;
+pub use rectangle::{Rectangle, Size};
 pub use refusal::Refusal;
 pub use triangle::Triangle;

@@ -1,4 +1,4 @@
-use crate::{Point, Refusal, library};
+use crate::{Point, Rectangle, Refusal, library};
 use core::iter::FusedIterator;
 
 /// A line of pixels from its start to its end.
@@ -30,6 +30,10 @@ impl Line {
     }
 
     /// How many points the line has: one more than the larger of its width and its height.
+    ///
+    /// # Errors
+    ///
+    /// [`Refusal::OUT_OF_BOUNDS`] if an end is out of range.
     pub fn length(&self) -> Result<u32, Refusal> {
         let Line { start, end } = self;
         library::beamacorn_line_length(start.x, start.y, end.x, end.y).answer()
@@ -44,20 +48,51 @@ impl Line {
     /// assert_eq!(dot.point(0), Ok(Point::new(7, 7)));
     /// assert_eq!(dot.point(1), Err(Refusal::PAST_LAST_STEP));
     /// ```
+    ///
+    /// # Errors
+    ///
+    /// [`Refusal::OUT_OF_BOUNDS`] if an end is out of range, else [`Refusal::PAST_LAST_STEP`] if the step is none of the line's.
     pub fn point(&self, step: u32) -> Result<Point, Refusal> {
         let Line { start, end } = self;
         library::beamacorn_line_point(start.x, start.y, end.x, end.y, step).answer()
     }
 
     /// Whether the pixel is a point of the line. The cost does not grow with the line.
+    ///
+    /// # Errors
+    ///
+    /// [`Refusal::OUT_OF_BOUNDS`] if an end is out of range.
     pub fn has_point(&self, point: Point) -> Result<bool, Refusal> {
         let Line { start, end } = self;
         library::beamacorn_line_has_point(start.x, start.y, end.x, end.y, point.x, point.y).answer()
     }
 
     /// The points, from the start to the end.
+    ///
+    /// # Errors
+    ///
+    /// [`Refusal::OUT_OF_BOUNDS`] if an end is out of range.
     pub fn points(&self) -> Result<Points, Refusal> {
         Ok(Points { line: *self, step: 0, length: self.length()? })
+    }
+
+    /// The smallest box that has all points of the line.
+    ///
+    /// # Errors
+    ///
+    /// [`Refusal::OUT_OF_BOUNDS`] if an end is out of range.
+    pub fn bounding_box(&self) -> Result<Rectangle, Refusal> {
+        self.length()?;
+        let Line { start: a, end: b } = self;
+        // An accepted end is at most 131,071, so that one past it is an `i32` too.
+        let through = |from: i32, to: i32| from.min(to)..from.max(to).saturating_add(1);
+        Ok(Rectangle::spanning(through(a.x, b.x), through(a.y, b.y)))
+    }
+
+    /// The same line moved.
+    #[must_use]
+    pub fn translate(&self, by: Point) -> Self {
+        Line { start: self.start + by, end: self.end + by }
     }
 }
 

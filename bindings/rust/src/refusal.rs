@@ -9,7 +9,9 @@ use core::{error::Error, fmt, num::NonZeroU32};
 /// assert_eq!(refusal, Refusal::CIRCLE_TOO_FAR);
 /// assert_eq!(refusal.number(), 6);
 /// ```
-#[derive(Clone, Copy, Debug, Eq, Hash, PartialEq)]
+///
+/// It is shown alike by `{}` and `{:?}`, so that an `unwrap` that fails says why.
+#[derive(Clone, Copy, Eq, Hash, PartialEq)]
 pub struct Refusal(NonZeroU32);
 
 impl Refusal {
@@ -43,6 +45,12 @@ impl fmt::Display for Refusal {
             _ => "see the library's table",
         };
         write!(f, "refused with {}: {why}", self.0)
+    }
+}
+
+impl fmt::Debug for Refusal {
+    fn fmt(&self, f: &mut fmt::Formatter<'_>) -> fmt::Result {
+        fmt::Display::fmt(self, f)
     }
 }
 

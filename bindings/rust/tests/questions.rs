@@ -1,6 +1,6 @@
 //! The questions through the crate's own types: the known small answers, each refusal, and the ends of the range.
 
-use beamacorn::{Circle, Line, Point, Refusal, Triangle};
+use beamacorn::{Circle, ContainsPoint, FilledPoints, Line, Point, Rectangle, Refusal, Triangle};
 
 const FAR: Point = Point::new(131_072, 0);
 
@@ -128,4 +128,66 @@ fn the_ends_of_the_range_are_accepted() {
 fn a_refusal_says_why() {
     assert_eq!(Refusal::OUT_OF_BOUNDS.to_string(), "refused with 5: a coordinate is outside -131072 to 131071");
     assert_eq!([Refusal::OUT_OF_BOUNDS, Refusal::CIRCLE_TOO_FAR, Refusal::PAST_LAST_STEP].map(Refusal::number), [5, 6, 7]);
+}
+
+#[test]
+fn an_unwrap_says_why() {
+    let far = Triangle::new(FAR, FAR, FAR);
+    assert_eq!(format!("{:?}", far.contains(FAR)), "Err(refused with 5: a coordinate is outside -131072 to 131071)");
+}
+
+#[test]
+fn the_points_of_a_figure_are_those_that_it_contains() {
+    fn check(figure: &impl ContainsPoint, points: FilledPoints) {
+        let points: Vec<Point> = points.collect();
+        let around = (-9..12).flat_map(|y| (-9..12).map(move |x| Point::new(x, y)));
+        let contained: Vec<Point> = around.filter(|&pixel| figure.contains(pixel).unwrap()).collect();
+        assert_eq!(points, contained);
+    }
+    for vertices in [[(0, 0), (4, 2), (2, 1)], [(0, 0), (-2, 2), (2, 0)], [(5, -3), (-4, 1), (2, 6)], [(3, 3), (3, 3), (3, 3)]] {
+        let triangle = triangle(vertices);
+        check(&triangle, triangle.points().unwrap());
+    }
+    for diameter in 0..12 {
+        let circle = Circle::new(Point::new(-3, -2), diameter);
+        check(&circle, circle.points().unwrap());
+    }
+}
+
+#[test]
+fn a_box_has_the_figures_first_and_last_pixels() {
+    fn check(bounding_box: Rectangle, points: impl Iterator<Item = Point> + Clone) {
+        let (columns, rows) = (points.clone().map(|p| p.x), points.map(|p| p.y));
+        assert_eq!(bounding_box.columns(), columns.clone().min().unwrap()..columns.max().unwrap() + 1);
+        assert_eq!(bounding_box.rows(), rows.clone().min().unwrap()..rows.max().unwrap() + 1);
+    }
+    let [a, b, c] = [(5, -3), (-4, 1), (2, 6)].map(Point::from);
+    check(Line::new(a, b).bounding_box().unwrap(), Line::new(a, b).points().unwrap());
+    check(Triangle::new(a, b, c).bounding_box().unwrap(), Triangle::new(a, b, c).points().unwrap());
+    check(Circle::new(a, 9).bounding_box().unwrap(), Circle::new(a, 9).points().unwrap());
+    let dot = Circle::new(a, 0).bounding_box().unwrap();
+    assert_eq!((dot.top_left, dot.size.width, dot.size.height), (a, 0, 0));
+}
+
+#[test]
+fn a_figure_out_of_bounds_has_no_box_and_no_points() {
+    let here = Point::new(0, 0);
+    let refused = Some(Refusal::OUT_OF_BOUNDS);
+    assert_eq!(Line::new(here, FAR).bounding_box().err(), refused);
+    assert_eq!(Triangle::new(here, here, FAR).bounding_box().err(), refused);
+    assert_eq!(Triangle::new(here, here, FAR).points().err(), refused);
+    assert_eq!(Circle::new(FAR, 0).bounding_box().err(), refused);
+    assert_eq!(Circle::new(FAR, 0).rows(), Err(Refusal::OUT_OF_BOUNDS));
+    assert_eq!(Circle::new(here, u32::MAX).points().err(), Some(Refusal::CIRCLE_TOO_FAR));
+}
+
+#[test]
+fn a_moved_figure_contains_the_moved_pixels() {
+    let by = Point::new(-30, 1_000);
+    let [a, b, c] = [(5, -3), (-4, 1), (2, 6)].map(Point::from);
+    assert!(Line::new(a, b).translate(by).points().unwrap().eq(Line::new(a, b).points().unwrap().map(|p| p + by)));
+    assert!(Triangle::new(a, b, c).translate(by).points().unwrap().eq(Triangle::new(a, b, c).points().unwrap().map(|p| p + by)));
+    assert!(Circle::new(a, 7).translate(by).points().unwrap().eq(Circle::new(a, 7).points().unwrap().map(|p| p + by)));
+    assert_eq!(Circle::new(a, 7).translate(Point::new(i32::MAX, 0)).rows(), Err(Refusal::OUT_OF_BOUNDS));
+    assert_eq!(Triangle::new(a, b, c).translate(Point::new(i32::MIN, i32::MIN)).rows(), Err(Refusal::OUT_OF_BOUNDS));
 }

@@ -1,4 +1,4 @@
-//! The two differences in `Triangle::contains` that 01 names under "Errors that look right", as rules:
+//! The two differences in `Triangle::contains` that 01 (docs/RULES.md) names among the errors that look right, as rules:
 //! for which triangle and pixel each holds, what the Rust says there and what 01 says.
 
 use embedded_graphics::{
@@ -8,9 +8,9 @@ use embedded_graphics::{
 
 #[derive(Clone, Copy)]
 pub enum Difference {
-    /// "Returning no for zero area before the edge test."
+    /// No for zero area before the edges are asked.
     ZeroArea,
-    /// "Copying the sign test of `contains`. With s = 0, t above 0 and a negative area the Rust says yes."
+    /// The sign test: with s = 0, t above 0 and a negative area the Rust says yes.
     SignTest,
 }
 

@@ -8,12 +8,15 @@ use embedded_graphics::{
     pixelcolor::raw::{BigEndian, LittleEndian, RawData, RawU1, RawU16, RawU2, RawU24, RawU32, RawU4, RawU8},
     primitives::{Line, PointsIter, Triangle},
 };
-use std::fmt::Write;
+use std::{fmt::Write, ops::Range};
 
 /// The bytes of `replay`'s buffer. A frame's own bytes are the first of them; the rest is its tail.
 const LENGTH: usize = 65_536;
 
 const MOST_DUMPED: usize = 4_096;
+
+/// How many pixels beside the frame are still put to `set_pixel`. A filled figure may have hundreds of millions further off, which it would leave out one by one.
+const BESIDE: i32 = 8;
 
 /// A frame buffer of any size, depth and order.
 trait Frame {
@@ -57,7 +60,8 @@ macro_rules! with_sizes {
     ($macro:ident!($($word:tt)*)) => {
         $macro!($($word)* =>
             (0, 0) (0, 3) (3, 0) (1, 1) (1, 9) (2, 3) (3, 2) (4, 4) (5, 3) (7, 2) (8, 3) (9, 5) (10, 3)
-            (15, 2) (16, 2) (17, 3) (31, 1) (33, 2) (64, 3) (100, 80) (1, 2048) (2048, 1))
+            (15, 2) (16, 2) (17, 3) (31, 1) (33, 2) (64, 3) (100, 80) (1, 2048) (2048, 1)
+            (2048, 8) (8, 2048) (2047, 3) (3, 2047) (1025, 5) (5, 1025))
     };
 }
 
@@ -110,7 +114,7 @@ pub struct Frames(Option<Described>);
 
 struct Described {
     frame: Box<dyn Frame>,
-    height: i32,
+    size: (i32, i32),
     depth: u32,
 }
 
@@ -143,8 +147,7 @@ impl Frames {
         if !(bytes..=LENGTH).contains(&usize::try_from(length).ok()?) {
             return None;
         }
-        let height = size.1 as i32;
-        self.0 = Some(Described { frame, height, depth });
+        self.0 = Some(Described { frame, size: (size.0 as i32, size.1 as i32), depth });
         Some(format!("0\t{bytes}"))
     }
 }
@@ -168,7 +171,7 @@ impl Described {
             }
             (word, [figure @ .., colour]) => {
                 let colour = self.colour(*colour)?;
-                self.draw(points(word, figure, figures, self.height)?, colour)
+                self.draw(points(word, figure, figures, self.size)?, colour)
             }
             _ => None,
         }
@@ -190,15 +193,18 @@ impl Described {
 type Points = Box<dyn Iterator<Item = Point>>;
 
 /// The points of a figure in the order in which the Rust gives them. The crate draws styled figures, whose text is not given:
-/// a line and a circle are drawn by their points, an outline by the points of its three lines, a filled triangle by the spans
-/// of the rows that the frame has.
-fn points(word: &str, figure: &[i64], figures: &Figures, height: i32) -> Option<Points> {
+/// a line is drawn by its points, an outline by the points of its three lines, a filled triangle and a circle by their spans,
+/// which are also what the points of a circle are made of.
+fn points(word: &str, figure: &[i64], figures: &Figures, size: (i32, i32)) -> Option<Points> {
     Some(match (word, figure) {
         ("pixel", &[x, y]) => Box::new([pixel(x, y)?].into_iter()),
         ("line", line) => Box::new(figures.line(line)?.points()),
         ("outline", triangle) => Box::new(outline(figures.triangle(triangle)?)),
-        ("triangle", triangle) => Box::new(spans(figures.triangle(triangle)?, height)),
-        ("circle", circle) => Box::new(figures.circle(circle)?.points()),
+        ("triangle", triangle) => Box::new(near(triangle_spans(figures.triangle(triangle)?, size.1), size)),
+        ("circle", circle) => {
+            let spans: Vec<_> = figures.circle(circle)?.row_spans().take_while(|(y, _)| *y < size.1 + BESIDE).collect();
+            Box::new(near(spans.into_iter(), size))
+        }
         _ => return None,
     })
 }
@@ -209,10 +215,22 @@ fn outline(triangle: Triangle) -> impl Iterator<Item = Point> {
     edges.into_iter().flat_map(|edge| edge.points())
 }
 
-fn spans(triangle: Triangle, height: i32) -> impl Iterator<Item = Point> {
-    let rows = triangle.bounding_box().rows();
-    let rows = rows.start.max(0)..rows.end.min(height);
-    rows.flat_map(move |y| triangle.row_span(y).map(move |x| Point::new(x, y)))
+/// The spans of the rows that the frame has, and of some beside it.
+fn triangle_spans(triangle: Triangle, height: i32) -> impl Iterator<Item = (i32, Range<i32>)> {
+    let rows = within(triangle.bounding_box().rows(), height);
+    rows.map(move |y| (y, triangle.row_span(y)))
+}
+
+/// The pixels of rows with their columns, those in the frame and close to it.
+fn near(spans: impl Iterator<Item = (i32, Range<i32>)>, (width, height): (i32, i32)) -> impl Iterator<Item = Point> {
+    let rows = within(i32::MIN..i32::MAX, height);
+    let spans = spans.filter(move |(y, _)| rows.contains(y));
+    spans.flat_map(move |(y, columns)| within(columns, width).map(move |x| Point::new(x, y)))
+}
+
+/// The part of a range that lies along a side of the frame, or close to it.
+fn within(range: Range<i32>, side: i32) -> Range<i32> {
+    range.start.max(-BESIDE)..range.end.min(side + BESIDE)
 }
 
 /// A place of any 32 bits: the Rust takes every one for setting and reading.

@@ -1,5 +1,5 @@
-//! Reads lines of REPLAY.md and answers each with what the Rust says: `none` where it has no such question, `panic` where it panics.
-//! With `--amended` it answers only within -8,192 to 8,191, as 01 says where 01 names a difference (see differences.rs),
+//! Reads lines of docs/REPLAY.md and answers each with what the Rust says: `none` where it has no such question, `panic` where it panics.
+//! With `--amended` it answers only within -8,192 to 8,191, as 01 (docs/RULES.md) says where 01 names a difference (see differences.rs),
 //! and lists on standard error how often each changed an answer. With `--sizes` it lists the frames that it was compiled for.
 
 mod differences;

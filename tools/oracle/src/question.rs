@@ -1,4 +1,4 @@
-//! A line of REPLAY.md taken apart: a word and numbers, parted by tabs.
+//! A line of docs/REPLAY.md taken apart: a word and numbers, parted by tabs.
 
 const LONGEST_LINE: usize = 128;
 const MOST_DIGITS: usize = 10;

@@ -1,4 +1,4 @@
-//! Stands in for the crate's image reads, whose text is not given: a pixel by 01's layout, through the given iterator/raw.rs.
+//! Stands in for the crate's image reads, whose text is not given: a pixel by the layout of 01 (docs/RULES.md), through the given iterator/raw.rs.
 
 use crate::{
     geometry::Point,

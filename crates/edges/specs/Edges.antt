@@ -15,7 +15,7 @@ use Rattle.edges.specs.declared.Walk.{Walk}
 use Rattle.edges.specs.declared.Row.{Row}
 use Rattle.edges.specs.Side.{EdgeAt}
 
--- how many points of the line are askedPoints, if it is asked for
+-- how many points of a line are walked: all of them, if it is asked for
 abbrev pub askedPoints : Bool → Point → Point → ℕ
 askedPoints asked s e = cond asked (points s e) 0
 

@@ -8,4 +8,5 @@ pub mod Runs
 pub mod Fields
 pub mod Bytes
 pub mod Pictures
+pub mod Padding
 pub mod Order

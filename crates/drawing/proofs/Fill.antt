@@ -18,7 +18,7 @@ use Rattle.geometry.specs.Bound.{Coord, Bounded}
 use Rattle.triangle.specs.EdgePoint.{EdgePoint}
 use Rattle.triangle.specs.Order.{sorted}
 use Rattle.triangle.proofs.Agree.{edge-point-rows}
-use Rattle.triangle.proofs.Between.{InRow}
+use Rattle.triangle.proofs.Enclosed.{InRow}
 use Rattle.triangle.proofs.Box.{box-left, box-right}
 use Rattle.triangle.proofs.Order.{sorted-all}
 use Rattle.triangle.proofs.Triangle.{p1, p2, p3, flat, upper, lower, contained-decides}

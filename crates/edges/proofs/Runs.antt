@@ -10,7 +10,7 @@ use lib.Signed.{_≤ℤ_, _<ℤ_}
 use Rattle.whole.proofs.Difference.{le-nat, lt-nat, nat-lt}
 use Rattle.whole.proofs.Order.{le-self, le-of, le-trans, lt-le, lt-of, lt-apart, le-lt-more, lt-more-le}
 use Rattle.geometry.specs.declared.Point.{Point}
-use Rattle.geometry.proofs.Extreme.{in-order}
+use Rattle.geometry.proofs.Extreme.{extremes}
 use Rattle.line.specs.declared.Walker.{Walker}
 use Rattle.line.specs.Line.{major, pointAt}
 use Rattle.line.specs.Walk.{WalkerAt}
@@ -64,8 +64,8 @@ module _ {s e : Point} {n k : ℕ} {y : ℤ} {r : Run} where
   part-more {q} {t} p on g =
       let i = p .i in
       let l = p .from in
-      let a = in-order (q .low) (pointAt s e i .0) in
-      let b = in-order (q .high) (pointAt s e i .0) in
+      let a = extremes (q .low) (pointAt s e i .0) in
+      let b = extremes (q .high) (pointAt s e i .0) in
       let lower = le-trans (le-of (g .low)) (a .from-first) in
       let higher = le-trans (b .to-first) (le-of (sym (g .high))) in
       record {

@@ -20,7 +20,7 @@ pub record CourseOf (s e : Point) (c : Course) : Type 0 where
   pub minor-y : c .yminor ≡ cond (steep s e) (pos 0) (toward (s .1) (e .1))
 
 -- a coordinate, and moves from it of at most one place each
-pub record Placing (a major along minor across : ℤ) : Type 0 where
+pub record Reachable (a major along minor across : ℤ) : Type 0 where
   pub from : Coord a
   pub one : natAbs major ≤ 1
   pub other : natAbs minor ≤ 1

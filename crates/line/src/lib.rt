@@ -8,7 +8,7 @@ ghost use Rattle.geometry.specs.declared.Point.{Point as Place};
 ghost use Rattle.geometry.specs.Bound.{Coord, Bounded};
 ghost use Rattle.geometry.specs.Answer.{verdict};
 ghost use Rattle.line.specs.Line.{toward, moves, major, points, pointAt, onLine, hasPoint};
-ghost use Rattle.line.specs.Walk.{CourseOf, Placing, Moving, Walking, DueAt, WalkerAt};
+ghost use Rattle.line.specs.Walk.{CourseOf, Reachable, Moving, Walking, DueAt, WalkerAt};
 ghost use Rattle.line.specs.Answer.{endTests, stepTests, lengthAnswer, stepAnswer};
 use geometry::Point;
 use geometry::Verdict;
@@ -181,7 +181,7 @@ pub fn moves_at(major: u32, up: u32, k: u32) -> u32
 
 // The coordinate that is so many major and minor moves from a, each move being -1, 0 or 1.
 fn coordinate(a: i32, major: i32, along: i32, minor: i32, across: i32) -> i32
-    requires { ⌜ Placing a major along minor across ⌝ }
+    requires { ⌜ Reachable a major along minor across ⌝ }
     ensures { λ r. ⌜ r ≡ a +ℤ major *ℤ along +ℤ minor *ℤ across ⌝ }
 {
     a + major * along + minor * across

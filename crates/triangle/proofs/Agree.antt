@@ -17,7 +17,7 @@ use Rattle.line.proofs.Points.{has-start, has-end, has-decides}
 use Rattle.triangle.specs.Triangle.{areaDoubled, isInside, onEdge}
 use Rattle.triangle.specs.EdgePoint.{EdgePoint}
 use Rattle.triangle.proofs.Area.{area-from-first, area-from-last, area-level}
-use Rattle.triangle.proofs.Between.{InRow}
+use Rattle.triangle.proofs.Enclosed.{InRow}
 use Rattle.triangle.proofs.Edge.{RunOn, run-on, no-gap, edge-rows}
 use Rattle.triangle.proofs.Sides.{Flat, Inside, back-below, back-above, inside-rows, inside-decides}
 

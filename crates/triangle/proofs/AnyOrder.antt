@@ -1,8 +1,9 @@
 -- Any order of the vertices gives the same refusal, containment, spans and rows: two of the orders, from which the others are made. Assumes nothing.
-use mathlib.Core.Path.{_≡_, refl, ap, _∙_}
-use mathlib.Core.Bool.{Bool, true, false, cond, not, _&&_, _||_}
+use mathlib.Core.Path.{_≡_, ap, _∙_}
+use mathlib.Core.Bool.{Bool, cond, not, _||_}
 use Prim.Native.Nat.{_+_}
 use lib.IntN.{ℤ, natAbs, _-ℤ_}
+use Rattle.whole.proofs.Tests.{and-swap, and-turn}
 use Rattle.refusals.specs.First.{first}
 use Rattle.geometry.specs.declared.Point.{Point}
 use Rattle.geometry.specs.Bound.{inBounds}
@@ -36,20 +37,6 @@ same-by a b c d e f r s z t =
 
 same-then : {a b c d e f g h k : Point} → Same a b c d e f → Same d e f g h k → Same a b c g h k
 same-then s t = record { refusal = s .refusal ∙ t .refusal; contains = λ p. s .contains p ∙ t .contains p; span = λ y. s .span y ∙ t .span y; first = s .first ∙ t .first; count = s .count ∙ t .count }
-
--- three tests in another order
-and-swap : (s t r : Bool) → (t && (s && r)) ≡ (s && (t && r))
-and-swap true t r = refl
-and-swap false true r = refl
-and-swap false false r = refl
-
-and-turn : (s t r : Bool) → (t && (r && s)) ≡ (s && (t && r))
-and-turn true true true = refl
-and-turn true true false = refl
-and-turn true false r = refl
-and-turn false true true = refl
-and-turn false true false = refl
-and-turn false false r = refl
 
 module _ (a b c : Point) where
   pub order-bac : Same b a c a b c

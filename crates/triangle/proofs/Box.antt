@@ -23,7 +23,7 @@ use Rattle.triangle.specs.Order.{sorted}
 use Rattle.triangle.specs.Triangle.{areaDoubled, isFlat, contained}
 use Rattle.triangle.specs.EdgePoint.{EdgePoint}
 use Rattle.triangle.specs.Box.{isBeyond, isOutside}
-use Rattle.triangle.proofs.Between.{InRow}
+use Rattle.triangle.proofs.Enclosed.{InRow}
 use Rattle.triangle.proofs.Edge.{edge-left, edge-right, edge-top, edge-bottom}
 use Rattle.triangle.proofs.Order.{All, sorted-all}
 use Rattle.triangle.proofs.Triangle.{contained-decides}

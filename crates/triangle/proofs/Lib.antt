@@ -4,7 +4,7 @@ pub mod Run
 pub mod Edge
 pub mod Order
 pub mod Sides
-pub mod Between
+pub mod Enclosed
 pub mod Agree
 pub mod Spans
 pub mod Triangle

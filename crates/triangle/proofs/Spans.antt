@@ -16,11 +16,11 @@ use Rattle.whole.proofs.Difference.{le-nat, lt-nat, eq-nat, nat-le, nat-lt, sum
 use Rattle.whole.proofs.Order.{le-trans, le-antisym, lt-le-lt}
 use Rattle.geometry.specs.declared.Point.{Point}
 use Rattle.geometry.specs.Extreme.{lesser, greater}
-use Rattle.geometry.proofs.Extreme.{InOrder, in-order}
+use Rattle.geometry.proofs.Extreme.{Extremes, extremes}
 use Rattle.line.specs.Line.{pointAt, points, HasPoint}
 use Rattle.triangle.specs.declared.Columns.{Columns}
 use Rattle.triangle.proofs.Run.{Run}
-use Rattle.triangle.proofs.Between.{Between}
+use Rattle.triangle.proofs.Enclosed.{Enclosed}
 use Rattle.triangle.specs.Row.{extended, hull, inSpan, columnsTo, lineColumns}
 
 -- ---- the span of the columns E
@@ -59,14 +59,14 @@ past-before : (x z y : ℤ) → z ≡ y +ℤ pos 1 → x <ℤ z → x ≤ℤ y
 past-before x z y e h = nat-le (omega (arith, lt-nat h, sum-nat z y 1 e))
 
 -- a column is in the span exactly if it lies between two of E
-pub span-decides : (E : ℤ → Type 0) (s : Columns) (x : ℤ) → Spans E s → Decides (inSpan s x) (Between E x)
+pub span-decides : (E : ℤ → Type 0) (s : Columns) (x : ℤ) → Spans E s → Decides (inSpan s x) (Enclosed E x)
 span-decides E s x b = decides-map (decides-between (s .0) (s .1) x) (to b) (from b)
   where
-    to : Spans E s → (s .0 ≤ℤ x) × (x <ℤ s .1) → Between E x
+    to : Spans E s → (s .0 ≤ℤ x) × (x <ℤ s .1) → Enclosed E x
     to (inl b) h = record { first = s .0; last = b .last; from = h .0; to = past-before x (s .1) (b .last) (b .past) (h .1); at-first = b .at-first; at-last = b .at-last }
     to (inr n) h = absurd (omega (arith, le-nat (h .0), lt-nat (h .1), eq-nat (ap (λ (c : Columns). c .0) (n .0)), eq-nat (ap (λ (c : Columns). c .1) (n .0))))
 
-    from : Spans E s → Between E x → (s .0 ≤ℤ x) × (x <ℤ s .1)
+    from : Spans E s → Enclosed E x → (s .0 ≤ℤ x) × (x <ℤ s .1)
     from (inl b) h = (le-trans (b .least (h .first) (h .at-first)) (h .from), before-past x (s .1) (b .last) (b .past) (le-trans (h .to) (b .largest (h .last) (h .at-last))))
     from (inr n) h = absurd (n .1 (h .first) (h .at-first))
 
@@ -85,11 +85,11 @@ module _ (E F : ℤ → Type 0) (s t : Columns) where
     join-both : Bounds Both (lesser (s .0) (t .0), greater (s .1) (t .1))
     join-both = by (past .high-is)
       where
-        first : InOrder (s .0) (t .0) (lesser (s .0) (t .0)) (greater (s .0) (t .0))
-        first = in-order (s .0) (t .0)
+        first : Extremes (s .0) (t .0) (lesser (s .0) (t .0)) (greater (s .0) (t .0))
+        first = extremes (s .0) (t .0)
 
-        past : InOrder (s .1) (t .1) (lesser (s .1) (t .1)) (greater (s .1) (t .1))
-        past = in-order (s .1) (t .1)
+        past : Extremes (s .1) (t .1) (lesser (s .1) (t .1)) (greater (s .1) (t .1))
+        past = extremes (s .1) (t .1)
 
         -- every column is before the greater end
         below : (x : ℤ) → Both x → x <ℤ greater (s .1) (t .1)

@@ -23,7 +23,7 @@ use Rattle.triangle.proofs.Run.{moves-to}
 use Rattle.triangle.proofs.Edge.{run-on}
 use Rattle.triangle.proofs.Order.{sorted-ordered, sorted-same}
 use Rattle.triangle.proofs.Sides.{flat-decides, flat-swap, flat-turn, isInside-swap, isInside-turn}
-use Rattle.triangle.proofs.Between.{InRow}
+use Rattle.triangle.proofs.Enclosed.{InRow}
 use Rattle.triangle.proofs.Agree.{edge-point-rows, row-decides}
 use Rattle.triangle.proofs.Spans.{Bounds, Spans, span-map, span-decides, list-spans, column-has, has-column}
 

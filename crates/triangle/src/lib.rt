@@ -283,7 +283,7 @@ fn stretch_on(wide: u32, high: u32, row: u32) -> Stretch
     }
 }
 
-// So many columns to the right of a start, or to its left: there the last is the first.
+// An offset from an edge's start: so many columns to its right, or so many to its left.
 fn offset(rightward: bool, right: u32, left: u32) -> i32
     requires { ⌜ (right ≤ 262144) × (left ≤ 262144) ⌝ }
     ensures { λ r. ⌜ r ≡ cond rightward (pos right) (negℤ (pos left)) ⌝ }
@@ -338,7 +338,7 @@ pub fn scanline_intersection(t: Sorted, y: i32) -> Columns
     requires { ⌜ (Bounded (t .p1) × Bounded (t .p2) × Bounded (t .p3)) × Down t ⌝ }
     ensures { λ r. ⌜ r ≡ hull (edgeColumns (isFlat (t .p1) (t .p2) (t .p3)) t y) ⌝ }
 {
-    if area_doubled(t.p1, t.p2, t.p3) == 0 {
+    if !is_solid(t.p1, t.p2, t.p3) {
         return bresenham_intersection(t.p1, t.p3, y);
     }
     let upper = bresenham_intersection(t.p1, t.p2, y);

@@ -14,6 +14,7 @@ use mir.Facts.{toZ-ofZ, toZ-pos, fits-natAbs}
 use Rattle.whole.specs.Equal.{eqZ}
 use Rattle.whole.proofs.Decides.{decides-map, decides-one, decides-eqb, decides-eq}
 use Rattle.whole.proofs.Difference.{mk, up, dn, as-mk, eq-mk, lt-nat, nat-lt}
+use Rattle.whole.proofs.Order.{lt-le}
 
 -- ---- sizes: |z| in ℕ
 pub mag-size : (z : ℤ) → mag z ≤ natAbs z
@@ -152,6 +153,9 @@ le-yes e = leZ-yes (subst T (sym e) tt)
 
 pub le-no : {x y : ℤ} → leZ x y ≡ false → y <ℤ x
 le-no {x} {y} e = nat-lt (not-le x y (subst (λ (t : Bool). T (not t)) (sym e) tt))
+
+-- what a test of two signed numbers says, taken or left
+pub ruleset tests = (le-yes, le-no, lt-yes, lt-no, lt-le)
 
 -- a test of two operands, at their numbers
 pub tests-lt : {w : Width} {e f y z : ℤ} {b d : ℕ} → Has w e y b → Has w f z d → ltZ e f ≡ ltZ y z

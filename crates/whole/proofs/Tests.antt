@@ -53,6 +53,20 @@ pub or-false : (a b : Bool) → a || b ≡ false → (a ≡ false) × (b ≡ fal
 or-false true b e = absurd (true≢false e)
 or-false false b e = (refl, e)
 
+-- three tests in another order
+pub and-swap : (s t r : Bool) → (t && (s && r)) ≡ (s && (t && r))
+and-swap true t r = refl
+and-swap false true r = refl
+and-swap false false r = refl
+
+pub and-turn : (s t r : Bool) → (t && (r && s)) ≡ (s && (t && r))
+and-turn true true true = refl
+and-turn true true false = refl
+and-turn true false r = refl
+and-turn false true true = refl
+and-turn false true false = refl
+and-turn false false r = refl
+
 -- the test of two whole numbers
 pub eqZ-true : (a b : ℤ) → eqZ a b ≡ true → a ≡ b
 eqZ-true (pos a) (pos b) e = ap pos (eqb-true a b e)

@@ -12,8 +12,8 @@ use mir.Val.{SFits, toZ, ofZ}
 use mir.Facts.{toZ-ofZ}
 use borrow.Author.Needs.{needs}
 use Rattle.whole.proofs.Difference.{up, dn, lt-nat, le-nat, eq-nat, nat-lt}
-use Rattle.whole.proofs.Machine.{field-back, le-yes, le-no, lt-yes, lt-no}
-use Rattle.whole.proofs.Order.{le-self, le-of, le-trans, lt-le}
+use Rattle.whole.proofs.Machine.{field-back, tests}
+use Rattle.whole.proofs.Order.{le-self, le-of, le-trans}
 use Rattle.geometry.specs.declared.Point.{Point}
 use Rattle.triangle.specs.declared.Sorted.{Sorted}
 use Rattle.triangle.specs.Order.{sorted, Down}
@@ -99,9 +99,6 @@ loop-holds c =
         sym (rows-start (a .brush) (brush-sound ok) (a .buf .now) (triangleFigure v1 v2 v3) (top c) (λ u v l. none-above v1 v2 v3 u v (subst (λ (z : ℤ). pos v <ℤ z) first l))),
       ),
     )
-
--- what a test of two signed numbers says, taken or left
-ruleset tests = (le-yes, le-no, lt-yes, lt-no, lt-le)
 
 -- in a turn
 module _ (c : tie.In-loop Inv-loop μ-loop) where

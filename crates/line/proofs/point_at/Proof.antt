@@ -10,7 +10,7 @@ use Rattle.whole.proofs.Machine.{Has, fits, back, size-of, same-bits, to-nat, n
 use Rattle.geometry.specs.Bound.{Coord}
 use Rattle.geometry.proofs.Bound.{coord}
 use Rattle.line.specs.Line.{major, minor, moves}
-use Rattle.line.specs.Walk.{Placing}
+use Rattle.line.specs.Walk.{Reachable}
 use Rattle.line.proofs.Lengths.{narrow, major-size, minor-size}
 use Rattle.line.proofs.Moves.{moves-minor}
 use Rattle.line.proofs.Walk.{xmajor-read, xminor-read, ymajor-read, yminor-read, course-x, course-y}
@@ -63,7 +63,7 @@ module _ (c : tie.After-moves-at) where
 
   -- what `coordinate` asks and gives, along x and along y
   module _ {a d e : ℤ} (from : Coord a) (one : Has w32 (toZ w32 (ofZ w32 d)) d 1) (other : Has w32 (toZ w32 (ofZ w32 e)) e 1) where
-    asked : Placing (toZ w32 (ofZ w32 a)) (toZ w32 (ofZ w32 d)) (toZ w32 (entry .args .step)) (toZ w32 (ofZ w32 e)) (toZ w32 (c .moves-at .result))
+    asked : Reachable (toZ w32 (ofZ w32 a)) (toZ w32 (ofZ w32 d)) (toZ w32 (entry .args .step)) (toZ w32 (ofZ w32 e)) (toZ w32 (c .moves-at .result))
     asked = record { from = subst Coord (sym (back (coord from) .is)) from; one = size-of one; other = size-of other; many = size-of k-read; few = size-of m-read }
 
     given : toZ w32 (ofZ w32 a) +ℤ toZ w32 (ofZ w32 d) *ℤ toZ w32 (entry .args .step) +ℤ toZ w32 (ofZ w32 e) *ℤ toZ w32 (c .moves-at .result)

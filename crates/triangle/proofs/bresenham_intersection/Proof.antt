@@ -6,13 +6,14 @@ use Prim.Native.Nat.{ℕ, _≤_}
 use native.Mathlib.Omega.{arith}
 use lib.Dec.{lit<}
 use lib.IntN.{ℤ, pos, negℤ, natAbs, _+ℤ_, _-ℤ_}
-use lib.Signed.{_≤ℤ_, leZ}
+use lib.Signed.{_≤ℤ_, _<ℤ_, leZ}
 use mir.Syntax.{w32}
 use mir.Val.{toZ, ofZ}
+use mir.Facts.{toZ-ofZ}
 use borrow.Author.Needs.{needs}
-use Rattle.whole.proofs.Difference.{le-nat, lt-nat}
-use Rattle.whole.proofs.Machine.{Has, lit, plus, minus, fits, back, to-nat, nat-is, neg-size, size-pos, lt-true, lt-false, le-test}
-use Rattle.whole.proofs.Order.{le-sub, le-trans}
+use Rattle.whole.proofs.Difference.{le-nat, lt-nat, eq-nat}
+use Rattle.whole.proofs.Machine.{Has, lit, plus, minus, fits, back, to-nat, nat-is, neg-size, size-pos, le-test, tests}
+use Rattle.whole.proofs.Order.{le-sub, le-of, le-trans}
 use Rattle.geometry.specs.declared.Point.{Point}
 use Rattle.geometry.specs.Bound.{Coord}
 use Rattle.geometry.proofs.Bound.{coord, coord-fits}
@@ -24,20 +25,31 @@ use Rattle.triangle.proofs.Spans.{run-span, no-span}
 use Rattle.triangle.proofs.bresenham_intersection.Statement.{statement}
 use Rattle.triangle.proofs.bresenham_intersection.Tie as tie
 
+-- the rows as the tests read them
+module _ (c : tie.Start) where
+  top-is : toZ w32 (ofZ w32 (c .args .start .1)) ≡ c .args .start .1
+  top-is = toZ-ofZ (coord-fits (c .pre .0 .0 .y))
+
+  bottom-is : toZ w32 (ofZ w32 (c .args .end .1)) ≡ c .args .end .1
+  bottom-is = toZ-ofZ (coord-fits (c .pre .0 .1 .y))
+
+  y-is : toZ w32 (ofZ w32 (c .args .y)) ≡ c .args .y
+  y-is = toZ-ofZ (c .fits .y)
+
 -- ---- a row that the edge has not
 returns : tie.Need-returns
 returns c =
     let s = c .before .before .before .before .before in
     let g = s .args in
-    let l = lt-true (s .fits .y) (coord-fits (s .pre .0 .0 .y)) (c .if1 .taken) in
-    sym (no-span (g .start) (g .end) (g .y) (λ x q. omega (arith, lt-nat l, le-nat (edge-rows (g .start) (g .end) (x, g .y) (s .pre .1) q .0))))
+    let l : toZ w32 (ofZ w32 (g .y)) <ℤ toZ w32 (ofZ w32 (g .start .1)) = search tests in
+    sym (no-span (g .start) (g .end) (g .y) (λ x q. omega (arith, lt-nat l, eq-nat (y-is s), eq-nat (top-is s), le-nat (edge-rows (g .start) (g .end) (x, g .y) (s .pre .1) q .0))))
 
 returns-2 : tie.Need-returns-2
 returns-2 c =
     let s = c .before .before .before .before .before .before in
     let g = s .args in
-    let l = lt-true (coord-fits (s .pre .0 .1 .y)) (s .fits .y) (c .if2 .taken) in
-    sym (no-span (g .start) (g .end) (g .y) (λ x q. omega (arith, lt-nat l, le-nat (edge-rows (g .start) (g .end) (x, g .y) (s .pre .1) q .1))))
+    let l : toZ w32 (ofZ w32 (g .end .1)) <ℤ toZ w32 (ofZ w32 (g .y)) = search tests in
+    sym (no-span (g .start) (g .end) (g .y) (λ x q. omega (arith, lt-nat l, eq-nat (y-is s), eq-nat (bottom-is s), le-nat (edge-rows (g .start) (g .end) (x, g .y) (s .pre .1) q .1))))
 
 distance-requires : tie.Need-distance-requires
 distance-requires c κs = search needs
@@ -54,10 +66,16 @@ module _ (c : tie.Else2) where
   y = c .before .before .before .before .before .before .args .y
 
   from : s .1 ≤ℤ y
-  from = lt-false (c .before .before .before .before .before .before .fits .y) (coord-fits (c .before .before .before .before .before .before .pre .0 .0 .y)) (c .before .if1 .left)
+  from =
+      let r = c .before .before .before .before .before .before in
+      let h : toZ w32 (ofZ w32 (s .1)) ≤ℤ toZ w32 (ofZ w32 y) = search tests in
+      le-trans (le-of (sym (top-is r))) (le-trans h (le-of (y-is r)))
 
   to : y ≤ℤ e .1
-  to = lt-false (coord-fits (c .before .before .before .before .before .before .pre .0 .1 .y)) (c .before .before .before .before .before .before .fits .y) (c .if2 .left)
+  to =
+      let r = c .before .before .before .before .before .before in
+      let h : toZ w32 (ofZ w32 y) ≤ℤ toZ w32 (ofZ w32 (e .1)) = search tests in
+      le-trans (le-of (sym (y-is r))) (le-trans h (le-of (bottom-is r)))
 
   row-coord : Coord y
   row-coord = record { low = le-trans (c .before .before .before .before .before .before .pre .0 .0 .y .low) from; high = le-trans to (c .before .before .before .before .before .before .pre .0 .1 .y .high) }

@@ -2,22 +2,19 @@
 use mathlib.Core.Path.{_≡_, sym, ap, _∙_}
 use mathlib.Core.Bool.{Bool, true, false}
 use mathlib.Core.List.{_++_}
-use lib.IntN.{ℤ, pos}
-use mir.Syntax.{w64}
-use mir.Val.{toZ, ofZ}
-use mir.Facts.{toZ-ofZ, sfits-lit}
+use lib.IntN.{ℤ}
+use mir.Facts.{toZ-ofZ}
 use borrow.Author.Needs.{needs}
-use Rattle.whole.proofs.Decides.{decides-yes, decides-no}
+use borrow.Author.Tests.{not-true, not-false}
 use Rattle.whole.proofs.Order.{le-trans}
 use Rattle.triangle.specs.Triangle.{isFlat}
 use Rattle.triangle.specs.Row.{extended, hull, lineColumns, edgeColumns}
-use Rattle.triangle.proofs.Sides.{Flat, flat-decides}
 use Rattle.triangle.proofs.Spans.{span-append}
 use Rattle.triangle.proofs.scanline_intersection.Statement.{statement}
 use Rattle.triangle.proofs.scanline_intersection.Tie as tie
 
-area-doubled-requires : tie.Need-area-doubled-requires
-area-doubled-requires c κs = search needs
+is-solid-requires : tie.Need-is-solid-requires
+is-solid-requires c κs = search needs
 
 -- p3 is not above p1
 bresenham-intersection-requires : tie.Need-bresenham-intersection-requires
@@ -27,10 +24,7 @@ returns : tie.Need-returns
 returns c =
     let s = c .before .before .before in
     let t = s .args .t in
-    let a = c .before .before .area-doubled in
-    let back : toZ w64 (ofZ w64 (a .result)) ≡ a .result = search needs in
-    let none : Flat (t .p1) (t .p2) (t .p3) = sym (a .ensures) ∙ sym back ∙ ap (toZ w64) (c .before .if1 .taken) ∙ toZ-ofZ (sfits-lit {w = w64} {z = pos 0} tt) in
-    let flat : isFlat (t .p1) (t .p2) (t .p3) ≡ true = decides-yes (flat-decides (t .p1) (t .p2) (t .p3)) none in
+    let flat : isFlat (t .p1) (t .p2) (t .p3) ≡ true = not-false _ (sym (c .before .before .is-solid .ensures) ∙ not-true _ (c .before .if1 .taken)) in
     c .bresenham-intersection .ensures ∙ ap (λ (y : ℤ). hull (lineColumns (t .p1) (t .p3) y)) (toZ-ofZ (s .fits .y)) ∙ sym (ap (λ (b : Bool). hull (edgeColumns b t (s .args .y))) flat)
 
 bresenham-intersection-requires-2 : tie.Need-bresenham-intersection-requires-2
@@ -54,8 +48,8 @@ returns-2 c =
     let t = s .args .t in
     let y = s .args .y in
     let here = toZ-ofZ (s .fits .y) in
-    let some : Flat (t .p1) (t .p2) (t .p3) → ⊥ = λ e. c .before .before .before .before .before .if1 .left (ap (ofZ w64) (c .before .before .before .before .before .before .area-doubled .ensures ∙ e)) in
-    let solid : isFlat (t .p1) (t .p2) (t .p3) ≡ false = decides-no (flat-decides (t .p1) (t .p2) (t .p3)) some in
+    let first = c .before .before .before .before .before in
+    let solid : isFlat (t .p1) (t .p2) (t .p3) ≡ false = not-true _ (sym (first .before .is-solid .ensures) ∙ not-false _ (first .if1 .left)) in
     let upper = c .before .before .before .before .bresenham-intersection2 .ensures ∙ ap (λ (z : ℤ). hull (lineColumns (t .p1) (t .p2) z)) here in
     let long = c .before .before .before .bresenham-intersection3 .ensures ∙ ap (λ (z : ℤ). hull (lineColumns (t .p1) (t .p3) z)) here in
     let lower = c .before .before .bresenham-intersection4 .ensures ∙ ap (λ (z : ℤ). hull (lineColumns (t .p2) (t .p3) z)) here in
@@ -67,7 +61,7 @@ pub scanline-intersection-spec : {M : Type 1} → statement M
 scanline-intersection-spec =
     tie.close
     (tie.spec
-    area-doubled-requires
+    is-solid-requires
     bresenham-intersection-requires
     returns
     bresenham-intersection-requires-2

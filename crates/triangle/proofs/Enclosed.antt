@@ -6,7 +6,7 @@ use Rattle.geometry.specs.declared.Point.{Point}
 use Rattle.triangle.specs.EdgePoint.{EdgePoint}
 
 -- x lies between two of the columns E
-pub record Between (E : ℤ → Type 0) (x : ℤ) : Type 0 where
+pub record Enclosed (E : ℤ → Type 0) (x : ℤ) : Type 0 where
   pub first : ℤ
   pub last : ℤ
   pub from : first ≤ℤ x
@@ -16,4 +16,4 @@ pub record Between (E : ℤ → Type 0) (x : ℤ) : Type 0 where
 
 -- p lies between two edge points of its row
 abbrev pub InRow : Bool → Point → Point → Point → Point → Type 0
-InRow flat p1 p2 p3 p = Between (λ x. EdgePoint flat p1 p2 p3 (x, p .1)) (p .0)
+InRow flat p1 p2 p3 p = Enclosed (λ x. EdgePoint flat p1 p2 p3 (x, p .1)) (p .0)

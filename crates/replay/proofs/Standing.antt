@@ -9,9 +9,9 @@ use Rattle.console.proofs.Gathered.{flushed-half}
 use Rattle.text.specs.Lines.{handled}
 use Rattle.text.proofs.Streaming.{handled-within}
 use Rattle.replay.specs.declared.State.{State}
-use Rattle.replay.specs.Lines.{Session, answered, room}
+use Rattle.calls.specs.Lines.{Session, answered, room}
 use Rattle.replay.specs.Standing.{Standing, afterLines}
-use Rattle.replay.proofs.Lent.{lines-lent}
+use Rattle.calls.proofs.Lent.{lines-lent}
 
 module _ (input : List ℕ) (st : State) (out memory : List ℕ) (s : Standing st) (i : length input ≡ 65536) where
   pub there-is : length (take (st .end) input) ≡ st .end

@@ -8,7 +8,7 @@ use lib.ListN.{length, take, drop}
 use Rattle.console.specs.Gathered.{flushed}
 use Rattle.text.specs.Lines.{handled}
 use Rattle.replay.specs.declared.State.{State}
-use Rattle.replay.specs.Lines.{Session, answered, room}
+use Rattle.calls.specs.Lines.{Session, answered, room}
 
 -- what is still to be looked at lies within the input's buffer, less than half of the output's is filled, and no more is lent than there is
 pub record Standing (st : State) : Type 0 where

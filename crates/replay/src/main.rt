@@ -1,22 +1,13 @@
 // Puts any question or call to the library: reads lines of a word and tab-parted numbers and answers each by a line. A line ends at LF or at
 // the end of the input, of whatever length that is and in whatever parts it comes.
-mod ask;
-mod draw;
-mod dump;
-mod fields;
-mod lines;
-mod reply;
-mod screen;
-mod words;
-
 ghost use mathlib.Core.Path.{_≡_};
 ghost use Prim.Native.Nat.{_≤_};
 ghost use lib.ListN.{length};
 ghost use Rattle.replay.specs.Standing.{Standing, Buffers, afterLines, afterLast};
+use calls::Screen;
+use calls::answer_line;
+use calls::answer_lines;
 use framebuffer::Frame;
-use lines::answer_line;
-use lines::answer_lines;
-use screen::Screen;
 
 // The bytes of the input from `next` up to `end` are still to be looked at, the output is filled up to `at`, and whether there may be more input.
 pub struct State {

@@ -3,7 +3,7 @@ use mathlib.Core.Path.{ap}
 use native.Mathlib.Omega.{arith}
 use borrow.Author.Needs.{needs}
 use borrow.Author.Tests.{eq-eqb, ne-eqb}
-use Rattle.replay.specs.Lines.{Session}
+use Rattle.calls.specs.Lines.{Session}
 use Rattle.replay.proofs.last_line.Statement.{statement}
 use Rattle.replay.proofs.last_line.Tie as tie
 

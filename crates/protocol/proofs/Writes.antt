@@ -26,6 +26,11 @@ pub short-three : (k m n : ℕ) (buf : List ℕ) (at : ℕ) (s t u : List ℕ) {
     → Short k buf at s p one → Short m one p t q two → Short n two q u r out → Short (k + (m + n)) buf at (s ++ (t ++ u)) r out
 short-three k m n buf at s t u {p} {q} {r} {one} {two} {out} a b c = short-then k (m + n) buf at s (t ++ u) a (short-then m n one p t u b c)
 
+-- the line of what is known to be another value, within another bound
+pub short-as : {A : Type 0} (line : A → List ℕ) (m n : ℕ) (buf : List ℕ) (at : ℕ) {x y : A} {r : ℕ} {out : List ℕ}
+    → x ≡ y → m ≤ n → Short m buf at (line y) r out → Short n buf at (line x) r out
+short-as line m n buf at e h w = rw e (w .0, w .1, omega (arith, w .2))
+
 -- ---- a signed number, which the code reads back
 module _ (v : ℤ) (stop : ℕ) (f : SFits w32 v) where
   pub short-field : (buf : List ℕ) (at : ℕ) {r : ℕ} {out : List ℕ} → Wrote buf at (numberField (toZ w32 (ofZ w32 v)) stop) r out → Short 12 buf at (numberField v stop) r out

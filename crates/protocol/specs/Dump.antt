@@ -6,7 +6,7 @@ use lib.Dec.{leb, ltb}
 use lib.ListN.{length, take, drop}
 use Rattle.text.specs.declared.NextU32.{NextU32}
 use Rattle.text.specs.Fields.{nextU32}
-use Rattle.protocol.specs.Fields.{isLast}
+use Rattle.protocol.specs.Fields.{isLast, ofTwo}
 use Rattle.protocol.specs.Reply.{badLine}
 
 -- a hexadecimal digit, in lower case
@@ -25,4 +25,4 @@ dumpBy said m from count =
     (hexText (take (count .value) (drop (from .value) m)) ++ (10 ∷ [])) badLine
 
 unfoldable pub dumpLine : List ℕ → ℕ → List ℕ → List ℕ
-dumpLine said at m = dumpBy said m (nextU32 said at) (nextU32 said (nextU32 said at .next))
+dumpLine said at m = ofTwo (dumpBy said m) (nextU32 said at) (λ from. nextU32 said (from .next))

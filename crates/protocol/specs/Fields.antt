@@ -16,30 +16,25 @@ use Rattle.protocol.specs.declared.fields.NextCircle.{NextCircle}
 abbrev pub isLast : List ℕ → ℕ → Bool
 isLast said next = eqb next (length said + 1)
 
--- ---- two coordinates
-abbrev pub pointBy : NextI32 → NextI32 → NextPoint
-pointBy x y = record { point = (x .value, y .value); next = y .next }
+-- what is made of a reading; and of two, the second from what the first found
+unfoldable pub ofOne : {A B : Type 0} → (A → B) → A → B
+ofOne made a = made a
 
+unfoldable pub ofTwo : {A B C : Type 0} → (A → B → C) → A → (A → B) → C
+ofTwo made a next = made a (next a)
+
+-- two coordinates
 unfoldable pub nextPoint : List ℕ → ℕ → NextPoint
-nextPoint said at = pointBy (nextI32 said at) (nextI32 said (nextI32 said at .next))
+nextPoint said at = ofTwo (λ x y. record { point = (x .value, y .value); next = y .next }) (nextI32 said at) (λ x. nextI32 said (x .next))
 
--- ---- two ends
-abbrev pub endsBy : NextPoint → NextPoint → NextEnds
-endsBy a b = record { start = a .point; end = b .point; next = b .next }
-
+-- two ends
 unfoldable pub nextEnds : List ℕ → ℕ → NextEnds
-nextEnds said at = endsBy (nextPoint said at) (nextPoint said (nextPoint said at .next))
+nextEnds said at = ofTwo (λ a b. record { start = a .point; end = b .point; next = b .next }) (nextPoint said at) (λ a. nextPoint said (a .next))
 
--- ---- three vertices
-abbrev pub verticesBy : NextEnds → NextPoint → NextVertices
-verticesBy l p = record { v1 = l .start; v2 = l .end; v3 = p .point; next = p .next }
-
+-- three vertices
 unfoldable pub nextVertices : List ℕ → ℕ → NextVertices
-nextVertices said at = verticesBy (nextEnds said at) (nextPoint said (nextEnds said at .next))
+nextVertices said at = ofTwo (λ l p. record { v1 = l .start; v2 = l .end; v3 = p .point; next = p .next }) (nextEnds said at) (λ l. nextPoint said (l .next))
 
--- ---- a top-left and a diameter
-abbrev pub circleBy : NextPoint → NextU32 → NextCircle
-circleBy p d = record { topleft = p .point; diameter = d .value; next = d .next }
-
+-- a top-left and a diameter
 unfoldable pub nextCircle : List ℕ → ℕ → NextCircle
-nextCircle said at = circleBy (nextPoint said at) (nextU32 said (nextPoint said at .next))
+nextCircle said at = ofTwo (λ p d. record { topleft = p .point; diameter = d .value; next = d .next }) (nextPoint said at) (λ p. nextU32 said (p .next))

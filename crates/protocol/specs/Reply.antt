@@ -2,12 +2,13 @@
 use mathlib.Core.Bool.{cond}
 use mathlib.Core.List.{List, [], _∷_, _++_}
 use Prim.Native.Nat.{ℕ}
-use lib.IntN.{ℤ}
 use Rattle.geometry.specs.declared.Verdict.{Verdict}
 use Rattle.text.specs.Show.{shown, numberField}
 use Rattle.protocol.specs.Fields.{isLast}
 use Rattle.protocol.specs.declared.reply.Reply.{Reply}
-use Rattle.protocol.specs.declared.reply.Reply.the-variants.{Bad, Number, Count, Places, Rows}
+use Rattle.protocol.specs.declared.reply.Reply.the-variants.{Bad, Number, One, Two}
+use Rattle.protocol.specs.declared.reply.Value.{Value}
+use Rattle.protocol.specs.declared.reply.Value.the-variants.{Natural, Whole}
 
 -- `bad line`, LF
 abbrev pub badLine : List ℕ
@@ -17,24 +18,24 @@ badLine = 98 ∷ 97 ∷ 100 ∷ 32 ∷ 108 ∷ 105 ∷ 110 ∷ 101 ∷ 10 ∷ []
 abbrev pub natural : ℕ → ℕ → List ℕ
 natural n stop = shown n ++ (stop ∷ [])
 
-abbrev pub countLine : ℕ → ℕ → List ℕ
-countLine number v = natural number 9 ++ natural v 10
+abbrev pub valueField : Value → ℕ → List ℕ
+valueField (Natural n) stop = natural n stop
+valueField (Whole z) stop = numberField z stop
 
-abbrev pub placesLine : ℕ → ℤ → ℤ → List ℕ
-placesLine number a b = natural number 9 ++ (numberField a 9 ++ numberField b 10)
+abbrev pub oneLine : ℕ → Value → List ℕ
+oneLine number v = natural number 9 ++ valueField v 10
 
-abbrev pub rowsLine : ℕ → ℤ → ℕ → List ℕ
-rowsLine number y n = natural number 9 ++ (numberField y 9 ++ natural n 10)
+abbrev pub twoLine : ℕ → Value → Value → List ℕ
+twoLine number v w = natural number 9 ++ (valueField v 9 ++ valueField w 10)
 
 abbrev pub replyLine : Reply → List ℕ
 replyLine Bad = badLine
 replyLine (Number number) = natural number 10
-replyLine (Count number v) = countLine number v
-replyLine (Places number a b) = placesLine number a b
-replyLine (Rows number y n) = rowsLine number y n
+replyLine (One number v) = oneLine number v
+replyLine (Two number v w) = twoLine number v w
 
 abbrev pub verdictReply : Verdict → Reply
-verdictReply v = Count (v .number) (cond (v .yes) 1 0)
+verdictReply v = One (v .number) (Natural (cond (v .yes) 1 0))
 
 -- the answer, if the line ends there, and else `bad line`
 abbrev pub ifLast : List ℕ → ℕ → Reply → Reply

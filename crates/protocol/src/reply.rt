@@ -3,16 +3,21 @@ ghost use mathlib.Core.Path.{_≡_};
 ghost use Prim.Native.Nat.{_+_, _≤_};
 ghost use lib.ListN.{length};
 ghost use lib.Seq.{sets};
-ghost use Rattle.protocol.specs.Reply.{badLine, natural, countLine, placesLine, rowsLine, replyLine, verdictReply};
+ghost use Rattle.protocol.specs.Reply.{badLine, natural, valueField, oneLine, twoLine, replyLine, verdictReply};
 use geometry::Verdict;
 
-// A line that is no request; or an answer's number alone, with an unsigned value, with two signed ones, or with a row and a count of rows.
+// A value of an answer: unsigned, or signed.
+pub enum Value {
+    Natural(u32),
+    Whole(i32),
+}
+
+// A line that is no request; or an answer's number, alone or with one value or two.
 pub enum Reply {
     Bad,
     Number(u32),
-    Count(u32, u32),
-    Places(u32, i32, i32),
-    Rows(u32, i32, u32),
+    One(u32, Value),
+    Two(u32, Value, Value),
 }
 
 // Yes is 1, no is 0.
@@ -20,9 +25,9 @@ pub fn verdict_reply(v: Verdict) -> Reply
     ensures { λ r. ⌜ r ≡ verdictReply v ⌝ }
 {
     if v.yes {
-        return Reply::Count(v.number, 1);
+        return Reply::One(v.number, Value::Natural(1));
     }
-    Reply::Count(v.number, 0)
+    Reply::One(v.number, Value::Natural(0))
 }
 
 fn write_natural(out: &mut [u8], at: usize, n: u32, stop: u8) -> usize
@@ -34,30 +39,31 @@ fn write_natural(out: &mut [u8], at: usize, n: u32, stop: u8) -> usize
     end + 1
 }
 
-fn write_count(out: &mut [u8], at: usize, number: u32, value: u32) -> usize
-    requires { ⌜ at + 22 ≤ length (now out) ⌝ }
-    ensures { λ r. ⌜ (r ≡ at + length (countLine number value)) × (now (out .exit) ≡ sets (now (out .entry)) at (countLine number value)) × (r ≤ at + 22) ⌝ }
+fn write_value(out: &mut [u8], at: usize, v: Value, stop: u8) -> usize
+    requires { ⌜ at + 12 ≤ length (now out) ⌝ }
+    ensures { λ r. ⌜ (r ≡ at + length (valueField v stop)) × (now (out .exit) ≡ sets (now (out .entry)) at (valueField v stop)) × (r ≤ at + 12) ⌝ }
 {
-    let half = write_natural(out, at, number, b'\t');
-    write_natural(out, half, value, b'\n')
+    match v {
+        Value::Natural(n) => write_natural(out, at, n, stop),
+        Value::Whole(z) => text::write_field(out, at, z, stop),
+    }
 }
 
-fn write_places(out: &mut [u8], at: usize, number: u32, a: i32, b: i32) -> usize
+fn write_one(out: &mut [u8], at: usize, number: u32, v: Value) -> usize
+    requires { ⌜ at + 23 ≤ length (now out) ⌝ }
+    ensures { λ r. ⌜ (r ≡ at + length (oneLine number v)) × (now (out .exit) ≡ sets (now (out .entry)) at (oneLine number v)) × (r ≤ at + 23) ⌝ }
+{
+    let second = write_natural(out, at, number, b'\t');
+    write_value(out, second, v, b'\n')
+}
+
+fn write_two(out: &mut [u8], at: usize, number: u32, v: Value, w: Value) -> usize
     requires { ⌜ at + 35 ≤ length (now out) ⌝ }
-    ensures { λ r. ⌜ (r ≡ at + length (placesLine number a b)) × (now (out .exit) ≡ sets (now (out .entry)) at (placesLine number a b)) × (r ≤ at + 35) ⌝ }
+    ensures { λ r. ⌜ (r ≡ at + length (twoLine number v w)) × (now (out .exit) ≡ sets (now (out .entry)) at (twoLine number v w)) × (r ≤ at + 35) ⌝ }
 {
     let second = write_natural(out, at, number, b'\t');
-    let third = text::write_field(out, second, a, b'\t');
-    text::write_field(out, third, b, b'\n')
-}
-
-fn write_rows(out: &mut [u8], at: usize, number: u32, first: i32, count: u32) -> usize
-    requires { ⌜ at + 34 ≤ length (now out) ⌝ }
-    ensures { λ r. ⌜ (r ≡ at + length (rowsLine number first count)) × (now (out .exit) ≡ sets (now (out .entry)) at (rowsLine number first count)) × (r ≤ at + 34) ⌝ }
-{
-    let second = write_natural(out, at, number, b'\t');
-    let third = text::write_field(out, second, first, b'\t');
-    write_natural(out, third, count, b'\n')
+    let third = write_value(out, second, v, b'\t');
+    write_value(out, third, w, b'\n')
 }
 
 // Inside the library: the answer to a line that is none of the protocol's.
@@ -76,8 +82,7 @@ pub fn write_reply(out: &mut [u8], at: usize, reply: Reply) -> usize
     match reply {
         Reply::Bad => write_bad(out, at),
         Reply::Number(number) => write_natural(out, at, number, b'\n'),
-        Reply::Count(number, value) => write_count(out, at, number, value),
-        Reply::Places(number, a, b) => write_places(out, at, number, a, b),
-        Reply::Rows(number, first, count) => write_rows(out, at, number, first, count),
+        Reply::One(number, v) => write_one(out, at, number, v),
+        Reply::Two(number, v, w) => write_two(out, at, number, v, w),
     }
 }

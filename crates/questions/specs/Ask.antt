@@ -1,6 +1,5 @@
 -- What each question is answered, by the definitions of the library. The numbers of the line start at a place.
-use mathlib.Core.Bool.{cond}
-use mathlib.Core.List.{List}
+use mathlib.Core.List.{List, [], _∷_}
 use Prim.Native.Nat.{ℕ}
 use lib.IntN.{ℤ}
 use Rattle.geometry.specs.declared.Span.{Span}
@@ -15,106 +14,94 @@ use Rattle.triangle.specs.Triangle as triangle
 use Rattle.triangle.specs.Row.{rowSpan, firstRow, rowCount}
 use Rattle.circle.specs.Refusal.{refusalOf}
 use Rattle.circle.specs.Circle as circle
-use Rattle.text.specs.declared.NextI32.{NextI32}
-use Rattle.text.specs.declared.NextU32.{NextU32}
 use Rattle.text.specs.Fields.{nextU32, nextI32}
-use Rattle.protocol.specs.declared.fields.NextPoint.{NextPoint}
-use Rattle.protocol.specs.declared.fields.NextEnds.{NextEnds}
 use Rattle.protocol.specs.declared.fields.NextVertices.{NextVertices}
 use Rattle.protocol.specs.declared.fields.NextCircle.{NextCircle}
 use Rattle.protocol.specs.declared.reply.Reply.{Reply}
-use Rattle.protocol.specs.declared.reply.Reply.the-variants.{Bad, Count, Places, Rows}
-use Rattle.protocol.specs.Fields.{nextPoint, nextEnds, nextVertices, nextCircle}
+use Rattle.protocol.specs.declared.reply.Reply.the-variants.{Bad, One, Two}
+use Rattle.protocol.specs.declared.reply.Value.the-variants.{Natural, Whole}
+use Rattle.protocol.specs.Fields.{ofOne, ofTwo, nextPoint, nextEnds, nextVertices, nextCircle}
 use Rattle.protocol.specs.Reply.{ifLast, verdictReply}
-use Rattle.protocol.specs.Words.{sameWord}
-use Rattle.questions.specs.Words.{insideWord, spanWord, rowsWord, lengthWord, pointWord, onlineWord, discWord, discspanWord}
+use Rattle.protocol.specs.Words.{meant}
+use Rattle.questions.specs.Words.{lengthWord, pointWord, onlineWord, insideWord, spanWord, rowsWord, discWord, discspanWord}
 
 -- ---- answers, put into a reply
 abbrev pub lengthSaid : Length → Reply
-lengthSaid a = Count (a .number) (a .points)
+lengthSaid a = One (a .number) (Natural (a .points))
 
 abbrev pub stepSaid : Step → Reply
-stepSaid a = Places (a .number) (a .point .0) (a .point .1)
+stepSaid a = Two (a .number) (Whole (a .point .0)) (Whole (a .point .1))
 
 abbrev pub spanSaid : Span → Reply
-spanSaid a = Places (a .number) (a .start) (a .end)
+spanSaid a = Two (a .number) (Whole (a .start)) (Whole (a .end))
 
 abbrev pub rowsSaid : RowRange → Reply
-rowsSaid a = Rows (a .number) (a .first) (a .count)
+rowsSaid a = Two (a .number) (Whole (a .first)) (Natural (a .count))
 
--- ---- `length X1 Y1 X2 Y2`: number, points of the line
-abbrev pub lengthOf : List ℕ → NextEnds → Reply
-lengthOf said l = ifLast said (l .next) (lengthSaid (lengthAnswer (endRefusal (l .start) (l .end) 0) (points (l .start) (l .end))))
-
+-- ---- of a line
+-- `length X1 Y1 X2 Y2`: number, points of the line
 unfoldable pub lengthReply : List ℕ → ℕ → Reply
-lengthReply said at = lengthOf said (nextEnds said at)
+lengthReply said at = ofOne (λ l. ifLast said (l .next) (lengthSaid (lengthAnswer (endRefusal (l .start) (l .end) 0) (points (l .start) (l .end))))) (nextEnds said at)
 
--- ---- `point X1 Y1 X2 Y2 K`: number, x, y
-abbrev pub pointOf : List ℕ → NextEnds → NextU32 → Reply
-pointOf said l k = ifLast said (k .next) (stepSaid (stepAnswer (stepRefusal (l .start) (l .end) (k .value)) (pointAt (l .start) (l .end) (k .value))))
-
+-- `point X1 Y1 X2 Y2 K`: number, x, y
 unfoldable pub pointReply : List ℕ → ℕ → Reply
-pointReply said at = pointOf said (nextEnds said at) (nextU32 said (nextEnds said at .next))
+pointReply said at =
+    ofTwo (λ l k. ifLast said (k .next) (stepSaid (stepAnswer (stepRefusal (l .start) (l .end) (k .value)) (pointAt (l .start) (l .end) (k .value)))))
+    (nextEnds said at) (λ l. nextU32 said (l .next))
 
--- ---- `online X1 Y1 X2 Y2 X Y`: number, whether the pixel is a point of the line
-abbrev pub onlineOf : List ℕ → NextEnds → NextPoint → Reply
-onlineOf said l p = ifLast said (p .next) (verdictReply (verdict (endRefusal (l .start) (l .end) 0) (hasPoint (l .start) (l .end) (p .point))))
-
+-- `online X1 Y1 X2 Y2 X Y`: number, whether the pixel is a point of the line
 unfoldable pub onlineReply : List ℕ → ℕ → Reply
-onlineReply said at = onlineOf said (nextEnds said at) (nextPoint said (nextEnds said at .next))
+onlineReply said at =
+    ofTwo (λ l p. ifLast said (p .next) (verdictReply (verdict (endRefusal (l .start) (l .end) 0) (hasPoint (l .start) (l .end) (p .point)))))
+    (nextEnds said at) (λ l. nextPoint said (l .next))
 
--- ---- `inside X1 Y1 X2 Y2 X3 Y3 X Y`: number, whether the triangle contains the pixel
-abbrev pub insideOf : List ℕ → NextVertices → NextPoint → Reply
-insideOf said t p =
-    ifLast said (p .next) (verdictReply (verdict (vertexRefusal (t .v1) (t .v2) (t .v3)) (triangle.contained (t .v1) (t .v2) (t .v3) (p .point))))
-
+-- ---- of a triangle
+-- `inside X1 Y1 X2 Y2 X3 Y3 X Y`: number, whether the triangle contains the pixel
 unfoldable pub insideReply : List ℕ → ℕ → Reply
-insideReply said at = insideOf said (nextVertices said at) (nextPoint said (nextVertices said at .next))
+insideReply said at =
+    ofTwo (λ t p. ifLast said (p .next) (verdictReply (verdict (vertexRefusal (t .v1) (t .v2) (t .v3)) (triangle.contained (t .v1) (t .v2) (t .v3) (p .point)))))
+    (nextVertices said at) (λ t. nextPoint said (t .next))
 
--- ---- `span X1 Y1 X2 Y2 X3 Y3 Y`: number, first x, one past the last
-abbrev pub spanAt : NextVertices → ℤ → Reply
-spanAt t y = spanSaid (span (vertexRefusal (t .v1) (t .v2) (t .v3)) (rowSpan (t .v1) (t .v2) (t .v3) y .0) (rowSpan (t .v1) (t .v2) (t .v3) y .1))
-
-abbrev pub spanOf : List ℕ → NextVertices → NextI32 → Reply
-spanOf said t y = ifLast said (y .next) (spanAt t (y .value))
+-- `span X1 Y1 X2 Y2 X3 Y3 Y`: number, first x, one past the last
+abbrev pub spanOf : NextVertices → ℤ → Span
+spanOf t y = span (vertexRefusal (t .v1) (t .v2) (t .v3)) (rowSpan (t .v1) (t .v2) (t .v3) y .0) (rowSpan (t .v1) (t .v2) (t .v3) y .1)
 
 unfoldable pub spanReply : List ℕ → ℕ → Reply
-spanReply said at = spanOf said (nextVertices said at) (nextI32 said (nextVertices said at .next))
+spanReply said at = ofTwo (λ t y. ifLast said (y .next) (spanSaid (spanOf t (y .value)))) (nextVertices said at) (λ t. nextI32 said (t .next))
 
--- ---- `rows X1 Y1 X2 Y2 X3 Y3`: number, first row, number of rows
-abbrev pub rowsOf : List ℕ → NextVertices → Reply
-rowsOf said t =
-    ifLast said (t .next) (rowsSaid (rowsAnswer (vertexRefusal (t .v1) (t .v2) (t .v3)) (firstRow (t .v1) (t .v2) (t .v3)) (rowCount (t .v1) (t .v2) (t .v3))))
+-- `rows X1 Y1 X2 Y2 X3 Y3`: number, first row, number of rows
+abbrev pub rowsOf : NextVertices → RowRange
+rowsOf t = rowsAnswer (vertexRefusal (t .v1) (t .v2) (t .v3)) (firstRow (t .v1) (t .v2) (t .v3)) (rowCount (t .v1) (t .v2) (t .v3))
 
 unfoldable pub rowsReply : List ℕ → ℕ → Reply
-rowsReply said at = rowsOf said (nextVertices said at)
+rowsReply said at = ofOne (λ t. ifLast said (t .next) (rowsSaid (rowsOf t))) (nextVertices said at)
 
--- ---- `disc L T D X Y`: number, whether the circle contains the pixel
-abbrev pub discOf : List ℕ → NextCircle → NextPoint → Reply
-discOf said c p = ifLast said (p .next) (verdictReply (verdict (refusalOf (c .topleft) (c .diameter)) (circle.contained (c .topleft) (c .diameter) (p .point))))
-
+-- ---- of a circle
+-- `disc L T D X Y`: number, whether the circle contains the pixel
 unfoldable pub discReply : List ℕ → ℕ → Reply
-discReply said at = discOf said (nextCircle said at) (nextPoint said (nextCircle said at .next))
+discReply said at =
+    ofTwo (λ c p. ifLast said (p .next) (verdictReply (verdict (refusalOf (c .topleft) (c .diameter)) (circle.contained (c .topleft) (c .diameter) (p .point)))))
+    (nextCircle said at) (λ c. nextPoint said (c .next))
 
--- ---- `discspan L T D Y`: number, first x, one past the last
-abbrev pub discspanAt : NextCircle → ℤ → Reply
-discspanAt c y = spanSaid (span (refusalOf (c .topleft) (c .diameter)) (circle.spanStart (c .topleft) (c .diameter) y) (circle.spanEnd (c .topleft) (c .diameter) y))
-
-abbrev pub discspanOf : List ℕ → NextCircle → NextI32 → Reply
-discspanOf said c y = ifLast said (y .next) (discspanAt c (y .value))
+-- `discspan L T D Y`: number, first x, one past the last
+abbrev pub discspanOf : NextCircle → ℤ → Span
+discspanOf c y = span (refusalOf (c .topleft) (c .diameter)) (circle.spanStart (c .topleft) (c .diameter) y) (circle.spanEnd (c .topleft) (c .diameter) y)
 
 unfoldable pub discspanReply : List ℕ → ℕ → Reply
-discspanReply said at = discspanOf said (nextCircle said at) (nextI32 said (nextCircle said at .next))
+discspanReply said at = ofTwo (λ c y. ifLast said (y .next) (spanSaid (discspanOf c (y .value)))) (nextCircle said at) (λ c. nextI32 said (c .next))
 
 -- ---- a question by its word; another word makes a bad line
-unfoldable pub askReply : List ℕ → List ℕ → ℕ → Reply
-askReply word said at =
-    cond (sameWord word insideWord) (insideReply said at)
-    (cond (sameWord word spanWord) (spanReply said at)
-    (cond (sameWord word rowsWord) (rowsReply said at)
-    (cond (sameWord word lengthWord) (lengthReply said at)
-    (cond (sameWord word pointWord) (pointReply said at)
-    (cond (sameWord word onlineWord) (onlineReply said at)
-    (cond (sameWord word discWord) (discReply said at)
-    (cond (sameWord word discspanWord) (discspanReply said at)
-    Bad)))))))
+abbrev pub questionTable : List ℕ → ℕ → List (List ℕ × Reply)
+questionTable said at =
+    (lengthWord, lengthReply said at)
+    ∷ (pointWord, pointReply said at)
+    ∷ (onlineWord, onlineReply said at)
+    ∷ (insideWord, insideReply said at)
+    ∷ (spanWord, spanReply said at)
+    ∷ (rowsWord, rowsReply said at)
+    ∷ (discWord, discReply said at)
+    ∷ (discspanWord, discspanReply said at)
+    ∷ []
+
+abbrev pub askReply : List ℕ → List ℕ → ℕ → Reply
+askReply word said at = meant word (questionTable said at) Bad

@@ -2,12 +2,13 @@
 ghost use mathlib.Core.Path.{_≡_};
 ghost use Rattle.questions.specs.Ask.{lengthReply, pointReply, onlineReply, insideReply, spanReply, rowsReply, discReply, discspanReply, askReply};
 use protocol::Reply;
+use protocol::Value;
 use protocol::ends_at;
 use protocol::next_circle;
 use protocol::next_ends;
 use protocol::next_point;
 use protocol::next_vertices;
-use protocol::same;
+use protocol::place_in;
 use protocol::verdict_reply;
 
 fn length(said: &[u8], at: usize) -> Reply
@@ -18,7 +19,7 @@ fn length(said: &[u8], at: usize) -> Reply
         return Reply::Bad;
     }
     let found = line::major_length(ends.start, ends.end);
-    Reply::Count(found.number, found.points)
+    Reply::One(found.number, Value::Natural(found.points))
 }
 
 fn point(said: &[u8], at: usize) -> Reply
@@ -31,7 +32,7 @@ fn point(said: &[u8], at: usize) -> Reply
     }
     let found = line::point(ends.start, ends.end, step.value);
     let p = found.point;
-    Reply::Places(found.number, p.0, p.1)
+    Reply::Two(found.number, Value::Whole(p.0), Value::Whole(p.1))
 }
 
 fn online(said: &[u8], at: usize) -> Reply
@@ -65,7 +66,7 @@ fn span(said: &[u8], at: usize) -> Reply
         return Reply::Bad;
     }
     let found = triangle::row_span(t.v1, t.v2, t.v3, row.value);
-    Reply::Places(found.number, found.start, found.end)
+    Reply::Two(found.number, Value::Whole(found.start), Value::Whole(found.end))
 }
 
 fn rows(said: &[u8], at: usize) -> Reply
@@ -76,7 +77,7 @@ fn rows(said: &[u8], at: usize) -> Reply
         return Reply::Bad;
     }
     let found = triangle::rows(t.v1, t.v2, t.v3);
-    Reply::Rows(found.number, found.first, found.count)
+    Reply::Two(found.number, Value::Whole(found.first), Value::Natural(found.count))
 }
 
 fn disc(said: &[u8], at: usize) -> Reply
@@ -99,36 +100,22 @@ fn discspan(said: &[u8], at: usize) -> Reply
         return Reply::Bad;
     }
     let found = circle::row_span(round.topleft, round.diameter, row.value);
-    Reply::Places(found.number, found.start, found.end)
+    Reply::Two(found.number, Value::Whole(found.start), Value::Whole(found.end))
 }
 
 // The answer to the question that starts with the word.
 pub fn ask(word: &[u8], said: &[u8], at: usize) -> Reply
     ensures { λ r. ⌜ r ≡ askReply (now (word .entry)) (now (said .entry)) at ⌝ }
 {
-    if same(word, b"inside") {
-        return inside(said, at);
+    match place_in(b"length\tpoint\tonline\tinside\tspan\trows\tdisc\tdiscspan", word) {
+        0 => length(said, at),
+        1 => point(said, at),
+        2 => online(said, at),
+        3 => inside(said, at),
+        4 => span(said, at),
+        5 => rows(said, at),
+        6 => disc(said, at),
+        7 => discspan(said, at),
+        _ => Reply::Bad,
     }
-    if same(word, b"span") {
-        return span(said, at);
-    }
-    if same(word, b"rows") {
-        return rows(said, at);
-    }
-    if same(word, b"length") {
-        return length(said, at);
-    }
-    if same(word, b"point") {
-        return point(said, at);
-    }
-    if same(word, b"online") {
-        return online(said, at);
-    }
-    if same(word, b"disc") {
-        return disc(said, at);
-    }
-    if same(word, b"discspan") {
-        return discspan(said, at);
-    }
-    Reply::Bad
 }

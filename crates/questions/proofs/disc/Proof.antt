@@ -1,5 +1,6 @@
 -- `questions::disc` hands on what the library answers, where the line ends behind the last number. Assumes nothing.
 use borrow.Author.Needs.{needs}
+use Rattle.questions.specs.Ask.{discReply}
 use Rattle.questions.proofs.Questions.{questions}
 use Rattle.questions.proofs.disc.Statement.{statement}
 use Rattle.questions.proofs.disc.Tie as tie
@@ -14,6 +15,7 @@ ends-at-requires : tie.Need-ends-at-requires
 ends-at-requires c κs = search needs
 
 returns : tie.Need-returns
+unfolding discReply
 returns c = search questions
 
 contains-requires : tie.Need-contains-requires
@@ -23,6 +25,7 @@ verdict-reply-requires : tie.Need-verdict-reply-requires
 verdict-reply-requires c κs = search needs
 
 returns-2 : tie.Need-returns-2
+unfolding discReply
 returns-2 c = search questions
 
 pub disc-spec : {M : Type 1} → statement M

@@ -1,5 +1,6 @@
 -- `questions::point` hands on what the library answers, where the line ends behind the last number. Assumes nothing.
 use borrow.Author.Needs.{needs}
+use Rattle.questions.specs.Ask.{pointReply}
 use Rattle.questions.proofs.Questions.{questions}
 use Rattle.questions.proofs.point.Statement.{statement}
 use Rattle.questions.proofs.point.Tie as tie
@@ -14,12 +15,14 @@ ends-at-requires : tie.Need-ends-at-requires
 ends-at-requires c κs = search needs
 
 returns : tie.Need-returns
+unfolding pointReply
 returns c = search questions
 
 point-requires : tie.Need-point-requires
 point-requires c κs = search needs
 
 returns-2 : tie.Need-returns-2
+unfolding pointReply
 returns-2 c = search questions
 
 pub point-spec : {M : Type 1} → statement M

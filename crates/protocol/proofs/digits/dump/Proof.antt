@@ -16,7 +16,7 @@ use Rattle.protocol.specs.Reply.{badLine}
 use Rattle.protocol.specs.Dump.{hexText, dumpBy, dumpLine}
 use Rattle.protocol.proofs.Hexadecimal.{hex-count}
 use Rattle.text.proofs.And.{and-second, and-false}
-use Rattle.protocol.proofs.Replies.{then-read}
+use Rattle.protocol.proofs.Replies.{two-read}
 use Rattle.protocol.proofs.digits.dump.Statement.{statement}
 use Rattle.protocol.proofs.digits.dump.Tie as tie
 
@@ -47,8 +47,8 @@ returns c =
     let f = c .before .before .before .before .before .before .before .next-u32 .result .value in
     let n = c .before .before .before .before .before .before .next-u322 .result .value in
     let w = wrote-as (s .args .out .now) (s .args .to)
-    (ap (λ (b : Bool). cond (b && leb (f + n) (length (s .args .memory .now))) (hexText (take n (drop f (s .args .memory .now))) ++ (10 ∷ [])) badLine) (sym (not-true _ (c .before .before .before .before .if1 .taken)) ∙ c .before .before .before .before .before .ends-within .ensures)
-    ∙ then-read (dumpBy (s .args .said .now) (s .args .memory .now)) (λ (n : NextU32). nextU32 (s .args .said .now) (n .next)) (c .before .before .before .before .before .before .before .next-u32 .ensures) (c .before .before .before .before .before .before .next-u322 .ensures))
+    (two-read (dumpBy (s .args .said .now) (s .args .memory .now)) (λ (n : NextU32). nextU32 (s .args .said .now) (n .next)) (c .before .before .before .before .before .before .before .next-u32 .ensures) (c .before .before .before .before .before .before .next-u322 .ensures)
+    (ap (λ (b : Bool). cond (b && leb (f + n) (length (s .args .memory .now))) (hexText (take n (drop f (s .args .memory .now))) ++ (10 ∷ [])) badLine) (sym (not-true _ (c .before .before .before .before .if1 .taken)) ∙ c .before .before .before .before .before .ends-within .ensures)))
     (c .before .before .write-bad .ensures) in
     (w .0, w .1, omega (arith, c .before .before .write-bad .ensures .0))
 
@@ -75,8 +75,8 @@ returns-2 c =
     let n = c .before .before .before .before .before .before .before .before .before .next-u322 .result .value in
     let t = isLast (s .args .said .now) (c .before .before .before .before .before .before .before .before .before .next-u322 .result .next) && leb n 4096 in
     let w = wrote-as (s .args .out .now) (s .args .to)
-    (ap (λ (b : Bool). cond b (hexText (take n (drop f (s .args .memory .now))) ++ (10 ∷ [])) badLine) (sym (ap (λ (b : Bool). t && b) (lt-leb (f + n) (length (s .args .memory .now)) (omega (arith, c .before .before .before .before .if2 .taken))) ∙ and-false t))
-    ∙ then-read (dumpBy (s .args .said .now) (s .args .memory .now)) (λ (n : NextU32). nextU32 (s .args .said .now) (n .next)) (c .before .before .before .before .before .before .before .before .before .before .next-u32 .ensures) (c .before .before .before .before .before .before .before .before .before .next-u322 .ensures))
+    (two-read (dumpBy (s .args .said .now) (s .args .memory .now)) (λ (n : NextU32). nextU32 (s .args .said .now) (n .next)) (c .before .before .before .before .before .before .before .before .before .before .next-u32 .ensures) (c .before .before .before .before .before .before .before .before .before .next-u322 .ensures)
+    (ap (λ (b : Bool). cond b (hexText (take n (drop f (s .args .memory .now))) ++ (10 ∷ [])) badLine) (sym (ap (λ (b : Bool). t && b) (lt-leb (f + n) (length (s .args .memory .now)) (omega (arith, c .before .before .before .before .if2 .taken))) ∙ and-false t))))
     (c .before .before .write-bad2 .ensures) in
     (w .0, w .1, omega (arith, c .before .before .write-bad2 .ensures .0))
 
@@ -116,9 +116,9 @@ returns-3 c =
     let part = take (c .before .before .before .before .before .before .before .before .before .before .before .next-u32 .result .value + c .before .before .before .before .before .before .before .before .before .before .next-u322 .result .value - c .before .before .before .before .before .before .before .before .before .before .before .next-u32 .result .value) (drop (c .before .before .before .before .before .before .before .before .before .before .before .next-u32 .result .value) (c .before .before .before .before .before .before .before .before .before .before .before .before .before .before .before .args .memory .now)) in
     let count : f + n - f ≡ n = omega arith in
     let w = wrote-as (s .args .out .now) (s .args .to)
+    (two-read (dumpBy (s .args .said .now) (s .args .memory .now)) (λ (n : NextU32). nextU32 (s .args .said .now) (n .next)) (c .before .before .before .before .before .before .before .before .before .before .before .next-u32 .ensures) (c .before .before .before .before .before .before .before .before .before .before .next-u322 .ensures)
     (ap (λ (n : ℕ). hexText (take n (drop f (s .args .memory .now))) ++ (10 ∷ [])) count
-    ∙ ap₂ (λ (a b : Bool). cond (a && b) (hexText (take n (drop f (s .args .memory .now))) ++ (10 ∷ [])) badLine) (sym (not-false _ (c .before .before .before .before .before .before .before .before .if1 .left)) ∙ c .before .before .before .before .before .before .before .before .before .ends-within .ensures) (sym (le-leb (f + n) (length (s .args .memory .now)) (omega (arith, c .before .before .before .before .before .if2 .left))))
-    ∙ then-read (dumpBy (s .args .said .now) (s .args .memory .now)) (λ (n : NextU32). nextU32 (s .args .said .now) (n .next)) (c .before .before .before .before .before .before .before .before .before .before .before .next-u32 .ensures) (c .before .before .before .before .before .before .before .before .before .before .next-u322 .ensures))
+    ∙ ap₂ (λ (a b : Bool). cond (a && b) (hexText (take n (drop f (s .args .memory .now))) ++ (10 ∷ [])) badLine) (sym (not-false _ (c .before .before .before .before .before .before .before .before .if1 .left)) ∙ c .before .before .before .before .before .before .before .before .before .ends-within .ensures) (sym (le-leb (f + n) (length (s .args .memory .now)) (omega (arith, c .before .before .before .before .before .if2 .left))))))
     (wrote-byte (s .args .out .now) (s .args .to) (hexText part) 10 (c .before .before .write-hex .ensures)) in
     (w .0, w .1, omega (arith, few (c .before .before .before .before .before .before .before .before), hex-count part, length-take (f + n - f) (drop f (s .args .memory .now)), c .before .before .write-hex .ensures .0))
 

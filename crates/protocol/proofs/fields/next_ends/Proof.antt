@@ -1,8 +1,7 @@
 -- `protocol::fields::next_ends` reads two places, one behind the other. Assumes nothing.
 use borrow.Author.Needs.{needs}
-use Rattle.protocol.specs.declared.fields.NextPoint.{NextPoint}
-use Rattle.protocol.specs.Fields.{nextPoint, nextEnds, endsBy}
-use Rattle.protocol.proofs.Replies.{then-read}
+use Rattle.protocol.specs.Fields.{nextEnds}
+use Rattle.protocol.proofs.Replies.{two-read}
 use Rattle.protocol.proofs.fields.next_ends.Statement.{statement}
 use Rattle.protocol.proofs.fields.next_ends.Tie as tie
 
@@ -14,11 +13,7 @@ next-point-requires-2 c κs = search needs
 
 returns : tie.Need-returns
 unfolding nextEnds
-returns c =
-    let said = c .before .before .before .before .before .args .said .now in
-    let a = c .before .before .before .next-point in
-    let b = c .before .before .next-point2 in
-    then-read endsBy (λ (n : NextPoint). nextPoint said (n .next)) (a .ensures) (b .ensures)
+returns c = search two-read
 
 pub next-ends-spec : {M : Type 1} → statement M
 next-ends-spec = tie.close (tie.spec next-point-requires next-point-requires-2 returns)

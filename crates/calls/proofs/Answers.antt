@@ -1,32 +1,24 @@
 -- Which answer a line gets, and what writing it leaves. Assumes nothing.
 use mathlib.Core.Path.{_≡_, ap, ap₂, _∙_}
-use mathlib.Core.Bool.{true, false}
 use mathlib.Core.List.{List}
 use Prim.Native.Nat.{ℕ, _+_, _≤_, _<_}
-use lib.ListN.{length}
+use lib.ListN.{length, take}
 use lib.Seq.{sets}
 use borrow.Author.Tests.{le-leb, lt-leb}
 use Rattle.text.specs.Fields.{until}
 use Rattle.text.proofs.Writing.{Wrote}
-use Rattle.protocol.specs.Dump.{dumpLine}
-use Rattle.calls.specs.Lines.{Left, Session, wordOf, turnDone, answer, answered}
 use Rattle.protocol.specs.Reply.{badLine}
-use Rattle.calls.specs.Screen.{response}
-use Rattle.protocol.specs.Words.{sameWord}
-use Rattle.calls.specs.Words.{dumpWord}
+use Rattle.calls.specs.Lines.{Left, Session, lineAnswer, answer, answered}
 
 module _ (said : List ℕ) (l : Left) where
   pub answer-long : 128 < length said → _≡_ {A = List ℕ × Left} (badLine, l) (answer said l)
   unfolding answer
   answer-long h = rw (lt-leb (length said) 128 h)
 
-  pub answer-dump : length said ≤ 128 → sameWord (wordOf said) dumpWord ≡ true → _≡_ {A = List ℕ × Left} (dumpLine said (until 9 said + 1) (l .1), l) (answer said l)
+  -- as the code finds the word: it ends at a place
+  pub answer-short : {end : ℕ} {x : List ℕ × Left} → length said ≤ 128 → end ≡ until 9 said → x ≡ lineAnswer (take end said) said (end + 1) l → x ≡ answer said l
   unfolding answer
-  answer-dump h e = rw (le-leb (length said) 128 h, e)
-
-  pub answer-turn : length said ≤ 128 → sameWord (wordOf said) dumpWord ≡ false → turnDone (response (wordOf said) said (until 9 said + 1) (l .0) (l .1)) ≡ answer said l
-  unfolding answer
-  answer-turn h e = rw (le-leb (length said) 128 h, e)
+  answer-short h e q = rw (le-leb (length said) 128 h, ← e) q
 
 -- ---- the answer, written
 pub is-answered : (s : Session) (said : List ℕ) {bytes : List ℕ} {left : Left} {r : ℕ} {out : List ℕ}

@@ -1,6 +1,6 @@
 -- The buffer's bytes, the description of the frame and the lent length: what `frame`, `preset` and `read` answer and leave.
 use mathlib.Core.Bool.{cond, _&&_}
-use mathlib.Core.List.{List, _++_}
+use mathlib.Core.List.{List, [], _∷_, _++_}
 use Prim.Native.Nat.{ℕ}
 use lib.Dec.{eqb, leb}
 use lib.ListN.{length, take, drop}
@@ -12,16 +12,16 @@ use Rattle.framebuffer.specs.Answer.{sized, read}
 use Rattle.framebuffer.specs.Description.{described, size, sizeNumber, readNumber, colourAt}
 use Rattle.text.specs.declared.NextU32.{NextU32}
 use Rattle.text.specs.Fields.{nextU32}
-use Rattle.protocol.specs.declared.fields.NextPoint.{NextPoint}
 use Rattle.protocol.specs.declared.reply.Reply.{Reply}
-use Rattle.protocol.specs.declared.reply.Reply.the-variants.{Bad, Number, Count}
+use Rattle.protocol.specs.declared.reply.Reply.the-variants.{Bad, Number, One}
+use Rattle.protocol.specs.declared.reply.Value.the-variants.{Natural}
+use Rattle.protocol.specs.Reply.{ifLast}
+use Rattle.protocol.specs.Fields.{isLast, ofOne, ofTwo, nextPoint}
+use Rattle.protocol.specs.Words.{meant}
 use Rattle.calls.specs.declared.screen.Described.{Described}
 use Rattle.calls.specs.declared.screen.Screen.{Screen}
 use Rattle.calls.specs.declared.screen.Turn.{Turn}
-use Rattle.protocol.specs.Reply.{ifLast}
 use Rattle.calls.specs.Draw.{drawCall}
-use Rattle.protocol.specs.Fields.{isLast, nextPoint}
-use Rattle.protocol.specs.Words.{sameWord}
 use Rattle.calls.specs.Words.{frameWord, presetWord, readWord}
 
 -- every byte the same
@@ -46,15 +46,11 @@ after said n = nextU32 said (n .next)
 
 unfoldable pub nextScreen : List ℕ → ℕ → Described
 nextScreen said at =
-    let w = nextU32 said at in
-    let h = after said w in
-    let d = after said h in
-    let order = after said d in
-    describedBy said w h d order (after said order)
+    ofTwo (λ w h. ofTwo (λ d order. ofOne (describedBy said w h d order) (after said order)) (after said h) (after said)) (nextU32 said at) (after said)
 
 -- the size of the frame, and every byte of the buffer set to 0
 abbrev pub sizeSaid : Size → Reply
-sizeSaid a = Count (a .number) (a .bytes)
+sizeSaid a = One (a .number) (Natural (a .bytes))
 
 abbrev pub sizeOf : Frame → Reply
 sizeOf f = sizeSaid (sized (sizeNumber f) (size f))
@@ -63,32 +59,32 @@ abbrev pub framed : Described → Screen → List ℕ → Turn × List ℕ
 framed d s m = cond (d .ok) (turn (d .screen) (sizeOf (d .screen .frame)), allSet 0 m) (turn s Bad, m)
 
 unfoldable pub frameTurn : List ℕ → ℕ → Screen → List ℕ → Turn × List ℕ
-frameTurn said at s m = framed (nextScreen said at) s m
+frameTurn said at s m = ofOne (λ d. framed d s m) (nextScreen said at)
 
 -- ---- `preset V`: every byte of the buffer becomes V, 0 to 255
-abbrev pub presetBy : List ℕ → NextU32 → List ℕ → Reply × List ℕ
-presetBy said v m = cond (isLast said (v .next) && leb (v .value) 255) (Number 0, allSet (v .value) m) (Bad, m)
-
 unfoldable pub presetCall : List ℕ → ℕ → List ℕ → Reply × List ℕ
-presetCall said at m = presetBy said (nextU32 said at) m
+presetCall said at m = ofOne (λ v. cond (isLast said (v .next) && leb (v .value) 255) (Number 0, allSet (v .value) m) (Bad, m)) (nextU32 said at)
 
 -- ---- `read X Y`: number, colour
 abbrev pub readSaid : Read → Reply
-readSaid a = Count (a .number) (a .colour)
-
-abbrev pub readOf : List ℕ → Frame → List ℕ → NextPoint → Reply
-readOf said f b p = ifLast said (p .next) (readSaid (read (readNumber f (length b) (p .point)) (colourAt f (p .point) b)))
+readSaid a = One (a .number) (Natural (a .colour))
 
 unfoldable pub readReply : List ℕ → ℕ → Frame → List ℕ → Reply
-readReply said at f b = readOf said f b (nextPoint said at)
+readReply said at f b = ofOne (λ p. ifLast said (p .next) (readSaid (read (readNumber f (length b) (p .point)) (colourAt f (p .point) b)))) (nextPoint said at)
 
--- ---- a line by its word, all but `dump`: the calls are on the lent part, and the bytes behind it stay
+-- ---- a line by its word, all but `dump`: a turn on the buffer leaves the screen; the calls are on the lent part, and the bytes behind it stay
+abbrev pub bufferTurn : Screen → Reply × List ℕ → Turn × List ℕ
+bufferTurn s c = (turn s (c .0), c .1)
+
 abbrev pub lentTurn : Screen → List ℕ → Reply × List ℕ → Turn × List ℕ
 lentTurn s m c = (turn s (c .0), c .1 ++ drop (s .lent) m)
 
-unfoldable pub response : List ℕ → List ℕ → ℕ → Screen → List ℕ → Turn × List ℕ
-response word said at s m =
-    cond (sameWord word frameWord) (frameTurn said at s m)
-    (cond (sameWord word presetWord) (turn s (presetCall said at m .0), presetCall said at m .1)
-    (cond (sameWord word readWord) (turn s (readReply said at (s .frame) (take (s .lent) m)), m)
-    (lentTurn s m (drawCall word said at (s .frame) (take (s .lent) m)))))
+abbrev pub turnTable : List ℕ → ℕ → Screen → List ℕ → List (List ℕ × (Turn × List ℕ))
+turnTable said at s m =
+    (frameWord, frameTurn said at s m)
+    ∷ (presetWord, bufferTurn s (presetCall said at m))
+    ∷ (readWord, (turn s (readReply said at (s .frame) (take (s .lent) m)), m))
+    ∷ []
+
+abbrev pub response : List ℕ → List ℕ → ℕ → Screen → List ℕ → Turn × List ℕ
+response word said at s m = meant word (turnTable said at s m) (lentTurn s m (drawCall word said at (s .frame) (take (s .lent) m)))

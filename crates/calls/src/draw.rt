@@ -8,7 +8,7 @@ use protocol::next_circle;
 use protocol::next_ends;
 use protocol::next_point;
 use protocol::next_vertices;
-use protocol::same;
+use protocol::place_in;
 use questions::ask;
 
 fn pixel(said: &[u8], at: usize, buf: &mut [u8], frame: Frame) -> Reply
@@ -86,23 +86,13 @@ fn circle(said: &[u8], at: usize, buf: &mut [u8], frame: Frame) -> Reply
 pub fn draw(word: &[u8], said: &[u8], at: usize, buf: &mut [u8], frame: Frame) -> Reply
     ensures { λ r. ⌜ (r, now (buf .exit)) ≡ drawCall (now (word .entry)) (now (said .entry)) at frame (now (buf .entry)) ⌝ }
 {
-    if same(word, b"pixel") {
-        return pixel(said, at, buf, frame);
+    match place_in(b"pixel\tfill\tline\ttriangle\toutline\tcircle", word) {
+        0 => pixel(said, at, buf, frame),
+        1 => fill(said, at, buf, frame),
+        2 => line(said, at, buf, frame),
+        3 => triangle(said, at, buf, frame),
+        4 => outline(said, at, buf, frame),
+        5 => circle(said, at, buf, frame),
+        _ => ask(word, said, at),
     }
-    if same(word, b"fill") {
-        return fill(said, at, buf, frame);
-    }
-    if same(word, b"line") {
-        return line(said, at, buf, frame);
-    }
-    if same(word, b"triangle") {
-        return triangle(said, at, buf, frame);
-    }
-    if same(word, b"outline") {
-        return outline(said, at, buf, frame);
-    }
-    if same(word, b"circle") {
-        return circle(said, at, buf, frame);
-    }
-    ask(word, said, at)
 }

@@ -7,7 +7,7 @@ ghost use Rattle.calls.specs.Lines.{answered, room};
 use crate::screen::Screen;
 use crate::screen::respond;
 use protocol::dump;
-use protocol::same;
+use protocol::place_in;
 use protocol::write_bad;
 use protocol::write_reply;
 
@@ -41,17 +41,21 @@ pub fn answer_line(
     }
     let end = text::find(said, b'\t');
     let word = &said[..end];
-    if same(word, b"dump") {
-        let filled = dump(said, end + 1, memory, out, at);
-        return Answered { screen, at: filled };
-    }
-    let turn = respond(word, said, end + 1, memory, screen);
-    let after = turn.screen;
-    let reply = turn.reply;
-    let filled = write_reply(out, at, reply);
-    Answered {
-        screen: after,
-        at: filled,
+    match place_in(b"dump", word) {
+        0 => {
+            let filled = dump(said, end + 1, memory, out, at);
+            Answered { screen, at: filled }
+        }
+        _ => {
+            let turn = respond(word, said, end + 1, memory, screen);
+            let after = turn.screen;
+            let reply = turn.reply;
+            let filled = write_reply(out, at, reply);
+            Answered {
+                screen: after,
+                at: filled,
+            }
+        }
     }
 }
 

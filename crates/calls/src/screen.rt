@@ -6,10 +6,11 @@ ghost use Rattle.calls.specs.Screen.{nextScreen, frameTurn, presetCall, 
 use crate::draw::draw;
 use framebuffer::Frame;
 use protocol::Reply;
+use protocol::Value;
 use protocol::ends_at;
 use protocol::ends_within;
 use protocol::next_point;
-use protocol::same;
+use protocol::place_in;
 
 // The description, and how many bytes of the buffer are lent to drawing calls.
 pub struct Screen {
@@ -67,7 +68,7 @@ fn frame(said: &[u8], at: usize, memory: &mut [u8], screen: Screen) -> Turn
     let size = framebuffer::buffer_size_bpp(after.frame);
     Turn {
         screen: after,
-        reply: Reply::Count(size.number, size.bytes),
+        reply: Reply::One(size.number, Value::Natural(size.bytes)),
     }
 }
 
@@ -90,7 +91,7 @@ fn read(said: &[u8], at: usize, buf: &[u8], frame: Frame) -> Reply
         return Reply::Bad;
     }
     let found = framebuffer::pixel(buf, frame, place.point);
-    Reply::Count(found.number, found.colour)
+    Reply::One(found.number, Value::Natural(found.colour))
 }
 
 // Inside the library: does what the line says that starts with the word, all but `dump`. Calls are made on the lent part of the buffer.
@@ -98,18 +99,20 @@ pub fn respond(word: &[u8], said: &[u8], at: usize, memory: &mut [u8], screen: S
     requires { ⌜ screen .lent ≤ length (now memory) ⌝ }
     ensures { λ r. ⌜ (r, now (memory .exit)) ≡ response (now (word .entry)) (now (said .entry)) at screen (now (memory .entry)) ⌝ }
 {
-    if same(word, b"frame") {
-        return frame(said, at, memory, screen);
-    }
-    if same(word, b"preset") {
-        let reply = preset(said, at, memory);
-        return Turn { screen, reply };
-    }
     let lent = screen.lent;
-    if same(word, b"read") {
-        let reply = read(said, at, &memory[..lent], screen.frame);
-        return Turn { screen, reply };
+    match place_in(b"frame\tpreset\tread", word) {
+        0 => frame(said, at, memory, screen),
+        1 => {
+            let reply = preset(said, at, memory);
+            Turn { screen, reply }
+        }
+        2 => {
+            let reply = read(said, at, &memory[..lent], screen.frame);
+            Turn { screen, reply }
+        }
+        _ => {
+            let reply = draw(word, said, at, &mut memory[..lent], screen.frame);
+            Turn { screen, reply }
+        }
     }
-    let reply = draw(word, said, at, &mut memory[..lent], screen.frame);
-    Turn { screen, reply }
 }

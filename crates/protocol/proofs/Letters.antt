@@ -93,5 +93,19 @@ module _ {A : Type 0} (word : List ℕ) (ms : List (List ℕ × A)) (other : A) 
   pub meant-other : NoneBelow (length ms) k → r ≡ other → r ≡ meant word ms other
   meant-other h q = meant-as k refl (q ∙ sym (past-all k ms other (none-below (length ms) k h)))
 
+-- what holds of every meaning holds of the word's
+abbrev pub Each : {A : Type 0} → (A → Type 0) → List (List ℕ × A) → Type 0
+Each P [] = Unit {0}
+Each P (m ∷ ms) = P (m .1) × Each P ms
+
+pub meant-each : {A : Type 0} (P : A → Type 0) (word : List ℕ) (ms : List (List ℕ × A)) (other : A) → Each P ms → P other → P (meant word ms other)
+unfolding meant
+meant-each P word [] other h o = o
+meant-each P word (m ∷ ms) other h o = by (sameWord word (m .0)) (meant-each P word ms other (h .1) o)
+  where
+    by : (t : Bool) → P (meant word ms other) → P (cond t (m .1) (meant word ms other))
+    by true r = h .0
+    by false r = r
+
 -- what answers the needs of a choice by the word
 pub ruleset choices = (meant-as, meant-other)

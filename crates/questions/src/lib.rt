@@ -66,7 +66,11 @@ fn span(said: &[u8], at: usize) -> Reply
         return Reply::Bad;
     }
     let found = triangle::row_span(t.v1, t.v2, t.v3, row.value);
-    Reply::Two(found.number, Value::Whole(found.start), Value::Whole(found.end))
+    Reply::Two(
+        found.number,
+        Value::Whole(found.start),
+        Value::Whole(found.end),
+    )
 }
 
 fn rows(said: &[u8], at: usize) -> Reply
@@ -77,7 +81,11 @@ fn rows(said: &[u8], at: usize) -> Reply
         return Reply::Bad;
     }
     let found = triangle::rows(t.v1, t.v2, t.v3);
-    Reply::Two(found.number, Value::Whole(found.first), Value::Natural(found.count))
+    Reply::Two(
+        found.number,
+        Value::Whole(found.first),
+        Value::Natural(found.count),
+    )
 }
 
 fn disc(said: &[u8], at: usize) -> Reply
@@ -100,14 +108,21 @@ fn discspan(said: &[u8], at: usize) -> Reply
         return Reply::Bad;
     }
     let found = circle::row_span(round.topleft, round.diameter, row.value);
-    Reply::Two(found.number, Value::Whole(found.start), Value::Whole(found.end))
+    Reply::Two(
+        found.number,
+        Value::Whole(found.start),
+        Value::Whole(found.end),
+    )
 }
 
 // The answer to the question that starts with the word.
 pub fn ask(word: &[u8], said: &[u8], at: usize) -> Reply
     ensures { λ r. ⌜ r ≡ askReply (now (word .entry)) (now (said .entry)) at ⌝ }
 {
-    match place_in(b"length\tpoint\tonline\tinside\tspan\trows\tdisc\tdiscspan", word) {
+    match place_in(
+        b"length\tpoint\tonline\tinside\tspan\trows\tdisc\tdiscspan",
+        word,
+    ) {
         0 => length(said, at),
         1 => point(said, at),
         2 => online(said, at),

@@ -1,5 +1,6 @@
 -- `calls::draw::fill` hands on what the library answers and leaves, where the line ends behind the colour. Assumes nothing.
 use borrow.Author.Needs.{needs}
+use Rattle.calls.specs.Draw.{fillCall}
 use Rattle.calls.proofs.Calls.{calls}
 use Rattle.calls.proofs.draw.fill.Statement.{statement}
 use Rattle.calls.proofs.draw.fill.Tie as tie
@@ -11,6 +12,7 @@ ends-at-requires : tie.Need-ends-at-requires
 ends-at-requires c κs = search needs
 
 returns : tie.Need-returns
+unfolding fillCall
 returns c = search calls
 
 fill-requires : tie.Need-fill-requires
@@ -20,6 +22,7 @@ same-length : tie.Need-same-length
 same-length c = search needs
 
 returns-2 : tie.Need-returns-2
+unfolding fillCall
 returns-2 c = search calls
 
 pub fill-spec : {M : Type 1} → statement M

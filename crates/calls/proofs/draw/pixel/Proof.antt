@@ -1,5 +1,6 @@
 -- `calls::draw::pixel` hands on what the library answers and leaves, where the line ends behind the colour. Assumes nothing.
 use borrow.Author.Needs.{needs}
+use Rattle.calls.specs.Draw.{pixelCall}
 use Rattle.calls.proofs.Calls.{calls}
 use Rattle.calls.proofs.draw.pixel.Statement.{statement}
 use Rattle.calls.proofs.draw.pixel.Tie as tie
@@ -14,6 +15,7 @@ ends-at-requires : tie.Need-ends-at-requires
 ends-at-requires c κs = search needs
 
 returns : tie.Need-returns
+unfolding pixelCall
 returns c = search calls
 
 set-pixel-requires : tie.Need-set-pixel-requires
@@ -23,6 +25,7 @@ same-length : tie.Need-same-length
 same-length c = search needs
 
 returns-2 : tie.Need-returns-2
+unfolding pixelCall
 returns-2 c = search calls
 
 pub pixel-spec : {M : Type 1} → statement M

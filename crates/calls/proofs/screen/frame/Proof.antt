@@ -1,5 +1,6 @@
 -- `calls::screen::frame` clears the buffer and answers the size, where the line is a description. Assumes nothing.
 use borrow.Author.Needs.{needs}
+use Rattle.calls.specs.Screen.{frameTurn}
 use Rattle.calls.proofs.Turns.{turns}
 use Rattle.calls.proofs.screen.frame.Statement.{statement}
 use Rattle.calls.proofs.screen.frame.Tie as tie
@@ -8,6 +9,7 @@ next-screen-requires : tie.Need-next-screen-requires
 next-screen-requires c κs = search needs
 
 returns : tie.Need-returns
+unfolding frameTurn
 returns c = search turns
 
 set-all-requires : tie.Need-set-all-requires
@@ -20,6 +22,7 @@ same-length : tie.Need-same-length
 same-length c = search needs
 
 returns-2 : tie.Need-returns-2
+unfolding frameTurn
 returns-2 c = search turns
 
 pub frame-spec : {M : Type 1} → statement M

@@ -6,6 +6,7 @@ use borrow.Author.Needs.{needs}
 use borrow.Author.Tests.{not-false, leb-true}
 use Rattle.text.proofs.And.{and-second}
 use Rattle.protocol.specs.Fields.{isLast}
+use Rattle.calls.specs.Screen.{presetCall}
 use Rattle.calls.proofs.Turns.{turns}
 use Rattle.calls.proofs.screen.preset.Statement.{statement}
 use Rattle.calls.proofs.screen.preset.Tie as tie
@@ -17,6 +18,7 @@ ends-within-requires : tie.Need-ends-within-requires
 ends-within-requires c κs = search needs
 
 returns : tie.Need-returns
+unfolding presetCall
 returns c = search turns
 
 cast-set-all : tie.Need-cast-set-all
@@ -31,6 +33,7 @@ same-length : tie.Need-same-length
 same-length c = search needs
 
 returns-2 : tie.Need-returns-2
+unfolding presetCall
 returns-2 c = search turns
 
 pub preset-spec : {M : Type 1} → statement M

@@ -1,47 +1,20 @@
--- `calls::screen::respond` compares the word with each in turn; the bytes behind the lent part come back as they were. Assumes nothing.
+-- `calls::screen::respond` takes the turn at whose place in the table the word is; the bytes behind the lent part come back as they were. Assumes nothing.
 use borrow.Author.Needs.{needs}
-use Rattle.calls.specs.Screen.{response}
 use Rattle.calls.proofs.Turns.{turn-words}
 use Rattle.calls.proofs.screen.respond.Statement.{statement}
 use Rattle.calls.proofs.screen.respond.Tie as tie
 
-slice-aggregate-same : tie.Need-slice-aggregate-same
-slice-aggregate-same c = search needs
+slice-aggregate-place-in : tie.Need-slice-aggregate-place-in
+slice-aggregate-place-in c = search needs
 
-same-requires : tie.Need-same-requires
-same-requires c κs = search needs
+place-in-requires : tie.Need-place-in-requires
+place-in-requires c κs = search needs
 
 frame-requires : tie.Need-frame-requires
 frame-requires c κs = search needs
 
-same-length : tie.Need-same-length
-same-length c = search needs
-
-returns : tie.Need-returns
-unfolding response
-returns c = search turn-words
-
-slice-aggregate-same-2 : tie.Need-slice-aggregate-same-2
-slice-aggregate-same-2 c = search needs
-
-same-requires-2 : tie.Need-same-requires-2
-same-requires-2 c κs = search needs
-
 preset-requires : tie.Need-preset-requires
 preset-requires c κs = search needs
-
-same-length-2 : tie.Need-same-length-2
-same-length-2 c = search needs
-
-returns-2 : tie.Need-returns-2
-unfolding response
-returns-2 c = search turn-words
-
-slice-aggregate-same-3 : tie.Need-slice-aggregate-same-3
-slice-aggregate-same-3 c = search needs
-
-same-requires-3 : tie.Need-same-requires-3
-same-requires-3 c κs = search needs
 
 slice-reshare-prefix-read : tie.Need-slice-reshare-prefix-read
 slice-reshare-prefix-read c = search needs
@@ -52,13 +25,6 @@ slice-aggregate-read c = search turn-words
 read-requires : tie.Need-read-requires
 read-requires c κs = search needs
 
-same-length-3 : tie.Need-same-length-3
-same-length-3 c = search needs
-
-returns-3 : tie.Need-returns-3
-unfolding response
-returns-3 c = search turn-words
-
 slice-relend-prefix-draw : tie.Need-slice-relend-prefix-draw
 slice-relend-prefix-draw c = search needs
 
@@ -68,36 +34,49 @@ slice-aggregate-draw c = search turn-words
 draw-requires : tie.Need-draw-requires
 draw-requires c κs = search needs
 
+same-length : tie.Need-same-length
+same-length c = search needs
+
+returns : tie.Need-returns
+returns c = search turn-words
+
+same-length-2 : tie.Need-same-length-2
+same-length-2 c = search needs
+
+returns-2 : tie.Need-returns-2
+returns-2 c = search turn-words
+
+same-length-3 : tie.Need-same-length-3
+same-length-3 c = search needs
+
+returns-3 : tie.Need-returns-3
+returns-3 c = search turn-words
+
 same-length-4 : tie.Need-same-length-4
 same-length-4 c = search needs
 
 returns-4 : tie.Need-returns-4
-unfolding response
 returns-4 c = search turn-words
 
 pub respond-spec : {M : Type 1} → statement M
 respond-spec =
     tie.close
     (tie.spec
-    slice-aggregate-same
-    same-requires
+    slice-aggregate-place-in
+    place-in-requires
     frame-requires
-    same-length
-    returns
-    slice-aggregate-same-2
-    same-requires-2
     preset-requires
-    same-length-2
-    returns-2
-    slice-aggregate-same-3
-    same-requires-3
     slice-reshare-prefix-read
     slice-aggregate-read
     read-requires
-    same-length-3
-    returns-3
     slice-relend-prefix-draw
     slice-aggregate-draw
     draw-requires
+    same-length
+    returns
+    same-length-2
+    returns-2
+    same-length-3
+    returns-3
     same-length-4
     returns-4)

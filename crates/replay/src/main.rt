@@ -47,13 +47,13 @@ fn refill(input: &mut [u8], st: State) -> State
         return st;
     }
     let kept = text::keep(input, next, end, 129);
-    let got = console::read_more(input, kept);
+    let came = console::read_more(input, kept);
     let screen = st.screen;
     State {
         next: 0,
-        end: kept + got,
+        end: kept + came.count,
         at: st.at,
-        more: got > 0,
+        more: came.count > 0,
         screen,
     }
 }

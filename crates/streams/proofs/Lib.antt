@@ -1,0 +1,4 @@
+pub mod Refilling
+pub mod Answers
+pub mod Run
+pub mod Lines

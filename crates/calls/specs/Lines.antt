@@ -1,18 +1,16 @@
 -- What a line is answered and what it leaves, and the same of the lines of an input.
-use mathlib.Core.Bool.{Bool, false, cond}
-use mathlib.Core.List.{List, [], _∷_, _++_}
+use mathlib.Core.Bool.{Bool, cond}
+use mathlib.Core.List.{List, [], _∷_}
 use Prim.Native.Nat.{ℕ, _+_}
 use lib.Dec.{leb}
 use lib.ListN.{length, take}
 use lib.Seq.{sets}
-use Rattle.framebuffer.specs.Description.{described}
 use Rattle.text.specs.Fields.{until}
-use Rattle.text.specs.Lines.{over}
 use Rattle.calls.specs.declared.screen.Screen.{Screen}
 use Rattle.calls.specs.declared.screen.Turn.{Turn}
 use Rattle.protocol.specs.Dump.{dumpLine}
 use Rattle.protocol.specs.Reply.{badLine, replyLine}
-use Rattle.calls.specs.Screen.{screenOf, response}
+use Rattle.calls.specs.Screen.{response}
 use Rattle.protocol.specs.Words.{meant}
 use Rattle.calls.specs.Words.{dumpWord}
 
@@ -48,14 +46,3 @@ answered s said = ((s .0 .0 + length (answer said (s .1) .0), sets (s .0 .1) (s 
 -- the longest answer has two digits for each of 4,096 bytes, and LF
 abbrev pub room : Session → Bool
 room s = leb (s .0 .0 + 8193) (length (s .0 .1))
-
--- ---- what the program writes for an input: the answers to its lines, from the state at the start on
-abbrev pub told : List ℕ × Left → List ℕ → List ℕ × Left
-told o said = (o .0 ++ answer said (o .1) .0, answer said (o .1) .1)
-
--- width 0, height 0, depth 1, little end first, length 0
-abbrev pub start : Screen
-start = screenOf (described 0 0 1 false) 0
-
-abbrev pub output : List ℕ → List ℕ → List ℕ
-output memory input = over told ([], (start, memory)) input .0

@@ -1,5 +1,5 @@
 -- The buffer's bytes, the description of the frame and the lent length: what `frame`, `preset` and `read` answer and leave.
-use mathlib.Core.Bool.{cond, _&&_}
+use mathlib.Core.Bool.{false, cond, _&&_}
 use mathlib.Core.List.{List, [], _∷_, _++_}
 use Prim.Native.Nat.{ℕ}
 use lib.Dec.{eqb, leb}
@@ -34,6 +34,10 @@ turn s r = record { screen = s; reply = r }
 -- ---- `frame W H DEPTH ORDER LENGTH`: the description, if ORDER is 0 or 1 and LENGTH at most 65,536
 abbrev pub screenOf : Frame → ℕ → Screen
 screenOf f lent = record { frame = f; lent = lent }
+
+-- before any line: width 0, height 0, depth 1, little end first, length 0
+abbrev pub start : Screen
+start = screenOf (described 0 0 1 false) 0
 
 abbrev pub describedBy : List ℕ → NextU32 → NextU32 → NextU32 → NextU32 → NextU32 → Described
 describedBy said w h d order lent = record {

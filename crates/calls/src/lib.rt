@@ -8,3 +8,4 @@ pub use lines::Progress;
 pub use lines::answer_line;
 pub use lines::answer_lines;
 pub use screen::Screen;
+pub use screen::first_screen;

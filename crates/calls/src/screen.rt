@@ -2,7 +2,7 @@
 ghost use mathlib.Core.Path.{_≡_};
 ghost use Prim.Native.Nat.{_≤_};
 ghost use lib.ListN.{length};
-ghost use Rattle.calls.specs.Screen.{nextScreen, frameTurn, presetCall, readReply, response};
+ghost use Rattle.calls.specs.Screen.{start, nextScreen, frameTurn, presetCall, readReply, response};
 use crate::draw::draw;
 use framebuffer::Frame;
 use protocol::Reply;
@@ -16,6 +16,16 @@ use protocol::place_in;
 pub struct Screen {
     pub frame: Frame,
     pub lent: usize,
+}
+
+// Before any line: nothing is described and nothing lent.
+pub fn first_screen() -> Screen
+    ensures { λ r. ⌜ r ≡ start ⌝ }
+{
+    Screen {
+        frame: Frame::new(0, 0, 1, false),
+        lent: 0,
+    }
 }
 
 // What a line leaves of the screen, and what it is answered.

@@ -39,7 +39,7 @@ written-half st failed = by (ltb (st .at) 32768) refl
     by true e = ltb-true (st .at) 32768 e
     by false e = omega arith
 
-written-within : (st : State) (failed : Bool) → Within st → Within (written st failed)
+pub written-within : (st : State) (failed : Bool) → Within st → Within (written st failed)
 written-within st failed w = by (ltb (st .at) 32768)
   where
     by : (t : Bool) → Within (cond t st (emptied st failed))
@@ -54,7 +54,7 @@ written-turns st failed = by (ltb (st .at) 32768)
     by false = refl
 
 -- ---- after a read as much is filled as before
-refilled-at : (input : List ℕ) (st r : State) (after : List ℕ) → Refilled input st r after → r .at ≡ st .at
+pub refilled-at : (input : List ℕ) (st r : State) (after : List ℕ) → Refilled input st r after → r .at ≡ st .at
 refilled-at input st r after f = by (line-left input st) refl
   where
     by : (t : Bool) → line-left input st ≡ t → r .at ≡ st .at

@@ -2,3 +2,4 @@ pub mod Refilling
 pub mod Answers
 pub mod Run
 pub mod Lines
+pub mod Turns

@@ -1,14 +1,9 @@
 -- Each exported contract determines its answer and every byte: any two results that it allows of the same arguments are equal. `Post` is the
 -- contract as the source states it; the buffer, which comes first, is at exit the first of s. Assumes nothing.
-use mathlib.Core.Path.{_≡_, sym, ap, _∙_}
-use mathlib.Core.Bool.{Bool}
+use mathlib.Core.Path.{_≡_, sym, _∙_}
 use mathlib.Core.List.{List}
 use Prim.Native.Nat.{ℕ}
-use lib.IntN.{ℤ}
-use Rattle.framebuffer.specs.declared.Frame.{Frame}
 use Rattle.framebuffer.specs.declared.Drawn.{Drawn}
-use Rattle.framebuffer.specs.Answer.{drawn}
-use Rattle.framebuffer.specs.Description.{afterDraw}
 use Rattle.beamacorn.proofs.beamacorn_line_length.Reads as line-length
 use Rattle.beamacorn.proofs.beamacorn_line_point.Reads as line-point
 use Rattle.beamacorn.proofs.beamacorn_line_has_point.Reads as line-has-point
@@ -58,27 +53,20 @@ pub pixel-one : (κs : _) (args : _) (r q : _) (s t : _) → pixel.Post κs args
 pixel-one κs args r q s t h k = h ∙ sym k
 
 -- ---- calls that draw: the answer, and the bytes that it leaves
-one : (f : Frame) {n : ℕ} (figure : ℤ → ℤ → Bool) (colour : ℕ) (b : List ℕ) {r q : Drawn} {a a′ : List ℕ}
-    → (r ≡ drawn n) × (a ≡ afterDraw f (r .number) figure colour b)
-    → (q ≡ drawn n) × (a′ ≡ afterDraw f (q .number) figure colour b) → (r ≡ q) × (a ≡ a′)
-one f figure colour b h k =
-    let e = h .0 ∙ sym (k .0) in
-    (e, h .1 ∙ ap (λ (d : Drawn). afterDraw f (d .number) figure colour b) e ∙ sym (k .1))
+pub set-pixel-one : (κs : _) (args : _) (r q : _) (s t : _) → set-pixel.Post κs args r s → set-pixel.Post κs args q t → _≡_ {A = Drawn × List ℕ} (r, s .0 .now) (q, t .0 .now)
+set-pixel-one κs args r q s t h k = h ∙ sym k
 
-pub set-pixel-one : (κs : _) (args : _) (r q : _) (s t : _) → set-pixel.Post κs args r s → set-pixel.Post κs args q t → (r ≡ q) × (s .0 .now ≡ t .0 .now)
-set-pixel-one κs args r q s t h k = one _ _ _ _ h k
+pub fill-one : (κs : _) (args : _) (r q : _) (s t : _) → fill.Post κs args r s → fill.Post κs args q t → _≡_ {A = Drawn × List ℕ} (r, s .0 .now) (q, t .0 .now)
+fill-one κs args r q s t h k = h ∙ sym k
 
-pub fill-one : (κs : _) (args : _) (r q : _) (s t : _) → fill.Post κs args r s → fill.Post κs args q t → (r ≡ q) × (s .0 .now ≡ t .0 .now)
-fill-one κs args r q s t h k = one _ _ _ _ h k
+pub draw-line-one : (κs : _) (args : _) (r q : _) (s t : _) → draw-line.Post κs args r s → draw-line.Post κs args q t → _≡_ {A = Drawn × List ℕ} (r, s .0 .now) (q, t .0 .now)
+draw-line-one κs args r q s t h k = h ∙ sym k
 
-pub draw-line-one : (κs : _) (args : _) (r q : _) (s t : _) → draw-line.Post κs args r s → draw-line.Post κs args q t → (r ≡ q) × (s .0 .now ≡ t .0 .now)
-draw-line-one κs args r q s t h k = one _ _ _ _ h k
+pub draw-triangle-one : (κs : _) (args : _) (r q : _) (s t : _) → draw-triangle.Post κs args r s → draw-triangle.Post κs args q t → _≡_ {A = Drawn × List ℕ} (r, s .0 .now) (q, t .0 .now)
+draw-triangle-one κs args r q s t h k = h ∙ sym k
 
-pub draw-triangle-one : (κs : _) (args : _) (r q : _) (s t : _) → draw-triangle.Post κs args r s → draw-triangle.Post κs args q t → (r ≡ q) × (s .0 .now ≡ t .0 .now)
-draw-triangle-one κs args r q s t h k = one _ _ _ _ h k
+pub draw-outline-one : (κs : _) (args : _) (r q : _) (s t : _) → draw-outline.Post κs args r s → draw-outline.Post κs args q t → _≡_ {A = Drawn × List ℕ} (r, s .0 .now) (q, t .0 .now)
+draw-outline-one κs args r q s t h k = h ∙ sym k
 
-pub draw-outline-one : (κs : _) (args : _) (r q : _) (s t : _) → draw-outline.Post κs args r s → draw-outline.Post κs args q t → (r ≡ q) × (s .0 .now ≡ t .0 .now)
-draw-outline-one κs args r q s t h k = one _ _ _ _ h k
-
-pub draw-circle-one : (κs : _) (args : _) (r q : _) (s t : _) → draw-circle.Post κs args r s → draw-circle.Post κs args q t → (r ≡ q) × (s .0 .now ≡ t .0 .now)
-draw-circle-one κs args r q s t h k = one _ _ _ _ h k
+pub draw-circle-one : (κs : _) (args : _) (r q : _) (s t : _) → draw-circle.Post κs args r s → draw-circle.Post κs args q t → _≡_ {A = Drawn × List ℕ} (r, s .0 .now) (q, t .0 .now)
+draw-circle-one κs args r q s t h k = h ∙ sym k

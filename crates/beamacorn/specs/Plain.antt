@@ -1,15 +1,23 @@
 -- The plain numbers of the exported functions: a description's order, and the answer that holds a point.
 use mathlib.Core.Bool.{not}
+use mathlib.Core.List.{List}
 use Prim.Native.Nat.{ℕ}
 use lib.Dec.{eqb}
 use Rattle.line.specs.declared.Step as line
 use Rattle.framebuffer.specs.declared.Frame.{Frame}
+use Rattle.framebuffer.specs.declared.Drawn.{Drawn}
 use Rattle.framebuffer.specs.Description.{described}
+use Rattle.framebuffer.specs.Drawing.{Drawing, outcome}
+use Rattle.framebuffer.specs.Window.{wholeWindow}
 use Rattle.beamacorn.specs.declared.Step.{Step}
 
 -- 01, "Packed frames", "little or big end first as the description says": 0 is little, anything else big
 abbrev pub frameOf : ℕ → ℕ → ℕ → ℕ → Frame
 frameOf width height depth order = described width height depth (not (eqb order 0))
+
+-- what a call that draws on the whole of that frame answers and leaves
+abbrev pub outcomeOn : ℕ → ℕ → ℕ → ℕ → Drawing → List ℕ → Drawn × List ℕ
+outcomeOn width height depth order d b = let f = frameOf width height depth order in outcome f (wholeWindow f) d b
 
 -- the point's coordinates beside its number
 abbrev pub plainStep : line.Step → Step

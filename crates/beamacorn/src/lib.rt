@@ -2,20 +2,20 @@
 // says what a caller needs to know.
 ghost use mathlib.Core.Path.{_≡_};
 ghost use lib.ListN.{length};
+ghost use Rattle.refusals.specs.First.{first};
 ghost use Rattle.geometry.specs.Answer.{verdict, span};
 ghost use Rattle.line.specs.Line.{points, pointAt, hasPoint};
-ghost use Rattle.line.specs.Answer.{endRefusal, stepRefusal, lengthAnswer, stepAnswer};
+ghost use Rattle.line.specs.Answer.{endTests, stepTests, lengthAnswer, stepAnswer};
 ghost use Rattle.triangle.specs.Triangle as triangle;
 ghost use Rattle.triangle.specs.Row.{rowSpan, firstRow, rowCount};
-ghost use Rattle.triangle.specs.Answer.{vertexRefusal, rowsAnswer};
+ghost use Rattle.triangle.specs.Answer.{vertexTests, rowsAnswer};
 ghost use Rattle.circle.specs.Circle as circle;
-ghost use Rattle.circle.specs.Refusal.{refusalOf};
-ghost use Rattle.layout.specs.Figure.{single, everywhere};
-ghost use Rattle.framebuffer.specs.Answer.{sized, drawn, read};
-ghost use Rattle.framebuffer.specs.Description.{size, sizeNumber, drawNumber, readNumber, colourAt, afterDraw};
-ghost use Rattle.drawing.specs.Figure.{lineFigure, outlineFigure, triangleFigure, circleFigure};
-ghost use Rattle.drawing.specs.Number.{lineNumber, triangleNumber, circleNumber};
-ghost use Rattle.beamacorn.specs.Plain.{frameOf, plainStep};
+ghost use Rattle.circle.specs.Refusal.{circleTests};
+ghost use Rattle.framebuffer.specs.Answer.{sized, read};
+ghost use Rattle.framebuffer.specs.Description.{size, descriptionTests, readTests, colourAt};
+ghost use Rattle.framebuffer.specs.Drawing.{pixelDrawing, fillDrawing};
+ghost use Rattle.drawing.specs.Drawing.{lineDrawing, outlineDrawing, triangleDrawing, circleDrawing};
+ghost use Rattle.beamacorn.specs.Plain.{frameOf, plainStep, outcomeOn};
 use framebuffer::Drawn;
 use framebuffer::Frame;
 use geometry::Point;
@@ -33,7 +33,7 @@ pub struct Step {
 // The number of points of the line from (x1, y1) to (x2, y2).
 #[no_mangle]
 pub extern "C" fn beamacorn_line_length(x1: i32, y1: i32, x2: i32, y2: i32) -> line::Length
-    ensures { λ r. ⌜ r ≡ lengthAnswer (endRefusal (x1, y1) (x2, y2) 0) (points (x1, y1) (x2, y2)) ⌝ }
+    ensures { λ r. ⌜ r ≡ lengthAnswer (first (endTests (x1, y1) (x2, y2))) (points (x1, y1) (x2, y2)) ⌝ }
 {
     line::major_length(Point(x1, y1), Point(x2, y2))
 }
@@ -41,7 +41,7 @@ pub extern "C" fn beamacorn_line_length(x1: i32, y1: i32, x2: i32, y2: i32) -> l
 // The point of the line at a step, the start being step 0.
 #[no_mangle]
 pub extern "C" fn beamacorn_line_point(x1: i32, y1: i32, x2: i32, y2: i32, step: u32) -> Step
-    ensures { λ r. ⌜ r ≡ plainStep (stepAnswer (stepRefusal (x1, y1) (x2, y2) step) (pointAt (x1, y1) (x2, y2) step)) ⌝ }
+    ensures { λ r. ⌜ r ≡ plainStep (stepAnswer (first (stepTests (x1, y1) (x2, y2) step)) (pointAt (x1, y1) (x2, y2) step)) ⌝ }
 {
     let answer = line::point(Point(x1, y1), Point(x2, y2), step);
     let point = answer.point;
@@ -62,7 +62,7 @@ pub extern "C" fn beamacorn_line_has_point(
     x: i32,
     y: i32,
 ) -> geometry::Verdict
-    ensures { λ r. ⌜ r ≡ verdict (endRefusal (x1, y1) (x2, y2) 0) (hasPoint (x1, y1) (x2, y2) (x, y)) ⌝ }
+    ensures { λ r. ⌜ r ≡ verdict (first (endTests (x1, y1) (x2, y2))) (hasPoint (x1, y1) (x2, y2) (x, y)) ⌝ }
 {
     line::has_point(Point(x1, y1), Point(x2, y2), Point(x, y))
 }
@@ -79,7 +79,7 @@ pub extern "C" fn beamacorn_triangle_contains(
     x: i32,
     y: i32,
 ) -> geometry::Verdict
-    ensures { λ r. ⌜ r ≡ verdict (vertexRefusal (x1, y1) (x2, y2) (x3, y3)) (triangle.contained (x1, y1) (x2, y2) (x3, y3) (x, y)) ⌝ }
+    ensures { λ r. ⌜ r ≡ verdict (first (vertexTests (x1, y1) (x2, y2) (x3, y3))) (triangle.contained (x1, y1) (x2, y2) (x3, y3) (x, y)) ⌝ }
 {
     triangle::contains(Point(x1, y1), Point(x2, y2), Point(x3, y3), Point(x, y))
 }
@@ -94,7 +94,7 @@ pub extern "C" fn beamacorn_triangle_rows(
     x3: i32,
     y3: i32,
 ) -> triangle::RowRange
-    ensures { λ r. ⌜ r ≡ rowsAnswer (vertexRefusal (x1, y1) (x2, y2) (x3, y3)) (firstRow (x1, y1) (x2, y2) (x3, y3)) (rowCount (x1, y1) (x2, y2) (x3, y3)) ⌝ }
+    ensures { λ r. ⌜ r ≡ rowsAnswer (first (vertexTests (x1, y1) (x2, y2) (x3, y3))) (firstRow (x1, y1) (x2, y2) (x3, y3)) (rowCount (x1, y1) (x2, y2) (x3, y3)) ⌝ }
 {
     triangle::rows(Point(x1, y1), Point(x2, y2), Point(x3, y3))
 }
@@ -110,7 +110,7 @@ pub extern "C" fn beamacorn_triangle_row_span(
     y3: i32,
     y: i32,
 ) -> geometry::Span
-    ensures { λ r. ⌜ r ≡ span (vertexRefusal (x1, y1) (x2, y2) (x3, y3)) (rowSpan (x1, y1) (x2, y2) (x3, y3) y .0) (rowSpan (x1, y1) (x2, y2) (x3, y3) y .1) ⌝ }
+    ensures { λ r. ⌜ r ≡ span (first (vertexTests (x1, y1) (x2, y2) (x3, y3))) (rowSpan (x1, y1) (x2, y2) (x3, y3) y .0) (rowSpan (x1, y1) (x2, y2) (x3, y3) y .1) ⌝ }
 {
     triangle::row_span(Point(x1, y1), Point(x2, y2), Point(x3, y3), y)
 }
@@ -124,7 +124,7 @@ pub extern "C" fn beamacorn_circle_contains(
     x: i32,
     y: i32,
 ) -> geometry::Verdict
-    ensures { λ r. ⌜ r ≡ verdict (refusalOf (left, top) diameter) (circle.contained (left, top) diameter (x, y)) ⌝ }
+    ensures { λ r. ⌜ r ≡ verdict (first (circleTests (left, top) diameter)) (circle.contained (left, top) diameter (x, y)) ⌝ }
 {
     circle::contains(Point(left, top), diameter, Point(x, y))
 }
@@ -137,7 +137,7 @@ pub extern "C" fn beamacorn_circle_row_span(
     diameter: u32,
     y: i32,
 ) -> geometry::Span
-    ensures { λ r. ⌜ r ≡ span (refusalOf (left, top) diameter) (circle.spanStart (left, top) diameter y) (circle.spanEnd (left, top) diameter y) ⌝ }
+    ensures { λ r. ⌜ r ≡ span (first (circleTests (left, top) diameter)) (circle.spanStart (left, top) diameter y) (circle.spanEnd (left, top) diameter y) ⌝ }
 {
     circle::row_span(Point(left, top), diameter, y)
 }
@@ -154,7 +154,7 @@ fn frame(width: u32, height: u32, depth: u32, order: u32) -> Frame
 // The bytes that a buffer for the frame must have.
 #[no_mangle]
 pub extern "C" fn beamacorn_frame_size(width: u32, height: u32, depth: u32) -> framebuffer::Size
-    ensures { λ r. ⌜ r ≡ sized (sizeNumber (frameOf width height depth 0)) (size (frameOf width height depth 0)) ⌝ }
+    ensures { λ r. ⌜ r ≡ sized (first (descriptionTests (frameOf width height depth 0))) (size (frameOf width height depth 0)) ⌝ }
 {
     framebuffer::buffer_size_bpp(frame(width, height, depth, 0))
 }
@@ -171,7 +171,7 @@ pub extern "C" fn beamacorn_set_pixel(
     y: i32,
     colour: u32,
 ) -> Drawn
-    ensures { λ r. ⌜ (r ≡ drawn (drawNumber (frameOf width height depth order) (length (now (buf .entry))) colour 0)) × (now (buf .exit) ≡ afterDraw (frameOf width height depth order) (r .number) (single x y) colour (now (buf .entry))) ⌝ }
+    ensures { λ r. ⌜ (r, now (buf .exit)) ≡ outcomeOn width height depth order (pixelDrawing (x, y) colour) (now (buf .entry)) ⌝ }
 {
     framebuffer::set_pixel(buf, frame(width, height, depth, order), Point(x, y), colour)
 }
@@ -187,7 +187,7 @@ pub extern "C" fn beamacorn_pixel(
     x: i32,
     y: i32,
 ) -> framebuffer::Read
-    ensures { λ r. ⌜ r ≡ read (readNumber (frameOf width height depth order) (length (now (buf .entry))) (x, y)) (colourAt (frameOf width height depth order) (x, y) (now (buf .entry))) ⌝ }
+    ensures { λ r. ⌜ r ≡ read (first (readTests (frameOf width height depth order) (length (now (buf .entry))) (x, y))) (colourAt (frameOf width height depth order) (x, y) (now (buf .entry))) ⌝ }
 {
     framebuffer::pixel(buf, frame(width, height, depth, order), Point(x, y))
 }
@@ -202,7 +202,7 @@ pub extern "C" fn beamacorn_fill(
     order: u32,
     colour: u32,
 ) -> Drawn
-    ensures { λ r. ⌜ (r ≡ drawn (drawNumber (frameOf width height depth order) (length (now (buf .entry))) colour 0)) × (now (buf .exit) ≡ afterDraw (frameOf width height depth order) (r .number) everywhere colour (now (buf .entry))) ⌝ }
+    ensures { λ r. ⌜ (r, now (buf .exit)) ≡ outcomeOn width height depth order (fillDrawing colour) (now (buf .entry)) ⌝ }
 {
     framebuffer::fill(buf, frame(width, height, depth, order), colour)
 }
@@ -221,7 +221,7 @@ pub extern "C" fn beamacorn_draw_line(
     y2: i32,
     colour: u32,
 ) -> Drawn
-    ensures { λ r. ⌜ (r ≡ drawn (lineNumber (frameOf width height depth order) (length (now (buf .entry))) (x1, y1) (x2, y2) colour)) × (now (buf .exit) ≡ afterDraw (frameOf width height depth order) (r .number) (lineFigure (x1, y1) (x2, y2)) colour (now (buf .entry))) ⌝ }
+    ensures { λ r. ⌜ (r, now (buf .exit)) ≡ outcomeOn width height depth order (lineDrawing (x1, y1) (x2, y2) colour) (now (buf .entry)) ⌝ }
 {
     drawing::draw_line(
         buf,
@@ -248,7 +248,7 @@ pub extern "C" fn beamacorn_draw_triangle(
     y3: i32,
     colour: u32,
 ) -> Drawn
-    ensures { λ r. ⌜ (r ≡ drawn (triangleNumber (frameOf width height depth order) (length (now (buf .entry))) (x1, y1) (x2, y2) (x3, y3) colour)) × (now (buf .exit) ≡ afterDraw (frameOf width height depth order) (r .number) (triangleFigure (x1, y1) (x2, y2) (x3, y3)) colour (now (buf .entry))) ⌝ }
+    ensures { λ r. ⌜ (r, now (buf .exit)) ≡ outcomeOn width height depth order (triangleDrawing (x1, y1) (x2, y2) (x3, y3) colour) (now (buf .entry)) ⌝ }
 {
     drawing::draw_triangle(
         buf,
@@ -276,7 +276,7 @@ pub extern "C" fn beamacorn_draw_outline(
     y3: i32,
     colour: u32,
 ) -> Drawn
-    ensures { λ r. ⌜ (r ≡ drawn (triangleNumber (frameOf width height depth order) (length (now (buf .entry))) (x1, y1) (x2, y2) (x3, y3) colour)) × (now (buf .exit) ≡ afterDraw (frameOf width height depth order) (r .number) (outlineFigure (x1, y1) (x2, y2) (x3, y3)) colour (now (buf .entry))) ⌝ }
+    ensures { λ r. ⌜ (r, now (buf .exit)) ≡ outcomeOn width height depth order (outlineDrawing (x1, y1) (x2, y2) (x3, y3) colour) (now (buf .entry)) ⌝ }
 {
     drawing::draw_outline(
         buf,
@@ -301,7 +301,7 @@ pub extern "C" fn beamacorn_draw_circle(
     diameter: u32,
     colour: u32,
 ) -> Drawn
-    ensures { λ r. ⌜ (r ≡ drawn (circleNumber (frameOf width height depth order) (length (now (buf .entry))) (left, top) diameter colour)) × (now (buf .exit) ≡ afterDraw (frameOf width height depth order) (r .number) (circleFigure (left, top) diameter) colour (now (buf .entry))) ⌝ }
+    ensures { λ r. ⌜ (r, now (buf .exit)) ≡ outcomeOn width height depth order (circleDrawing (left, top) diameter colour) (now (buf .entry)) ⌝ }
 {
     drawing::draw_circle(
         buf,

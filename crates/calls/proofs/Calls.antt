@@ -1,23 +1,16 @@
 -- What a drawing call answers and leaves, put into a reply, and what answers the needs of a call. Assumes nothing.
-use mathlib.Core.Path.{_≡_, ap, ap₂, _∙_}
-use mathlib.Core.Bool.{Bool}
+use mathlib.Core.Path.{_≡_, ap}
 use mathlib.Core.List.{List}
 use Prim.Native.Nat.{ℕ}
-use lib.IntN.{ℤ}
 use Rattle.framebuffer.specs.declared.Drawn.{Drawn}
-use Rattle.framebuffer.specs.declared.Frame.{Frame}
-use Rattle.framebuffer.specs.Answer.{drawn}
-use Rattle.framebuffer.specs.Description.{afterDraw}
 use Rattle.protocol.specs.declared.reply.Reply.{Reply}
 use Rattle.protocol.specs.declared.reply.Reply.the-variants.{Number}
 use Rattle.protocol.proofs.Letters.{choices}
 use Rattle.protocol.proofs.Replies.{readings}
+use Rattle.calls.specs.Draw.{drawnSaid}
 
-pub is-drawn : (f : Frame) (figure : ℤ → ℤ → Bool) (colour : ℕ) (b : List ℕ) {number : ℕ} {d : Drawn} {left : List ℕ}
-    → d ≡ drawn number → left ≡ afterDraw f (d .number) figure colour b
-    → _≡_ {A = Reply × List ℕ} (Number (d .number), left) (Number number, afterDraw f number figure colour b)
-is-drawn f figure colour b e l =
-    ap₂ {C = Reply × List ℕ} (λ n m. (Number n, m)) (ap (λ (x : Drawn). x .number) e) (l ∙ ap (λ (x : Drawn). afterDraw f (x .number) figure colour b) e)
+pub is-drawn : {d : Drawn} {left : List ℕ} {c : Drawn × List ℕ} → _≡_ {A = Drawn × List ℕ} (d, left) c → _≡_ {A = Reply × List ℕ} (Number (d .number), left) (drawnSaid c)
+is-drawn e = ap drawnSaid e
 
 -- what answers the needs of a call
 pub ruleset calls = (readings, is-drawn)

@@ -4,12 +4,13 @@ use mathlib.Core.List.{List, [], _∷_, _++_}
 use Prim.Native.Nat.{ℕ}
 use lib.Dec.{eqb, leb}
 use lib.ListN.{length, take, drop}
+use Rattle.refusals.specs.First.{first}
 use Rattle.layout.specs.Digits.{setRun}
 use Rattle.framebuffer.specs.declared.Frame.{Frame}
 use Rattle.framebuffer.specs.declared.Read.{Read}
 use Rattle.framebuffer.specs.declared.Size.{Size}
 use Rattle.framebuffer.specs.Answer.{sized, read}
-use Rattle.framebuffer.specs.Description.{described, size, sizeNumber, readNumber, colourAt}
+use Rattle.framebuffer.specs.Description.{described, size, descriptionTests, readTests, colourAt}
 use Rattle.text.specs.declared.NextU32.{NextU32}
 use Rattle.text.specs.Fields.{nextU32}
 use Rattle.protocol.specs.declared.reply.Reply.{Reply}
@@ -57,7 +58,7 @@ abbrev pub sizeSaid : Size → Reply
 sizeSaid a = One (a .number) (Natural (a .bytes))
 
 abbrev pub sizeOf : Frame → Reply
-sizeOf f = sizeSaid (sized (sizeNumber f) (size f))
+sizeOf f = sizeSaid (sized (first (descriptionTests f)) (size f))
 
 abbrev pub framed : Described → Screen → List ℕ → Turn × List ℕ
 framed d s m = cond (d .ok) (turn (d .screen) (sizeOf (d .screen .frame)), allSet 0 m) (turn s Bad, m)
@@ -74,7 +75,7 @@ abbrev pub readSaid : Read → Reply
 readSaid a = One (a .number) (Natural (a .colour))
 
 unfoldable pub readReply : List ℕ → ℕ → Frame → List ℕ → Reply
-readReply said at f b = ofOne (λ p. ifLast said (p .next) (readSaid (read (readNumber f (length b) (p .point)) (colourAt f (p .point) b)))) (nextPoint said at)
+readReply said at f b = ofOne (λ p. ifLast said (p .next) (readSaid (read (first (readTests f (length b) (p .point))) (colourAt f (p .point) b)))) (nextPoint said at)
 
 -- ---- a line by its word, all but `dump`: a turn on the buffer leaves the screen; the calls are on the lent part, and the bytes behind it stay
 abbrev pub bufferTurn : Screen → Reply × List ℕ → Turn × List ℕ

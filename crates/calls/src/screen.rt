@@ -73,7 +73,7 @@ fn frame(said: &[u8], at: usize, memory: &mut [u8], screen: Screen) -> Turn
             reply: Reply::Bad,
         };
     }
-    framebuffer::set_all(memory, 0);
+    packing::set_all(memory, 0);
     let after = found.screen;
     let size = framebuffer::buffer_size_bpp(after.frame);
     Turn {
@@ -89,7 +89,7 @@ fn preset(said: &[u8], at: usize, memory: &mut [u8]) -> Reply
     if !ends_within(said, v.next, v.value, 255) {
         return Reply::Bad;
     }
-    framebuffer::set_all(memory, v.value as u8);
+    packing::set_all(memory, v.value as u8);
     Reply::Number(0)
 }
 

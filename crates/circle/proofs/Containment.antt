@@ -6,14 +6,15 @@ use Prim.Native.Nat.{ℕ, _+_, _*_, _-_, _/_, _<_, _≤_}
 use native.Mathlib.Omega.{arith}
 use lib.Dec.{leb, ltb}
 use lib.IntN.{ℤ, pos, negsuc, negℤ, natAbs, _+ℤ_, _-ℤ_, _*ℤ_}
-use lib.Signed.{leZ, ltZ, _≤ℤ_, _<ℤ_}
+use lib.Signed.{ltZ, _≤ℤ_, _<ℤ_}
 use Rattle.whole.specs.Decides.{Decides}
-use Rattle.whole.proofs.Decides.{decides-map, decides-and, decides-le, decides-lt, decides-leb, decides-ltb, decides-one, decides-no}
+use Rattle.whole.specs.Interval.{between}
+use Rattle.whole.proofs.Decides.{decides-map, decides-and, decides-between, decides-leb, decides-ltb, decides-one, decides-no}
 use Rattle.whole.proofs.Difference.{up, dn, as-mk, mks, mk-eq, eq-mk, le-nat, lt-nat, nat-le, nat-lt, sum-nat}
 use Rattle.whole.proofs.Machine.{neg-size}
 use Rattle.geometry.specs.declared.Point.{Point}
 use Rattle.geometry.specs.Place.{moved}
-use Rattle.circle.specs.Circle.{doubled, centre, squaredDistance, thresholdOf, contained, between, boxColumn, boxRow, inBox}
+use Rattle.circle.specs.Circle.{doubled, centre, squaredDistance, thresholdOf, contained, boxColumn, boxRow, inBox}
 use Rattle.circle.proofs.Roots.{square-below}
 
 -- ---- how far column x is from the doubled centre of a side that starts at l and is d long; rows alike
@@ -53,11 +54,8 @@ threshold-low d = by (leb d 4)
     by false = omega arith
 
 -- ---- the tests decide the orders
-pub between-decides : (a b x : ℤ) → Decides (between a b x) ((a ≤ℤ x) × (x <ℤ b))
-between-decides a b x = decides-and (leZ a x) (ltZ x b) (decides-le a x) (decides-lt x b)
-
 pub in-box-decides : (c : Point) (d : ℕ) (p : Point) → Decides (inBox c d p) (((c .0 ≤ℤ p .0) × (p .0 <ℤ (c .0 +ℤ pos d))) × ((c .1 ≤ℤ p .1) × (p .1 <ℤ (c .1 +ℤ pos d))))
-in-box-decides c d p = decides-and (boxColumn c d (p .0)) (boxRow c d (p .1)) (between-decides (c .0) (c .0 +ℤ pos d) (p .0)) (between-decides (c .1) (c .1 +ℤ pos d) (p .1))
+in-box-decides c d p = decides-and (boxColumn c d (p .0)) (boxRow c d (p .1)) (decides-between (c .0) (c .0 +ℤ pos d) (p .0)) (decides-between (c .1) (c .1 +ℤ pos d) (p .1))
 
 -- ---- a side that starts at l and is d long: where x lies on it, by its distance from the centre. By parts x - l is a - b, with
 -- a = up x + dn l and b = up l + dn x
@@ -89,7 +87,7 @@ inner-decides l x d e =
     let g = sum-nat (l +ℤ pos e) l e refl in
     let k = sum-nat (l +ℤ pos d) l d refl in
     let m = less-nat (l +ℤ pos d) e in
-    decides-map (between-decides (l +ℤ pos e) (l +ℤ pos d -ℤ pos e) x)
+    decides-map (decides-between (l +ℤ pos e) (l +ℤ pos d -ℤ pos e) x)
     (λ h. (omega (arith, le-nat (h .0)), omega (arith, lt-nat (h .1)))) (λ h. (nat-le (omega arith), nat-lt (omega arith)))
 
 pub inner-is : (x l : ℤ) (d s : ℕ) → s < d → leb (away x l d) s ≡ between (l +ℤ pos ((d - s) / 2)) (l +ℤ pos d -ℤ pos ((d - s) / 2)) x
@@ -117,7 +115,7 @@ module _ (x l : ℤ) (d : ℕ) where
       (nat-le (omega (arith, g .0)), nat-lt (omega (arith, g .1, end)))
 
   pub side-is : between l (l +ℤ pos d) x ≡ ltb (away x l d) d
-  side-is = decides-one _ _ (decides-map (between-decides l (l +ℤ pos d) x) side-near near-side) (decides-ltb (away x l d) d)
+  side-is = decides-one _ _ (decides-map (decides-between l (l +ℤ pos d) x) side-near near-side) (decides-ltb (away x l d) d)
 
 -- a pixel of the box is less than d from the centre, on both axes
 pub in-box-away : (c : Point) (d : ℕ) (p : Point) → inBox c d p ≡ true → (away (p .0) (c .0) d < d) × (away (p .1) (c .1) d < d)

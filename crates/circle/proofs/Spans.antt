@@ -9,21 +9,22 @@ use lib.Dec.{leb, ltb}
 use lib.IntN.{ℤ, pos, _+ℤ_, _-ℤ_}
 use lib.Signed.{_≤ℤ_, _<ℤ_}
 use borrow.Author.Tests.{ltb-true}
-use Rattle.whole.proofs.Decides.{decides-map, decides-leb, decides-ltb, decides-one, decides-yes, decides-no}
+use Rattle.whole.specs.Interval.{between}
+use Rattle.whole.proofs.Decides.{decides-map, decides-between, decides-leb, decides-ltb, decides-one, decides-yes, decides-no}
 use Rattle.whole.proofs.Difference.{le-nat, lt-nat, nat-le, nat-lt, nat-eq, sum-nat}
 use Rattle.geometry.specs.declared.Point.{Point}
 use Rattle.geometry.specs.Answer.{verdict, span}
-use Rattle.circle.specs.Circle.{thresholdOf, contained, between, boxColumn, boxRow, inBox, first, leadOf, spanStart, spanEnd}
+use Rattle.circle.specs.Circle.{thresholdOf, contained, boxColumn, boxRow, inBox, firstPassing, leadOf, spanStart, spanEnd}
 use Rattle.circle.specs.Root.{Root}
 use Rattle.circle.proofs.Roots.{Rooted, rooted, square-mono, square-below}
-use Rattle.circle.proofs.Containment.{away, contained-is, threshold-high, threshold-low, between-decides, inner-decides, inner-is, less-nat, side-is, outside}
+use Rattle.circle.proofs.Containment.{away, contained-is, threshold-high, threshold-low, inner-decides, inner-is, less-nat, side-is, outside}
 
 -- ---- a search ends at the first number that passes
-first-is : (test : ℕ → Bool) (k n r : ℕ) → ((j : ℕ) → j < r → test j ≡ false) → test r ≡ true → k ≤ r → r < k + n → first test k n ≡ r
-first-is test k zero r before at h g = absurd (omega arith)
-first-is test k (suc n) r before at h g = by (decLe (suc k) r) (λ q. first-is test (suc k) n r before at q (omega arith))
+passing-is : (test : ℕ → Bool) (k n r : ℕ) → ((j : ℕ) → j < r → test j ≡ false) → test r ≡ true → k ≤ r → r < k + n → firstPassing test k n ≡ r
+passing-is test k zero r before at h g = absurd (omega arith)
+passing-is test k (suc n) r before at h g = by (decLe (suc k) r) (λ q. passing-is test (suc k) n r before at q (omega arith))
   where
-    by : Dec (suc k ≤ r) → (suc k ≤ r → first test (suc k) n ≡ r) → cond (test k) k (first test (suc k) n) ≡ r
+    by : Dec (suc k ≤ r) → (suc k ≤ r → firstPassing test (suc k) n ≡ r) → cond (test k) k (firstPassing test (suc k) n) ≡ r
     by (yes q) on = rw (before k q) (on q)
     by (no q) on =
         let e : k ≡ r = omega arith in
@@ -81,7 +82,7 @@ module _ (c : Point) (d : ℕ) (y : ℤ) (row : boxRow c d y ≡ true) (s : ℕ)
   -- the search for the first contained column ends at what the root leaves out
   pub lead-is : leadOf c d y ≡ out
   lead-is =
-      first-is (λ j. contained c d (c .0 +ℤ pos j, y)) 0 d out
+      passing-is (λ j. contained c d (c .0 +ℤ pos j, y)) 0 d out
       (λ j h. row-columns (c .0 +ℤ pos j) ∙ decides-no (inner-decides (c .0) (c .0 +ℤ pos j) d out) (λ q. omega (arith, q .0, sum-nat (c .0 +ℤ pos j) (c .0) j refl)))
       (row-columns (c .0 +ℤ pos out) ∙ decides-yes (inner-decides (c .0) (c .0 +ℤ pos out) d out) (
         omega (arith, sum-nat (c .0 +ℤ pos out) (c .0) out refl),
@@ -136,7 +137,7 @@ module _ (c : Point) (d : ℕ) (y : ℤ) (row : boxRow c d y ≡ false) where
 
 -- ---- a row's span and containment agree
 empty : (x : ℤ) → between (pos 0) (pos 0) x ≡ false
-empty x = decides-no (between-decides (pos 0) (pos 0) x) (λ h. omega (arith, le-nat (h .0), lt-nat (h .1)))
+empty x = decides-no (decides-between (pos 0) (pos 0) x) (λ h. omega (arith, le-nat (h .0), lt-nat (h .1)))
 
 pub span-agrees : (c : Point) (d : ℕ) (x y : ℤ) → contained c d (x, y) ≡ between (spanStart c d y) (spanEnd c d y) x
 span-agrees c d x y = by (boxRow c d y) refl
@@ -156,7 +157,7 @@ answers-agree (suc n) c d x y = sym (empty x)
 pub row-some : (c : Point) (d : ℕ) (y : ℤ) → boxRow c d y ≡ true → contained c d (spanStart c d y, y) ≡ true
 row-some c d y row =
     span-agrees c d (spanStart c d y) y
-    ∙ decides-yes (between-decides (spanStart c d y) (spanEnd c d y) (spanStart c d y)) (nat-le (omega arith), span-box c d y row .1)
+    ∙ decides-yes (decides-between (spanStart c d y) (spanEnd c d y) (spanStart c d y)) (nat-le (omega arith), span-box c d y row .1)
 
 -- a row is in the box exactly if its pixel in the box's first column is
 pub first-column : (c : Point) (d : ℕ) (y : ℤ) → inBox c d (c .0, y) ≡ boxRow c d y
@@ -165,6 +166,6 @@ first-column c d y = by (boxRow c d y) refl
     by : (b : Bool) → boxRow c d y ≡ b → inBox c d (c .0, y) ≡ boxRow c d y
     by true row =
         ap (λ (b : Bool). b && boxRow c d y)
-        (decides-yes (between-decides (c .0) (c .0 +ℤ pos d) (c .0))
+        (decides-yes (decides-between (c .0) (c .0 +ℤ pos d) (c .0))
         (nat-le (omega arith), nat-lt (omega (arith, row-away c d y row, sum-nat (c .0 +ℤ pos d) (c .0) d refl))))
     by false row = ap (λ (b : Bool). boxColumn c d (c .0) && b) row ∙ and-false (boxColumn c d (c .0)) ∙ sym row

@@ -3,7 +3,8 @@ use mathlib.Core.Bool.{Bool, cond, _&&_}
 use Prim.Native.Nat.{ℕ, zero, suc, _*_, _-_, _/_}
 use lib.Dec.{leb}
 use lib.IntN.{ℤ, pos, _+ℤ_, _-ℤ_, _*ℤ_}
-use lib.Signed.{leZ, ltZ}
+use lib.Signed.{ltZ}
+use Rattle.whole.specs.Interval.{between}
 use Rattle.geometry.specs.declared.Point.{Point}
 use Rattle.geometry.specs.declared.Doubled.{Doubled}
 
@@ -27,10 +28,6 @@ squaredDistance a b = (a .0 -ℤ b .0) *ℤ (a .0 -ℤ b .0) +ℤ (a .1 -ℤ b .
 abbrev pub contained : Point → ℕ → Point → Bool
 contained c d p = ltZ (squaredDistance (doubled p) (centre c d)) (pos (thresholdOf d))
 
--- x is at least a and below b
-abbrev pub between : ℤ → ℤ → ℤ → Bool
-between a b x = leZ a x && ltZ x b
-
 -- "the box": d columns from l, and d rows from t
 abbrev pub boxColumn : Point → ℕ → ℤ → Bool
 boxColumn c d x = between (c .0) (c .0 +ℤ pos d) x
@@ -42,13 +39,13 @@ abbrev pub inBox : Point → ℕ → Point → Bool
 inBox c d p = boxColumn c d (p .0) && boxRow c d (p .1)
 
 -- the first number that passes the test, of the n from k on; k + n if none does
-abbrev pub first : (ℕ → Bool) → ℕ → ℕ → ℕ
-first test k zero = k
-first test k (suc n) = cond (test k) k (first test (suc k) n)
+abbrev pub firstPassing : (ℕ → Bool) → ℕ → ℕ → ℕ
+firstPassing test k zero = k
+firstPassing test k (suc n) = cond (test k) k (firstPassing test (suc k) n)
 
 -- how many columns of the box come before "the first contained column", on row y
 abbrev pub leadOf : Point → ℕ → ℤ → ℕ
-leadOf c d y = first (λ j. contained c d (c .0 +ℤ pos j, y)) 0 d
+leadOf c d y = firstPassing (λ j. contained c d (c .0 +ℤ pos j, y)) 0 d
 
 -- "A row's span starts at the first contained column of the box and is shortened equally on the right; a row outside the box has 0 to 0"
 abbrev pub spanStart : Point → ℕ → ℤ → ℤ

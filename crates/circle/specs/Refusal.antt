@@ -1,15 +1,19 @@
 -- Refusals 5 and 6 of 01's "Numbers an operation may answer", for a circle.
-use mathlib.Core.Bool.{Bool, cond, _&&_}
+use mathlib.Core.Bool.{not, _||_}
+use mathlib.Core.List.{[], _∷_}
 use Prim.Native.Nat.{ℕ}
 use lib.IntN.{pos, _+ℤ_}
-use lib.Signed.{leZ}
+use lib.Signed.{ltZ, _≤ℤ_}
+use Rattle.refusals.specs.First.{Tests}
 use Rattle.geometry.specs.declared.Point.{Point}
-use Rattle.geometry.specs.Bound.{inBounds}
+use Rattle.geometry.specs.Bound.{Bounded, inBounds}
 
--- neither "left + diameter" nor "top + diameter is above 131,072"
-abbrev pub boxFits : Point → ℕ → Bool
-boxFits c d = leZ (c .0 +ℤ pos d) (pos 131072) && leZ (c .1 +ℤ pos d) (pos 131072)
+-- "on a circle: 5, 6": the top-left has a coordinate out of bounds; "left + diameter or top + diameter is above 131,072"
+unfoldable pub circleTests : Point → ℕ → Tests
+circleTests c d = (5, not (inBounds c)) ∷ (6, ltZ (pos 131072) (c .0 +ℤ pos d) || ltZ (pos 131072) (c .1 +ℤ pos d)) ∷ []
 
--- "The lowest number that applies wins": 5, then 6; 0 for an accepted circle
-abbrev pub refusalOf : Point → ℕ → ℕ
-refusalOf c d = cond (inBounds c) (cond (boxFits c d) 0 6) 5
+-- an accepted circle, as a statement
+pub record Fits (c : Point) (d : ℕ) : Type 0 where
+  pub corner : Bounded c
+  pub right : (c .0 +ℤ pos d) ≤ℤ pos 131072
+  pub bottom : (c .1 +ℤ pos d) ≤ℤ pos 131072

@@ -10,9 +10,10 @@ ghost use mathlib.Core.Path.{_≡_};
 ghost use mathlib.Core.Bool.{true};
 ghost use Prim.Native.Nat.{_≤_};
 ghost use lib.IntN.{natAbs, pos, _-ℤ_};
+ghost use Rattle.refusals.specs.First.{first};
 ghost use Rattle.geometry.specs.Answer.{verdict, span};
 ghost use Rattle.circle.specs.Circle.{centre, thresholdOf, doubled, squaredDistance, contained, inBox, leadOf, spanStart, spanEnd};
-ghost use Rattle.circle.specs.Refusal.{refusalOf};
+ghost use Rattle.circle.specs.Refusal.{circleTests, Fits};
 
 // The circle's centre, in half-pixel units since it lies between pixels where the diameter is even. For the diameter 0, which contains
 // nothing, it is 2l - 1, 2t - 1 by the rule, and 2l, 2t in the Rust.
@@ -47,7 +48,7 @@ fn threshold(diameter: u32) -> u64
 
 // Inside the library: 0 for an accepted circle, else the number of its refusal, 5 before 6.
 pub fn refusal(topleft: Point, diameter: u32) -> u32
-    ensures { λ r. ⌜ r ≡ refusalOf topleft diameter ⌝ }
+    ensures { λ r. ⌜ r ≡ first (circleTests topleft diameter) ⌝ }
 {
     if !geometry::in_bounds(topleft) {
         return 5;
@@ -55,10 +56,7 @@ pub fn refusal(topleft: Point, diameter: u32) -> u32
     let left = topleft.0 as i64;
     let top = topleft.1 as i64;
     let side = diameter as i64;
-    if 131072 < left + side {
-        return 6;
-    }
-    if 131072 < top + side {
+    if (131072 < left + side) | (131072 < top + side) {
         return 6;
     }
     0
@@ -98,7 +96,7 @@ fn distance_squared(a: Doubled, b: Doubled) -> u64
 // Inside the library: whether an accepted circle contains the pixel. Outside the box the answer is no before any square is taken, since
 // the squares of far pixels would pass 64 bits.
 pub fn accepted_contains(topleft: Point, diameter: u32, p: Point) -> bool
-    requires { ⌜ refusalOf topleft diameter ≡ 0 ⌝ }
+    requires { ⌜ Fits topleft diameter ⌝ }
     ensures { λ r. ⌜ r ≡ contained topleft diameter p ⌝ }
 {
     if !in_box(topleft, diameter, p) {
@@ -111,7 +109,7 @@ pub fn accepted_contains(topleft: Point, diameter: u32, p: Point) -> bool
 
 // Whether the circle contains the pixel.
 pub fn contains(topleft: Point, diameter: u32, p: Point) -> Verdict
-    ensures { λ r. ⌜ r ≡ verdict (refusalOf topleft diameter) (contained topleft diameter p) ⌝ }
+    ensures { λ r. ⌜ r ≡ verdict (first (circleTests topleft diameter)) (contained topleft diameter p) ⌝ }
 {
     let number = refusal(topleft, diameter);
     if number != 0 {
@@ -123,10 +121,11 @@ pub fn contains(topleft: Point, diameter: u32, p: Point) -> Verdict
     }
 }
 
-// How many columns of the box come before the first contained one, on a row of the box. A column is contained exactly if it is at most dx
-// half pixels from the centre, so of the rest of the side one half comes before and the other after.
+// How many columns of the box come before the first contained one, on a row of the box. dy and dx count half pixels: a column is contained exactly
+// if it is at most dx from the centre, and the box's first column is diameter - 1 from it. Half of what lies between, rounded up, is a number of
+// columns: in that last division the half pixels end, and nothing after it is doubled.
 fn lead(topleft: Point, diameter: u32, y: i32) -> u32
-    requires { ⌜ (refusalOf topleft diameter ≡ 0) × (inBox topleft diameter (topleft .0, y) ≡ true) ⌝ }
+    requires { ⌜ Fits topleft diameter × (inBox topleft diameter (topleft .0, y) ≡ true) ⌝ }
     ensures { λ r. ⌜ r ≡ leadOf topleft diameter y ⌝ }
 {
     let left = topleft.0;
@@ -139,7 +138,7 @@ fn lead(topleft: Point, diameter: u32, y: i32) -> u32
 
 // Inside the library: the span of a row of an accepted circle. A row is in the box exactly if its pixel in the box's first column is.
 pub fn accepted_row_span(topleft: Point, diameter: u32, y: i32) -> Span
-    requires { ⌜ refusalOf topleft diameter ≡ 0 ⌝ }
+    requires { ⌜ Fits topleft diameter ⌝ }
     ensures { λ r. ⌜ r ≡ span 0 (spanStart topleft diameter y) (spanEnd topleft diameter y) ⌝ }
 {
     let left = topleft.0;
@@ -161,7 +160,7 @@ pub fn accepted_row_span(topleft: Point, diameter: u32, y: i32) -> Span
 
 // The columns of row y that the circle contains.
 pub fn row_span(topleft: Point, diameter: u32, y: i32) -> Span
-    ensures { λ r. ⌜ r ≡ span (refusalOf topleft diameter) (spanStart topleft diameter y) (spanEnd topleft diameter y) ⌝ }
+    ensures { λ r. ⌜ r ≡ span (first (circleTests topleft diameter)) (spanStart topleft diameter y) (spanEnd topleft diameter y) ⌝ }
 {
     let number = refusal(topleft, diameter);
     if number != 0 {

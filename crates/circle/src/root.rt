@@ -11,7 +11,8 @@ fn guess(n: u64) -> u64
     ((1u64 << half) + (n >> half)) / 2
 }
 
-// The largest r with r * r <= n. A step from a number whose square is above n gives a smaller one that is still at least the root.
+// Inside the library: the largest r with r * r <= n. A step from a number whose square is above n gives a smaller one that is still at least the
+// root.
 pub fn isqrt(n: u64) -> u64
     ensures { λ r. ⌜ Root n r ⌝ }
 {

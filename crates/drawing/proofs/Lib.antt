@@ -1,5 +1,4 @@
 pub mod Figures
-pub mod Calls
 pub mod Rows
 pub mod Fill
 pub mod Circles

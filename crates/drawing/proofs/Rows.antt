@@ -10,11 +10,13 @@ use Rattle.whole.proofs.Decides.{decides-lt, decides-eq, decides-yes, decides-n
 use Rattle.whole.proofs.Order.{le-lt-more, more-lt-le, le-of, lt-le, lt-apart, le-antisym}
 use Rattle.whole.proofs.Machine.{lt-yes, lt-no}
 use Rattle.layout.specs.Figure.{spanFigure}
-use Rattle.layout.specs.Raster.{Raster, Sound, painted}
+use Rattle.layout.proofs.Placing.{Placing}
 use Rattle.layout.proofs.Painted.{painted-cong, painted-none}
-use Rattle.framebuffer.specs.declared.Pane.{Pane}
-use Rattle.framebuffer.specs.Rectangle.{inPane, inside}
-use Rattle.drawing.proofs.Figures.{inside-then}
+use Rattle.framebuffer.specs.declared.Brush.{Brush}
+use Rattle.framebuffer.specs.Description.{raster}
+use Rattle.framebuffer.specs.Judged.{brushed}
+use Rattle.framebuffer.specs.Window.{inWindow}
+use Rattle.drawing.proofs.Figures.{brushed-then}
 
 -- the figure's rows above y
 abbrev pub above : (ℤ → ℤ → Bool) → ℤ → ℤ → ℤ → Bool
@@ -48,10 +50,10 @@ span-on : (a b : Bool) → b ≡ true → (a && b) ≡ a
 span-on true b e = e
 span-on false b e = refl
 
-module _ (r : Raster) (sound : Sound r) (pane : Pane) (colour : ℕ) (b : List ℕ) (figure : ℤ → ℤ → Bool) where
+module _ (q : Brush) (P : Placing (raster (q .frame))) (b : List ℕ) (figure : ℤ → ℤ → Bool) where
   -- no row of the figure is above y
-  pub rows-start : (y : ℤ) → ((u v : ℕ) → pos v <ℤ y → figure (pos u) (pos v) ≡ false) → painted r (inside pane (above figure y)) colour b ≡ b
-  rows-start y none = painted-none r sound colour b _ (λ u v hu hv. by (inPane pane (pos u) (pos v)) (ltZ (pos v) y) (λ l. none u v (lt-yes l)))
+  pub rows-start : (y : ℤ) → ((u v : ℕ) → pos v <ℤ y → figure (pos u) (pos v) ≡ false) → brushed q (above figure y) b ≡ b
+  rows-start y none = painted-none (raster (q .frame)) P (q .colour) b _ (λ u v hu hv. by (inWindow (q .window) (pos u) (pos v)) (ltZ (pos v) y) (λ l. none u v (lt-yes l)))
     where
       by : (p l : Bool) {f : Bool} → (l ≡ true → f ≡ false) → (p && (l && f)) ≡ false
       by true true h = h refl
@@ -59,15 +61,15 @@ module _ (r : Raster) (sound : Sound r) (pane : Pane) (colour : ℕ) (b : List �
       by false l h = refl
 
   -- the span of row y has the figure's columns: one row more is painted
-  pub rows-turn : (y start end : ℤ) → ((u v : ℕ) → u < r .width → v < r .height → pos v ≡ y → (leZ start (pos u) && ltZ (pos u) end) ≡ figure (pos u) (pos v))
-      → painted r (inside pane (spanFigure y start end)) colour (painted r (inside pane (above figure y)) colour b) ≡ painted r (inside pane (above figure (y +ℤ pos 1))) colour b
+  pub rows-turn : (y start end : ℤ) → ((u v : ℕ) → u < q .frame .width → v < q .frame .height → pos v ≡ y → (leZ start (pos u) && ltZ (pos u) end) ≡ figure (pos u) (pos v))
+      → brushed q (spanFigure y start end) (brushed q (above figure y) b) ≡ brushed q (above figure (y +ℤ pos 1)) b
   rows-turn y start end same =
-      inside-then r sound pane colour b (above figure y) (spanFigure y start end)
-      ∙ painted-cong r sound colour b _ _ (λ u v hu hv. ap (λ (t : Bool). inPane pane (pos u) (pos v) && t) (row-place (pos v) y (figure (pos u) (pos v)) (spanFigure y start end (pos u) (pos v)) (λ e. span-on (leZ start (pos u) && ltZ (pos u) end) (eqZ (pos v) y) e ∙ same u v hu hv (decides-eq (pos v) y .yes e)) (λ e. span-off (leZ start (pos u) && ltZ (pos u) end) (eqZ (pos v) y) e)))
+      brushed-then q P b (above figure y) (spanFigure y start end)
+      ∙ painted-cong (raster (q .frame)) P (q .colour) b _ _ (λ u v hu hv. ap (λ (t : Bool). inWindow (q .window) (pos u) (pos v) && t) (row-place (pos v) y (figure (pos u) (pos v)) (spanFigure y start end (pos u) (pos v)) (λ e. span-on (leZ start (pos u) && ltZ (pos u) end) (eqZ (pos v) y) e ∙ same u v hu hv (decides-eq (pos v) y .yes e)) (λ e. span-off (leZ start (pos u) && ltZ (pos u) end) (eqZ (pos v) y) e)))
 
   -- no row of the figure is at y or below
-  pub rows-end : (y : ℤ) → ((u v : ℕ) → y ≤ℤ pos v → figure (pos u) (pos v) ≡ false) → painted r (inside pane (above figure y)) colour b ≡ painted r (inside pane figure) colour b
-  rows-end y none = painted-cong r sound colour b _ _ (λ u v hu hv. ap (λ (t : Bool). inPane pane (pos u) (pos v) && t) (by (ltZ (pos v) y) (λ l. none u v (lt-no l))))
+  pub rows-end : (y : ℤ) → ((u v : ℕ) → y ≤ℤ pos v → figure (pos u) (pos v) ≡ false) → brushed q (above figure y) b ≡ brushed q figure b
+  rows-end y none = painted-cong (raster (q .frame)) P (q .colour) b _ _ (λ u v hu hv. ap (λ (t : Bool). inWindow (q .window) (pos u) (pos v) && t) (by (ltZ (pos v) y) (λ l. none u v (lt-no l))))
     where
       by : (l : Bool) {f : Bool} → (l ≡ false → f ≡ false) → (l && f) ≡ f
       by true h = refl

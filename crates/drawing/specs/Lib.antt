@@ -1,2 +1,2 @@
 pub mod Figure
-pub mod Number
+pub mod Drawing

@@ -1,36 +1,35 @@
 // Drawing calls into a lent buffer. Each judges its frame once, then its own arguments, and sets every pixel of the frame that its figure
 // contains.
 ghost use mathlib.Core.Path.{_≡_};
+ghost use mathlib.Core.List.{_++_};
 ghost use lib.ListN.{length};
-ghost use mathlib.Core.Bool.{Bool, not};
-ghost use lib.IntN.{ℤ};
-ghost use Rattle.whole.specs.Decides.{Decides};
+ghost use Rattle.refusals.specs.First.{first};
 ghost use Rattle.geometry.specs.Bound.{Bounded};
-ghost use Rattle.layout.specs.Raster.{painted};
-ghost use Rattle.triangle.specs.Triangle.{isFlat};
-ghost use Rattle.circle.specs.Refusal.{refusalOf};
-ghost use Rattle.edges.specs.Shape.{Shape, Spanned, Begun, Ready};
-ghost use Rattle.framebuffer.specs.Answer.{drawn};
-ghost use Rattle.framebuffer.specs.Description.{raster, drawNumber, afterDraw};
-ghost use Rattle.framebuffer.specs.Rectangle.{Within, inside};
+ghost use Rattle.line.specs.Answer.{endTests};
+ghost use Rattle.triangle.specs.Answer.{vertexTests};
+ghost use Rattle.circle.specs.Refusal.{Fits, circleTests};
+ghost use Rattle.framebuffer.specs.Description.{drawTests};
+ghost use Rattle.framebuffer.specs.Drawing.{outcome};
+ghost use Rattle.framebuffer.specs.Judged.{Ready, brushed};
+ghost use Rattle.framebuffer.specs.Window.{wholeWindow};
 ghost use Rattle.drawing.specs.Figure.{lineFigure, outlineFigure, triangleFigure, circleFigure};
-ghost use Rattle.drawing.specs.Number.{lineNumber, triangleNumber, circleNumber};
+ghost use Rattle.drawing.specs.Drawing.{lineDrawing, outlineDrawing, triangleDrawing, circleDrawing};
+use framebuffer::Brush;
 use framebuffer::Drawn;
 use framebuffer::Frame;
-use framebuffer::Pane;
 use geometry::Point;
 
 // The points of an accepted line, as far as the rectangle holds them.
-fn draw_edge(buf: &mut [u8], frame: Frame, pane: Pane, start: Point, end: Point, colour: u32)
-    requires { ⌜ (drawNumber frame (length (now buf)) colour 0 ≡ 0) × Within pane frame × (Bounded start × Bounded end) ⌝ }
-    ensures { λ r. ⌜ now (buf .exit) ≡ painted (raster frame) (inside pane (lineFigure start end)) colour (now (buf .entry)) ⌝ }
+fn draw_edge(buf: &mut [u8], brush: Brush, start: Point, end: Point)
+    requires { ⌜ Ready brush (length (now buf)) × (Bounded start × Bounded end) ⌝ }
+    ensures { λ r. ⌜ now (buf .exit) ≡ brushed brush (lineFigure start end) (now (buf .entry)) ⌝ }
 {
     let mut walker = line::Walker::new(start, end);
     let count = line::last_step(start, end) + 1;
     let mut k = 0u32;
     while k < count {
         let stepped = walker.step();
-        framebuffer::put_point(buf, frame, pane, stepped.point, colour);
+        framebuffer::put_point(buf, brush, stepped.point);
         walker = stepped.walker;
         k += 1;
     }
@@ -38,7 +37,7 @@ fn draw_edge(buf: &mut [u8], frame: Frame, pane: Pane, start: Point, end: Point,
 
 // The number that drawing a line answers.
 fn line_number(frame: Frame, len: usize, start: Point, end: Point, colour: u32) -> u32
-    ensures { λ r. ⌜ r ≡ lineNumber frame len start end colour ⌝ }
+    ensures { λ r. ⌜ r ≡ first (drawTests frame len colour ++ endTests start end) ⌝ }
 {
     let number = framebuffer::draw_refusal(frame, len, colour);
     if number != 0 {
@@ -49,18 +48,18 @@ fn line_number(frame: Frame, len: usize, start: Point, end: Point, colour: u32) 
 
 // Draws the line from start to end.
 pub fn draw_line(buf: &mut [u8], frame: Frame, start: Point, end: Point, colour: u32) -> Drawn
-    ensures { λ r. ⌜ (r ≡ drawn (lineNumber frame (length (now (buf .entry))) start end colour)) × (now (buf .exit) ≡ afterDraw frame (r .number) (lineFigure start end) colour (now (buf .entry))) ⌝ }
+    ensures { λ r. ⌜ (r, now (buf .exit)) ≡ outcome frame (wholeWindow frame) (lineDrawing start end colour) (now (buf .entry)) ⌝ }
 {
     let number = line_number(frame, buf.len(), start, end, colour);
     if number == 0 {
-        draw_edge(buf, frame, frame.pane(), start, end, colour);
+        draw_edge(buf, frame.brush(colour), start, end);
     }
     Drawn { number }
 }
 
 // The number that drawing a triangle or its outline answers.
 fn triangle_number(frame: Frame, len: usize, v1: Point, v2: Point, v3: Point, colour: u32) -> u32
-    ensures { λ r. ⌜ r ≡ triangleNumber frame len v1 v2 v3 colour ⌝ }
+    ensures { λ r. ⌜ r ≡ first (drawTests frame len colour ++ vertexTests v1 v2 v3) ⌝ }
 {
     let number = framebuffer::draw_refusal(frame, len, colour);
     if number != 0 {
@@ -70,21 +69,13 @@ fn triangle_number(frame: Frame, len: usize, v1: Point, v2: Point, v3: Point, co
 }
 
 // The three edges of an accepted outline, as far as the rectangle holds them.
-fn draw_edges(
-    buf: &mut [u8],
-    frame: Frame,
-    pane: Pane,
-    v1: Point,
-    v2: Point,
-    v3: Point,
-    colour: u32,
-)
-    requires { ⌜ (drawNumber frame (length (now buf)) colour 0 ≡ 0) × Within pane frame × (Bounded v1 × Bounded v2 × Bounded v3) ⌝ }
-    ensures { λ r. ⌜ now (buf .exit) ≡ painted (raster frame) (inside pane (outlineFigure v1 v2 v3)) colour (now (buf .entry)) ⌝ }
+fn draw_edges(buf: &mut [u8], brush: Brush, v1: Point, v2: Point, v3: Point)
+    requires { ⌜ Ready brush (length (now buf)) × (Bounded v1 × Bounded v2 × Bounded v3) ⌝ }
+    ensures { λ r. ⌜ now (buf .exit) ≡ brushed brush (outlineFigure v1 v2 v3) (now (buf .entry)) ⌝ }
 {
-    draw_edge(buf, frame, pane, v1, v2, colour);
-    draw_edge(buf, frame, pane, v2, v3, colour);
-    draw_edge(buf, frame, pane, v3, v1, colour);
+    draw_edge(buf, brush, v1, v2);
+    draw_edge(buf, brush, v2, v3);
+    draw_edge(buf, brush, v3, v1);
 }
 
 // Draws the outline of a triangle: its edges from each vertex to the next, in the order in which they are given.
@@ -96,33 +87,33 @@ pub fn draw_outline(
     v3: Point,
     colour: u32,
 ) -> Drawn
-    ensures { λ r. ⌜ (r ≡ drawn (triangleNumber frame (length (now (buf .entry))) v1 v2 v3 colour)) × (now (buf .exit) ≡ afterDraw frame (r .number) (outlineFigure v1 v2 v3) colour (now (buf .entry))) ⌝ }
+    ensures { λ r. ⌜ (r, now (buf .exit)) ≡ outcome frame (wholeWindow frame) (outlineDrawing v1 v2 v3 colour) (now (buf .entry)) ⌝ }
 {
     let number = triangle_number(frame, buf.len(), v1, v2, v3, colour);
     if number == 0 {
-        draw_edges(buf, frame, frame.pane(), v1, v2, v3, colour);
+        draw_edges(buf, frame.brush(colour), v1, v2, v3);
     }
     Drawn { number }
 }
 
 // The rows of an accepted circle, as far as the rectangle holds them.
-fn fill_circle(buf: &mut [u8], frame: Frame, pane: Pane, topleft: Point, diameter: u32, colour: u32)
-    requires { ⌜ (drawNumber frame (length (now buf)) colour 0 ≡ 0) × Within pane frame × (refusalOf topleft diameter ≡ 0) ⌝ }
-    ensures { λ r. ⌜ now (buf .exit) ≡ painted (raster frame) (inside pane (circleFigure topleft diameter)) colour (now (buf .entry)) ⌝ }
+fn fill_circle(buf: &mut [u8], brush: Brush, topleft: Point, diameter: u32)
+    requires { ⌜ Ready brush (length (now buf)) × Fits topleft diameter ⌝ }
+    ensures { λ r. ⌜ now (buf .exit) ≡ brushed brush (circleFigure topleft diameter) (now (buf .entry)) ⌝ }
 {
     let top = topleft.1;
     let mut k = 0u32;
     while k < diameter {
         let y = top + (k as i32);
         let row = circle::accepted_row_span(topleft, diameter, y);
-        framebuffer::paint_span(buf, frame, pane, y, row.start, row.end, colour);
+        framebuffer::paint_span(buf, brush, y, row.start, row.end);
         k += 1;
     }
 }
 
 // The number that drawing a circle answers.
 fn circle_number(frame: Frame, len: usize, topleft: Point, diameter: u32, colour: u32) -> u32
-    ensures { λ r. ⌜ r ≡ circleNumber frame len topleft diameter colour ⌝ }
+    ensures { λ r. ⌜ r ≡ first (drawTests frame len colour ++ circleTests topleft diameter) ⌝ }
 {
     let number = framebuffer::draw_refusal(frame, len, colour);
     if number != 0 {
@@ -139,66 +130,33 @@ pub fn draw_circle(
     diameter: u32,
     colour: u32,
 ) -> Drawn
-    ensures { λ r. ⌜ (r ≡ drawn (circleNumber frame (length (now (buf .entry))) topleft diameter colour)) × (now (buf .exit) ≡ afterDraw frame (r .number) (circleFigure topleft diameter) colour (now (buf .entry))) ⌝ }
+    ensures { λ r. ⌜ (r, now (buf .exit)) ≡ outcome frame (wholeWindow frame) (circleDrawing topleft diameter colour) (now (buf .entry)) ⌝ }
 {
     let number = circle_number(frame, buf.len(), topleft, diameter, colour);
     if number == 0 {
-        fill_circle(buf, frame, frame.pane(), topleft, diameter, colour);
+        fill_circle(buf, frame.brush(colour), topleft, diameter);
     }
     Drawn { number }
 }
 
-// The rows of a triangle from top to bottom, from walks that stand at its top, as far as the rectangle holds them.
-fn fill_rows(
-    buf: &mut [u8],
-    frame: Frame,
-    pane: Pane,
-    walk: edges::Walk,
-    top: i32,
-    bottom: i32,
-    colour: u32,
-)
-    requires { ⌜ (drawNumber frame (length (now buf)) colour 0 ≡ 0) × Within pane frame × Ready top bottom walk ⌝ }
-    ensures { λ r. ⌜ ((t : Shape) (figure : ℤ → ℤ → Bool) → Begun t top bottom walk → ((x y : ℤ) → Decides (figure x y) (Spanned t x y)) → now (buf .exit) ≡ painted (raster frame) (inside pane figure) colour (now (buf .entry))) ⌝ }
-{
-    let mut w = walk;
-    let mut y = top;
-    while y <= bottom {
-        let row = w.row(y);
-        let end = row.high + 1;
-        framebuffer::paint_span(buf, frame, pane, y, row.low, end, colour);
-        w = row.walk;
-        y += 1;
-    }
-}
-
-// Whether an accepted triangle has an area.
-fn is_solid(v1: Point, v2: Point, v3: Point) -> bool
-    requires { ⌜ Bounded v1 × Bounded v2 × Bounded v3 ⌝ }
-    ensures { λ r. ⌜ r ≡ not (isFlat v1 v2 v3) ⌝ }
-{
-    triangle::area_doubled(v1, v2, v3) != 0
-}
-
-// The rows of an accepted triangle, as far as the rectangle holds them.
-fn fill_triangle(
-    buf: &mut [u8],
-    frame: Frame,
-    pane: Pane,
-    v1: Point,
-    v2: Point,
-    v3: Point,
-    colour: u32,
-)
-    requires { ⌜ (drawNumber frame (length (now buf)) colour 0 ≡ 0) × Within pane frame × (Bounded v1 × Bounded v2 × Bounded v3) ⌝ }
-    ensures { λ r. ⌜ now (buf .exit) ≡ painted (raster frame) (inside pane (triangleFigure v1 v2 v3)) colour (now (buf .entry)) ⌝ }
+// The rows of an accepted triangle from the top down, each from the walks along its edges, as far as the rectangle holds them.
+fn fill_triangle(buf: &mut [u8], brush: Brush, v1: Point, v2: Point, v3: Point)
+    requires { ⌜ Ready brush (length (now buf)) × (Bounded v1 × Bounded v2 × Bounded v3) ⌝ }
+    ensures { λ r. ⌜ now (buf .exit) ≡ brushed brush (triangleFigure v1 v2 v3) (now (buf .entry)) ⌝ }
 {
     let t = triangle::sorted_yx(v1, v2, v3);
-    let p1 = t.p1;
-    let p2 = t.p2;
-    let p3 = t.p3;
-    let walk = edges::Walk::new(p1, p2, p3, is_solid(v1, v2, v3));
-    fill_rows(buf, frame, pane, walk, p1.1, p3.1, colour);
+    let top = t.p1;
+    let last = t.p3;
+    let bottom = last.1;
+    let mut walk = edges::Walk::new(t, triangle::is_solid(v1, v2, v3));
+    let mut y = top.1;
+    while y <= bottom {
+        let row = walk.row(y);
+        let end = row.high + 1;
+        framebuffer::paint_span(buf, brush, y, row.low, end);
+        walk = row.walk;
+        y += 1;
+    }
 }
 
 // Draws a filled triangle.
@@ -210,11 +168,11 @@ pub fn draw_triangle(
     v3: Point,
     colour: u32,
 ) -> Drawn
-    ensures { λ r. ⌜ (r ≡ drawn (triangleNumber frame (length (now (buf .entry))) v1 v2 v3 colour)) × (now (buf .exit) ≡ afterDraw frame (r .number) (triangleFigure v1 v2 v3) colour (now (buf .entry))) ⌝ }
+    ensures { λ r. ⌜ (r, now (buf .exit)) ≡ outcome frame (wholeWindow frame) (triangleDrawing v1 v2 v3 colour) (now (buf .entry)) ⌝ }
 {
     let number = triangle_number(frame, buf.len(), v1, v2, v3, colour);
     if number == 0 {
-        fill_triangle(buf, frame, frame.pane(), v1, v2, v3, colour);
+        fill_triangle(buf, frame.brush(colour), v1, v2, v3);
     }
     Drawn { number }
 }

@@ -10,12 +10,13 @@ use lib.Signed.{_≤ℤ_, _<ℤ_}
 use Rattle.whole.proofs.Difference.{le-nat, lt-nat, nat-lt}
 use Rattle.whole.proofs.Order.{le-self, le-of, le-trans, lt-le, lt-of, lt-apart, le-lt-more, lt-more-le}
 use Rattle.geometry.specs.declared.Point.{Point}
+use Rattle.geometry.proofs.Extreme.{in-order}
 use Rattle.line.specs.declared.Walker.{Walker}
 use Rattle.line.specs.Line.{major, pointAt}
 use Rattle.line.specs.Walk.{WalkerAt}
 use Rattle.line.proofs.Points.{rows-down}
 use Rattle.edges.specs.declared.Run.{Run}
-use Rattle.edges.specs.Side.{WalkedTo, EdgeAt, Lesser, Greater, Taken, Ran}
+use Rattle.edges.specs.Side.{WalkedTo, EdgeAt, Taken, Ran}
 
 -- a walker that has points left is not past the last step
 pub to-go : {s e : Point} {n k : ℕ} {w : Walker} {left : ℕ} → WalkedTo s e n k w left → 0 < left → k ≤ major s e
@@ -23,15 +24,6 @@ to-go h l = omega (arith, h .sum, h .few)
 
 pub one-less : {s e : Point} {n k : ℕ} {w v : Walker} {left : ℕ} → WalkedTo s e n k w left → 0 < left → WalkerAt s e (k + 1) v → WalkedTo s e n (k + 1) v (left - 1)
 one-less h l g = record { at = g; sum = omega (arith, h .sum); few = h .few }
-
-pub one-on : (q r others k : ℕ) → q ≡ r + 1 → r ≡ others + k → q ≡ others + (k + 1)
-one-on q r others k e h = omega arith
-
-pub lesser-at : {a b r a′ b′ r′ : ℤ} → Lesser a b r → a ≡ a′ → b ≡ b′ → r ≡ r′ → Lesser a′ b′ r′
-lesser-at h p q u = record { first = le-trans (le-of (sym u)) (le-trans (h .first) (le-of p)); second = le-trans (le-of (sym u)) (le-trans (h .second) (le-of q)); either = ⊎-elim (λ z. inl (sym u ∙ z ∙ p)) (λ z. inr (sym u ∙ z ∙ q)) (h .either) }
-
-pub greater-at : {a b r a′ b′ r′ : ℤ} → Greater a b r → a ≡ a′ → b ≡ b′ → r ≡ r′ → Greater a′ b′ r′
-greater-at h p q u = record { first = le-trans (le-of (sym p)) (le-trans (h .first) (le-of u)); second = le-trans (le-of (sym q)) (le-trans (h .second) (le-of u)); either = ⊎-elim (λ z. inl (sym u ∙ z ∙ p)) (λ z. inr (sym u ∙ z ∙ q)) (h .either) }
 
 -- ---- a run, some steps on: those from k to i - 1 have been handed out, all on row y, and the columns are widened by exactly those
 pub record Part (s e : Point) (n k : ℕ) (y : ℤ) (r q : Run) : Type 0 where
@@ -72,26 +64,30 @@ module _ {s e : Point} {n k : ℕ} {y : ℤ} {r : Run} where
   part-more {q} {t} p on g =
       let i = p .i in
       let l = p .from in
+      let a = in-order (q .low) (pointAt s e i .0) in
+      let b = in-order (q .high) (pointAt s e i .0) in
+      let lower = le-trans (le-of (g .low)) (a .from-first) in
+      let higher = le-trans (b .to-first) (le-of (sym (g .high))) in
       record {
         i = i + 1;
         from = omega arith;
         here = g .here;
         row = λ j a b. ⊎-elim (λ h. p .row j a h) (λ h. subst (λ (u : ℕ). y ≡ pointAt s e u .1) h on) (last-or i j b);
-        low = le-trans (g .low .first) (p .low);
-        high = le-trans (p .high) (g .high .first);
+        low = le-trans lower (p .low);
+        high = le-trans (p .high) higher;
         holds =
-            λ j a b.
-            ⊎-elim (λ h. (le-trans (g .low .first) (p .holds j a h .0), le-trans (p .holds j a h .1) (g .high .first)))
-            (λ h. subst (λ (u : ℕ). (t .low ≤ℤ pointAt s e u .0) × (pointAt s e u .0 ≤ℤ t .high)) h (g .low .second, g .high .second))
-            (last-or i j b);
+            λ j m n.
+            ⊎-elim (λ h. (le-trans lower (p .holds j m h .0), le-trans (p .holds j m h .1) higher))
+            (λ h. subst (λ (u : ℕ). (t .low ≤ℤ pointAt s e u .0) × (pointAt s e u .0 ≤ℤ t .high)) h (le-trans (le-of (g .low)) (a .from-second), le-trans (b .to-second) (le-of (sym (g .high)))))
+            (last-or i j n);
         low-is =
-            ⊎-elim (λ h. ⊎-elim (λ z. inl (h ∙ z)) (λ z. inr (z .0, z .1, (let b = z .2 in omega arith), h ∙ z .3)) (p .low-is))
-            (λ h. inr (i, l, omega arith, h))
-            (g .low .either);
+            ⊎-elim (λ h. ⊎-elim (λ z. inl (g .low ∙ h ∙ z)) (λ z. inr (z .0, z .1, (let b = z .2 in omega arith), g .low ∙ h ∙ z .3)) (p .low-is))
+            (λ h. inr (i, l, omega arith, g .low ∙ h))
+            (a .low-is);
         high-is =
-            ⊎-elim (λ h. ⊎-elim (λ z. inl (h ∙ z)) (λ z. inr (z .0, z .1, (let b = z .2 in omega arith), h ∙ z .3)) (p .high-is))
-            (λ h. inr (i, l, omega arith, h))
-            (g .high .either);
+            ⊎-elim (λ h. ⊎-elim (λ z. inl (g .high ∙ h ∙ z)) (λ z. inr (z .0, z .1, (let b = z .2 in omega arith), g .high ∙ h ∙ z .3)) (p .high-is))
+            (λ h. inr (i, l, omega arith, g .high ∙ h))
+            (b .high-is);
       }
 
 -- ---- where the run stops, it has met all points of the row

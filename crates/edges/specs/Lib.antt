@@ -1,2 +1,2 @@
 pub mod Side
-pub mod Shape
+pub mod Edges

@@ -5,6 +5,7 @@ use Prim.Native.Nat.{ℕ, _+_, _≤_, _<_}
 use lib.IntN.{ℤ, pos, _+ℤ_}
 use lib.Signed.{_≤ℤ_, _<ℤ_}
 use Rattle.geometry.specs.declared.Point.{Point}
+use Rattle.geometry.specs.Extreme.{lesser, greater}
 use Rattle.line.specs.declared.Walker.{Walker}
 use Rattle.line.specs.Line.{points, pointAt}
 use Rattle.line.specs.Walk.{WalkerAt}
@@ -30,17 +31,6 @@ pub record EdgeAt (s e : Point) (n : ℕ) (y : ℤ) (w : Walker) (left : ℕ) : 
   pub done : (i : ℕ) → i < k → pointAt s e i .1 <ℤ y
   pub ahead : (i : ℕ) → k ≤ i → i < n → y ≤ℤ pointAt s e i .1
 
--- r is the lesser, the greater of a and b
-pub record Lesser (a b r : ℤ) : Type 0 where
-  pub first : r ≤ℤ a
-  pub second : r ≤ℤ b
-  pub either : (r ≡ a) ⊎ (r ≡ b)
-
-pub record Greater (a b r : ℤ) : Type 0 where
-  pub first : a ≤ℤ r
-  pub second : b ≤ℤ r
-  pub either : (r ≡ a) ⊎ (r ≡ b)
-
 -- a run of some edge, whose count has room for the points that are left
 pub record Going (r : Run) : Type 0 where
   pub s : Point
@@ -50,12 +40,11 @@ pub record Going (r : Run) : Type 0 where
   pub here : WalkedTo s e n k (r .walker) (r .left)
   pub room : r .count + r .left ≤ 4294967295
 
--- q is r after one more point, that of step k; whatever the other walkers have handed out, the count agrees with this one's place
+-- q is r after one more point, that of step k
 pub record Taken (s e : Point) (n k : ℕ) (r q : Run) : Type 0 where
   pub here : WalkedTo s e n (k + 1) (q .walker) (q .left)
-  pub low : Lesser (r .low) (pointAt s e k .0) (q .low)
-  pub high : Greater (r .high) (pointAt s e k .0) (q .high)
-  pub agrees : (others : ℕ) → r .count ≡ others + k → q .count ≡ others + (k + 1)
+  pub low : q .low ≡ lesser (r .low) (pointAt s e k .0)
+  pub high : q .high ≡ greater (r .high) (pointAt s e k .0)
 
 -- q is r after the points of row y: its columns are widened by exactly those
 pub record Ran (s e : Point) (n : ℕ) (y : ℤ) (r q : Run) : Type 0 where

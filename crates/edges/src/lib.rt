@@ -1,17 +1,19 @@
 // The edges of a triangle, walked together from the top down: each row takes from every edge the points that it has there, so that each edge is
 // walked once, and widens the row's first and last column by them. An edge that is not on the row hands out nothing.
 ghost use mathlib.Core.Path.{_≡_};
-ghost use mathlib.Core.Bool.{cond};
+ghost use mathlib.Core.Bool.{Bool};
 ghost use Prim.Native.Nat.{ℕ, _+_, _<_};
-ghost use lib.IntN.{ℤ, pos, negsuc};
+ghost use lib.IntN.{pos, negsuc};
 ghost use lib.Signed.{_≤ℤ_};
 ghost use Rattle.geometry.specs.declared.Point.{Point as Place};
 ghost use Rattle.geometry.specs.Bound.{Bounded};
-ghost use Rattle.line.specs.Line.{points};
 ghost use Rattle.line.specs.Walk.{WalkerAt};
-ghost use Rattle.edges.specs.Side.{Lesser, Greater, Going, WalkedTo, EdgeAt, Taken, Ran};
-ghost use Rattle.edges.specs.Shape.{Shape, Fresh, WalkAt, Rowing, Rowed};
+ghost use Rattle.triangle.specs.declared.Sorted.{Sorted as Triangle};
+ghost use Rattle.triangle.specs.Order.{Down};
+ghost use Rattle.edges.specs.Side.{Going, WalkedTo, EdgeAt, Taken, Ran};
+ghost use Rattle.edges.specs.Edges.{askedPoints, WalkAt, Rowing, Rowed};
 use geometry::Point;
+use triangle::Sorted;
 
 // An edge's walker, and the points that it has still to hand out.
 pub struct Side {
@@ -44,24 +46,6 @@ pub struct Row {
     pub high: i32,
 }
 
-fn lesser(a: i32, b: i32) -> i32
-    ensures { λ r. ⌜ Lesser a b r ⌝ }
-{
-    if b < a {
-        return b;
-    }
-    a
-}
-
-fn greater(a: i32, b: i32) -> i32
-    ensures { λ r. ⌜ Greater a b r ⌝ }
-{
-    if a < b {
-        return b;
-    }
-    a
-}
-
 // One more point of the edge.
 fn one_more(r: Run) -> Run
     requires { ⌜ Going r × (0 < r .left) ⌝ }
@@ -71,8 +55,8 @@ fn one_more(r: Run) -> Run
     let stepped = w.step();
     let point = stepped.point;
     let next = stepped.walker;
-    let low = lesser(r.low, point.0);
-    let high = greater(r.high, point.0);
+    let low = geometry::lesser(r.low, point.0);
+    let high = geometry::greater(r.high, point.0);
     Run {
         walker: next,
         left: r.left - 1,
@@ -99,7 +83,7 @@ fn edge_run(r: Run, y: i32) -> Run
 }
 
 // A row's first run, along an edge.
-fn fresh(side: Side, count: u32) -> Run
+fn first_run(side: Side, count: u32) -> Run
     ensures { λ q. ⌜ (q .walker ≡ side .walker) × (q .left ≡ side .left) × (q .low ≡ pos 131072) × (q .high ≡ negsuc 131072) × (q .count ≡ count) ⌝ }
 {
     let w = side.walker;
@@ -113,7 +97,7 @@ fn fresh(side: Side, count: u32) -> Run
 }
 
 // The row's next run, along another edge.
-fn onward(r: Run, side: Side) -> Run
+fn next_run(r: Run, side: Side) -> Run
     ensures { λ q. ⌜ (q .walker ≡ side .walker) × (q .left ≡ side .left) × (q .low ≡ r .low) × (q .high ≡ r .high) × (q .count ≡ r .count) ⌝ }
 {
     let w = side.walker;
@@ -141,7 +125,7 @@ impl Side {
     // Inside the library: the walk along the edge of an accepted triangle, at its start; along no point of it where it is not asked for.
     pub fn new(start: Point, end: Point, asked: bool) -> Self
         requires { ⌜ Bounded start × Bounded end ⌝ }
-        ensures { λ r. ⌜ WalkerAt start end 0 (r .walker) × (r .left ≡ cond asked (points start end) 0) ⌝ }
+        ensures { λ r. ⌜ WalkerAt start end 0 (r .walker) × (r .left ≡ askedPoints asked start end) ⌝ }
     {
         let w = line::Walker::new(start, end);
         if !asked {
@@ -158,14 +142,14 @@ impl Side {
 impl Walk {
     // Inside the library: the walks of an accepted triangle of sorted vertices, at its top: along all its edges, or with zero area along p1 to
     // p3 alone.
-    pub fn new(p1: Point, p2: Point, p3: Point, solid: bool) -> Self
-        requires { ⌜ Bounded p1 × Bounded p2 × Bounded p3 ⌝ }
-        ensures { λ r. ⌜ Fresh p1 p2 p3 solid r ⌝ }
+    pub fn new(t: Sorted, solid: bool) -> Self
+        requires { ⌜ (Bounded (t .p1) × Bounded (t .p2) × Bounded (t .p3)) × Down t ⌝ }
+        ensures { λ r. ⌜ WalkAt t solid (t .p1 .1) r ⌝ }
     {
         Walk {
-            a: Side::new(p1, p2, solid),
-            b: Side::new(p1, p3, true),
-            c: Side::new(p2, p3, solid),
+            a: Side::new(t.p1, t.p2, solid),
+            b: Side::new(t.p1, t.p3, true),
+            c: Side::new(t.p2, t.p3, solid),
             count: 0,
         }
     }
@@ -173,14 +157,14 @@ impl Walk {
     // Inside the library: the points of the three edges on row y, the rows above having been taken.
     pub fn row(self, y: i32) -> Row
         requires { ⌜ Rowing self ⌝ }
-        ensures { λ r. ⌜ ((t : Shape) → WalkAt t y self → Rowed t y r) ⌝ }
+        ensures { λ r. ⌜ ((t : Triangle) (solid : Bool) → WalkAt t solid y self → Rowed t solid y r) ⌝ }
     {
         let a = self.a;
         let b = self.b;
         let c = self.c;
-        let first = edge_run(fresh(a, self.count), y);
-        let second = edge_run(onward(first, b), y);
-        let third = edge_run(onward(second, c), y);
+        let first = edge_run(first_run(a, self.count), y);
+        let second = edge_run(next_run(first, b), y);
+        let third = edge_run(next_run(second, c), y);
         let next = Walk {
             a: side_of(first),
             b: side_of(second),

@@ -11,24 +11,25 @@ use lib.Signed.{leZ, ltZ, _≤ℤ_}
 use borrow.Author.Tests.{ltb-true, leb-true, lt-ltb, le-ltb, le-leb}
 use Rattle.layout.specs.Figure.{spanFigure}
 use Rattle.whole.specs.Equal.{eqZ}
-use Rattle.layout.specs.Raster.{painted}
+use Rattle.whole.specs.Interval.{between}
+use Rattle.layout.specs.Layout.{painted}
 use Rattle.whole.proofs.Tests.{lt-or-ge, same-test, fails, and-true, true-and, eqZ-true, eqZ-refl}
 use Rattle.layout.proofs.Spans.{columns, in-span, span-in}
 use Rattle.layout.proofs.Painted.{painted-cong, painted-none}
 use Rattle.framebuffer.specs.declared.Frame.{Frame}
-use Rattle.framebuffer.specs.declared.Pane.{Pane}
+use Rattle.framebuffer.specs.declared.Window.{Window}
 use Rattle.framebuffer.specs.Description.{raster}
-use Rattle.framebuffer.specs.Rectangle.{Within, isBetween, inPane, inside}
-use Rattle.framebuffer.specs.Words.{clipped}
-use Rattle.framebuffer.proofs.Refusals.{Described, sound}
-use Rattle.framebuffer.proofs.Panes.{between-pos, between-in, pane-in}
+use Rattle.framebuffer.specs.Window.{inWindow, heldBy, clipped}
+use Rattle.framebuffer.specs.Judged.{Described, Within}
+use Rattle.framebuffer.proofs.Refusals.{sound}
+use Rattle.framebuffer.proofs.Windows.{between-pos, between-in, window-in}
 
 -- ---- the nearest number of low to high
 -- below, above, and between
 data Nearest (x : ℤ) (low high : ℕ) (r : ℕ) : Type 0 where
   under : ltZ x (pos low) ≡ true → r ≡ low → Nearest x low high r
   over : ltZ (pos high) x ≡ true → r ≡ high → Nearest x low high r
-  between : x ≡ pos r → low ≤ r → r ≤ high → Nearest x low high r
+  within : x ≡ pos r → low ≤ r → r ≤ high → Nearest x low high r
 
 nearest : (x : ℤ) (low high : ℕ) → Nearest x low high (clipped x low high)
 nearest (negsuc a) low high = under refl refl
@@ -40,7 +41,7 @@ nearest (pos a) low high = go (lt-or-ge a low) (lt-or-ge high a)
         over (lt-ltb high a k) (ap₂ (λ (s t : Bool). cond s low (cond t high a)) (le-ltb a low l) (lt-ltb high a k))
     go (inr l) (inr k) =
         let e : a ≡ cond (ltb a low) low (cond (ltb high a) high a) = sym (ap₂ (λ (s t : Bool). cond s low (cond t high a)) (le-ltb a low l) (le-ltb high a k)) in
-        between (ap pos e) (subst (λ (i : ℕ). low ≤ i) e l) (subst (λ (i : ℕ). i ≤ high) e k)
+        within (ap pos e) (subst (λ (i : ℕ). low ≤ i) e l) (subst (λ (i : ℕ). i ≤ high) e k)
 
 pub clip-bounds : (x : ℤ) (low high : ℕ) → low ≤ high → (low ≤ clipped x low high) × (clipped x low high ≤ high)
 clip-bounds x low high h = go (clipped x low high) (nearest x low high)
@@ -48,7 +49,7 @@ clip-bounds x low high h = go (clipped x low high) (nearest x low high)
     go : (r : ℕ) → Nearest x low high r → (low ≤ r) × (r ≤ high)
     go r (under l e) = (omega arith, omega arith)
     go r (over l e) = (omega arith, omega arith)
-    go r (between e l k) = (l, k)
+    go r (within e l k) = (l, k)
 
 -- a column of low to high is on the same side of both
 module _ (x : ℤ) (low high u : ℕ) (h : low ≤ u) (k : u < high) where
@@ -66,7 +67,7 @@ module _ (x : ℤ) (low high u : ℕ) (h : low ≤ u) (k : u < high) where
 
       no′ : r ≤ u → ⊥
       no′ q = omega arith
-  from-le r (between e l m) = (λ q. leb-true r u (ap (λ (z : ℤ). leZ z (pos u)) (sym e) ∙ q), λ q. ap (λ (z : ℤ). leZ z (pos u)) e ∙ le-leb r u q)
+  from-le r (within e l m) = (λ q. leb-true r u (ap (λ (z : ℤ). leZ z (pos u)) (sym e) ∙ q), λ q. ap (λ (z : ℤ). leZ z (pos u)) e ∙ le-leb r u q)
 
   past-gt : (r : ℕ) → Nearest x low high r → (ltZ (pos u) x ≡ true → u < r) × (u < r → ltZ (pos u) x ≡ true)
   past-gt r (under l e) = (λ q. absurd (no x l q), λ q. absurd (no′ q))
@@ -82,21 +83,21 @@ module _ (x : ℤ) (low high u : ℕ) (h : low ≤ u) (k : u < high) where
       more : (x : ℤ) → ltZ (pos high) x ≡ true → ltZ (pos u) x ≡ true
       more (pos a) l = lt-ltb u a (let m = ltb-true high a l in omega arith)
       more (negsuc a) l = absurd (true≢false (sym l))
-  past-gt r (between e l m) = (λ q. ltb-true u r (ap (λ (z : ℤ). ltZ (pos u) z) (sym e) ∙ q), λ q. ap (λ (z : ℤ). ltZ (pos u) z) e ∙ lt-ltb u r q)
+  past-gt r (within e l m) = (λ q. ltb-true u r (ap (λ (z : ℤ). ltZ (pos u) z) (sym e) ∙ q), λ q. ap (λ (z : ℤ). ltZ (pos u) z) e ∙ lt-ltb u r q)
 
 -- ---- the span that is left
-module _ (f : Frame) (D : Described f) (colour : ℕ) (b : List ℕ) (q : Pane) (y start end : ℤ) (W : Within q f) where
+module _ (f : Frame) (D : Described f) (colour : ℕ) (b : List ℕ) (q : Window) (y start end : ℤ) (W : Within q f) where
   -- the figure has places on row y alone
   on-row : (u v : ℕ) → spanFigure y start end (pos u) (pos v) ≡ true → pos v ≡ y
   on-row u v e = eqZ-true (pos v) y (and-true (leZ start (pos u) && ltZ (pos u) end) (eqZ (pos v) y) e .1)
 
   -- no row of the rectangle
-  pub row-off : isBetween y (q .top) (q .bottom) ≡ false → b ≡ painted (raster f) (inside q (spanFigure y start end)) colour b
+  pub row-off : between (pos (q .top)) (pos (q .bottom)) y ≡ false → b ≡ painted (raster f) (heldBy q (spanFigure y start end)) colour b
   row-off h =
       sym (painted-none (raster f) (sound f D) colour b _ (λ u v hu hv. fails _ (λ e.
-      let p = and-true (inPane q (pos u) (pos v)) (spanFigure y start end (pos u) (pos v)) e in
-      let r = and-true (isBetween (pos u) (q .left) (q .right)) (isBetween (pos v) (q .top) (q .bottom)) (p .0) .1 in
-      true≢false (sym r ∙ ap (λ (z : ℤ). isBetween z (q .top) (q .bottom)) (on-row u v (p .1)) ∙ h))))
+      let p = and-true (inWindow q (pos u) (pos v)) (spanFigure y start end (pos u) (pos v)) e in
+      let r = and-true (between (pos (q .left)) (pos (q .right)) (pos u)) (between (pos (q .top)) (pos (q .bottom)) (pos v)) (p .0) .1 in
+      true≢false (sym r ∙ ap (λ (z : ℤ). between (pos (q .top)) (pos (q .bottom)) z) (on-row u v (p .1)) ∙ h))))
 
   abbrev from : ℕ
   from = clipped start (q .left) (q .right)
@@ -104,44 +105,44 @@ module _ (f : Frame) (D : Described f) (colour : ℕ) (b : List ℕ) (q : Pane) 
   abbrev past : ℕ
   past = clipped end (q .left) (q .right)
 
-  module _ (row : isBetween y (q .top) (q .bottom) ≡ true) where
+  module _ (row : between (pos (q .top)) (pos (q .bottom)) y ≡ true) where
     row-is : y ≡ pos (natAbs y)
     row-is = between-pos y (q .top) (q .bottom) row
 
-    agree : (u v : ℕ) → columns (natAbs y) from past (pos u) (pos v) ≡ inside q (spanFigure y start end) (pos u) (pos v)
+    agree : (u v : ℕ) → columns (natAbs y) from past (pos u) (pos v) ≡ heldBy q (spanFigure y start end) (pos u) (pos v)
     agree u v = same-test _ _ there back
       where
-        there : columns (natAbs y) from past (pos u) (pos v) ≡ true → inside q (spanFigure y start end) (pos u) (pos v) ≡ true
+        there : columns (natAbs y) from past (pos u) (pos v) ≡ true → heldBy q (spanFigure y start end) (pos u) (pos v) ≡ true
         there e =
             let s = in-span (natAbs y) from past u v e in
             let a = s .0 in
             let z = s .1 in
             let i = s .2 in
-            let lo = clip-bounds start (q .left) (q .right) (W .columns) .0 in
-            let hi = clip-bounds end (q .left) (q .right) (W .columns) .1 in
+            let lo = clip-bounds start (q .left) (q .right) (W .across) .0 in
+            let hi = clip-bounds end (q .left) (q .right) (W .across) .1 in
             let l : q .left ≤ u = omega arith in
             let r : u < q .right = omega arith in
             let here : pos v ≡ y = ap pos i ∙ sym row-is in
-            true-and (true-and (between-in u (q .left) (q .right) l r) (ap (λ (z : ℤ). isBetween z (q .top) (q .bottom)) here ∙ row))
+            true-and (true-and (between-in u (q .left) (q .right) l r) (ap (λ (z : ℤ). between (pos (q .top)) (pos (q .bottom)) z) here ∙ row))
             (true-and (true-and (from-le start (q .left) (q .right) u l r from (nearest start (q .left) (q .right)) .1 a)
             (past-gt end (q .left) (q .right) u l r past (nearest end (q .left) (q .right)) .1 z))
             (ap (λ (z : ℤ). eqZ z y) here ∙ eqZ-refl y))
 
-        back : inside q (spanFigure y start end) (pos u) (pos v) ≡ true → columns (natAbs y) from past (pos u) (pos v) ≡ true
+        back : heldBy q (spanFigure y start end) (pos u) (pos v) ≡ true → columns (natAbs y) from past (pos u) (pos v) ≡ true
         back e =
-            let p = and-true (inPane q (pos u) (pos v)) (spanFigure y start end (pos u) (pos v)) e in
+            let p = and-true (inWindow q (pos u) (pos v)) (spanFigure y start end (pos u) (pos v)) e in
             let s = and-true (leZ start (pos u) && ltZ (pos u) end) (eqZ (pos v) y) (p .1) in
             let t = and-true (leZ start (pos u)) (ltZ (pos u) end) (s .0) in
-            let r = pane-in q u v (p .0) .0 in
+            let r = window-in q u v (p .0) .0 in
             span-in (natAbs y) from past u v
             (from-le start (q .left) (q .right) u (r .0) (r .1) from (nearest start (q .left) (q .right)) .0 (t .0))
             (past-gt end (q .left) (q .right) u (r .0) (r .1) past (nearest end (q .left) (q .right)) .0 (t .1))
             (ap natAbs (on-row u v (p .1)))
 
-    pub span-left : painted (raster f) (columns (natAbs y) from past) colour b ≡ painted (raster f) (inside q (spanFigure y start end)) colour b
+    pub span-left : painted (raster f) (columns (natAbs y) from past) colour b ≡ painted (raster f) (heldBy q (spanFigure y start end)) colour b
     span-left = painted-cong (raster f) (sound f D) colour b _ _ (λ u v hu hv. agree u v)
 
-    pub span-gone : past ≤ from → b ≡ painted (raster f) (inside q (spanFigure y start end)) colour b
+    pub span-gone : past ≤ from → b ≡ painted (raster f) (heldBy q (spanFigure y start end)) colour b
     span-gone h =
         sym (sym span-left ∙ painted-none (raster f) (sound f D) colour b _ (λ u v hu hv. fails _ (λ e. let s = in-span (natAbs y) from past u v e in no u (s .0) (s .1))))
       where

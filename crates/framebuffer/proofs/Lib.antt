@@ -1,10 +1,6 @@
 pub mod Refusals
-pub mod Masks
-pub mod Parts
-pub mod Panes
+pub mod Windows
 pub mod Edges
 pub mod Clips
 pub mod Calls
 pub mod Determined
-pub mod Exactly
-pub mod Known

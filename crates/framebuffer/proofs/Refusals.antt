@@ -1,189 +1,125 @@
--- Refusals as nests of tests: each takes what the tests after it answer, the first number that applies wins, and 0 says that no test applied.
--- Assumes nothing.
-use mathlib.Core.Path.{_≡_, refl, sym, ap, _∙_}
-use mathlib.Core.Bool.{Bool, true, false, cond, not, _||_, true≢false}
+-- The tests of a frame: what it says that none of them holds, and what comes with it. Assumes nothing.
+use mathlib.Core.Path.{_≡_, refl, ap, _∙_}
+use mathlib.Core.Bool.{true}
+use mathlib.Core.List.{[], _∷_}
 use Prim.Native.Nat.{ℕ, zero, suc, _+_, _*_, _/_, _%_, _^_, _≤_, _<_}
 use native.Mathlib.Nat.{mul-le-mul, mul-zero, le-refl, mod-eq-of-lt, mul-le-mul-right}
 use native.Mathlib.Omega.{arith}
-use lib.Dec.{ltb, leb, eqb}
-use lib.IntN.{ℤ}
 use lib.Pow.{pow-mono}
-use mathlib.Core.List.{List}
-use borrow.Author.Tests.{ltb-false, leb-false, eq-eqb, ne-eqb, eqb-true, eqb-false, not-false}
-use Rattle.layout.specs.Raster.{Sound, goodDepth, rowBytes, parts, painted}
-use Rattle.layout.proofs.Places.{depth-le, pixel-in}
+use borrow.Author.Tests.{ltb-false, leb-false, not-false}
+use Rattle.whole.proofs.Tests.{or-false}
+use Rattle.refusals.specs.First.{first, numbered}
+use Rattle.refusals.proofs.First.{exactly-0, both-pass, fails-alone}
+use Rattle.layout.specs.Packed.{rowBytes, parts}
+use Rattle.layout.proofs.Placing.{Placing}
+use Rattle.layout.proofs.Places.{Sound, placing, depth-le, pixel-in}
 use Rattle.framebuffer.specs.declared.Frame.{Frame}
 use Rattle.framebuffer.specs.Answer.{sized, read}
-use Rattle.framebuffer.specs.Description.{raster, size, descriptionRefusal, bufferRefusal, colourRefusal, drawNumber, afterDraw}
+use Rattle.framebuffer.specs.Description.{packed, raster, size, tooShort, noColour, descriptionTests, frameTests, drawTests}
+use Rattle.framebuffer.specs.Judged.{Described, Accepted, Drawable}
 
--- ---- a nest answers its own number, or what comes next where that is 0
-pub record Nest (N : ℕ → ℕ) : Type 0 where
-  pub next : (n : ℕ) → N n ≡ cond (eqb (N 0) 0) n (N 0)
+-- ---- no number is 0
+pub description-numbered : (f : Frame) → numbered (descriptionTests f) ≡ true
+unfolding descriptionTests
+description-numbered f = refl
 
--- the tests before and after
-module _ {N : ℕ → ℕ} (A : Nest N) where
-  pub refused : (n : ℕ) {r : ℕ} → r ≡ N 0 → (r ≡ 0 → ⊥) → N n ≡ r
-  refused n e h = A .next n ∙ ap (λ (t : Bool). cond t n (N 0)) (ne-eqb (N 0) 0 (λ z. h (e ∙ z))) ∙ sym e
+pub frame-numbered : (f : Frame) (len : ℕ) → numbered (frameTests f len) ≡ true
+unfolding descriptionTests frameTests
+frame-numbered f len = refl
 
-  pub passed : (n : ℕ) → N 0 ≡ 0 → N n ≡ n
-  passed n z = A .next n ∙ ap (λ (t : Bool). cond t n (N 0)) (eq-eqb (N 0) 0 z)
-
-pub one-test : (t : Bool) (k : ℕ) → Nest (λ n. cond t (suc k) n)
-one-test true k = record { next = λ n. sym (ap (λ (t : Bool). cond t n (suc k)) (ne-eqb (suc k) 0 (λ e. omega arith))) }
-one-test false k = record { next = λ n. refl }
-
-module _ {M N : ℕ → ℕ} (A : Nest M) (B : Nest N) where
-  pub joined : Nest (λ n. M (N n))
-  joined = record { next = λ n. go n (eqb (M 0) 0) refl }
-    where
-      go : (n : ℕ) (t : Bool) → eqb (M 0) 0 ≡ t → M (N n) ≡ cond (eqb (M (N 0)) 0) n (M (N 0))
-      go n true e =
-          let z : M 0 ≡ 0 = eqb-true (M 0) 0 e in
-          passed A (N n) z ∙ B .next n ∙ sym (ap (λ (k : ℕ). cond (eqb k 0) n k) (passed A (N 0) z))
-      go n false e =
-          let f : M 0 ≡ 0 → ⊥ = eqb-false (M 0) 0 e in
-          refused A (N n) refl f ∙ sym (ap (λ (k : ℕ). cond (eqb k 0) n k) (refused A (N 0) refl f) ∙ ap (λ (t : Bool). cond t n (M 0)) e)
-
-  -- both pass where the whole does
-  pub both-pass : M (N 0) ≡ 0 → (M 0 ≡ 0) × (N 0 ≡ 0)
-  both-pass z = go (eqb (M 0) 0) refl
-    where
-      go : (t : Bool) → eqb (M 0) 0 ≡ t → (M 0 ≡ 0) × (N 0 ≡ 0)
-      go true e = let m : M 0 ≡ 0 = eqb-true (M 0) 0 e in (m, sym (passed A (N 0) m) ∙ z)
-      go false e =
-          let f : M 0 ≡ 0 → ⊥ = eqb-false (M 0) 0 e in
-          absurd (f (sym (refused A (N 0) refl f) ∙ z))
-
--- what a test that passes says
-pub test-passed : (t : Bool) (k : ℕ) → cond t (suc k) 0 ≡ 0 → t ≡ false
-test-passed true k e = absurd (no e)
-  where
-    no : suc k ≡ 0 → ⊥
-    no e = omega arith
-test-passed false k e = refl
-
--- ---- the nests of a frame
-pub description-nest : (f : Frame) → Nest (descriptionRefusal f)
-description-nest f = joined (one-test (not (goodDepth (f .depth))) 0) (one-test (ltb 2048 (f .width) || ltb 2048 (f .height)) 1)
-
-pub buffer-nest : (f : Frame) (len : ℕ) → Nest (bufferRefusal f len)
-buffer-nest f len = one-test (ltb len (size f)) 2
-
-pub colour-nest : (f : Frame) (colour : ℕ) → Nest (colourRefusal f colour)
-colour-nest f colour = one-test (leb (2 ^ (f .depth)) colour) 3
-
-pub frame-nest : (f : Frame) (len : ℕ) → Nest (λ n. descriptionRefusal f (bufferRefusal f len n))
-frame-nest f len = joined (description-nest f) (buffer-nest f len)
-
-pub draw-nest : (f : Frame) (len colour : ℕ) → Nest (drawNumber f len colour)
-draw-nest f len colour = joined (frame-nest f len) (colour-nest f colour)
+pub draw-numbered : (f : Frame) (len colour : ℕ) → numbered (drawTests f len colour) ≡ true
+unfolding descriptionTests frameTests drawTests
+draw-numbered f len colour = refl
 
 -- ---- what 0 says
-pub record Described (f : Frame) : Type 0 where
-  pub depth : goodDepth (f .depth) ≡ true
-  pub width : f .width ≤ 2048
-  pub height : f .height ≤ 2048
-
-or-false : (a b : Bool) → a || b ≡ false → (a ≡ false) × (b ≡ false)
-or-false true b e = absurd (true≢false e)
-or-false false b e = (refl, e)
-
-pub is-described : (f : Frame) → descriptionRefusal f 0 ≡ 0 → Described f
+pub is-described : (f : Frame) → first (descriptionTests f) ≡ 0 → Described f
+unfolding descriptionTests
 is-described f z =
-    let p = both-pass (one-test (not (goodDepth (f .depth))) 0) (one-test (ltb 2048 (f .width) || ltb 2048 (f .height)) 1) z in
-    let w = or-false (ltb 2048 (f .width)) (ltb 2048 (f .height)) (test-passed _ 1 (p .1)) in
-    record { depth = not-false _ (test-passed _ 0 (p .0)); width = ltb-false _ _ (w .0); height = ltb-false _ _ (w .1) }
+    let t = exactly-0 (descriptionTests f) refl .0 z in
+    let w = or-false _ _ (t .1 .0) in
+    record { depth = not-false _ (t .0); width = ltb-false _ _ (w .0); height = ltb-false _ _ (w .1) }
 
--- a described frame over a buffer of len bytes
-pub record Accepted (f : Frame) (len : ℕ) : Type 0 where
-  pub described : Described f
-  pub room : size f ≤ len
-
-pub is-accepted : (f : Frame) (len : ℕ) → descriptionRefusal f (bufferRefusal f len 0) ≡ 0 → Accepted f len
+pub is-accepted : (f : Frame) (len : ℕ) → first (frameTests f len) ≡ 0 → Accepted f len
+unfolding frameTests
 is-accepted f len z =
-    let p = both-pass (description-nest f) (buffer-nest f len) z in
-    record { described = is-described f (p .0); room = ltb-false len (size f) (test-passed _ 2 (p .1)) }
+    let p = both-pass (descriptionTests f) ((3, tooShort f len) ∷ []) (description-numbered f) z in
+    record { described = is-described f (p .0); room = ltb-false _ _ (fails-alone _ _ (p .1)) }
 
--- a frame that a colour may be drawn on
-pub record Drawable (f : Frame) (len colour : ℕ) : Type 0 where
-  pub accepted : Accepted f len
-  pub below : colour < 2 ^ (f .depth)
-
-pub is-drawable : (f : Frame) (len colour : ℕ) → drawNumber f len colour 0 ≡ 0 → Drawable f len colour
+pub is-drawable : (f : Frame) (len colour : ℕ) → first (drawTests f len colour) ≡ 0 → Drawable f len colour
+unfolding drawTests
 is-drawable f len colour z =
-    let p = both-pass (frame-nest f len) (colour-nest f colour) z in
-    record { accepted = is-accepted f len (p .0); below = leb-false _ _ (test-passed _ 3 (p .1)) }
+    let p = both-pass (frameTests f len) ((4, noColour f colour) ∷ []) (frame-numbered f len) z in
+    record { accepted = is-accepted f len (p .0); below = leb-false _ _ (fails-alone _ _ (p .1)) }
 
--- the parts of a nest that passes
-pub frame-passed : (f : Frame) (len colour : ℕ) → drawNumber f len colour 0 ≡ 0 → descriptionRefusal f (bufferRefusal f len 0) ≡ 0
-frame-passed f len colour z = both-pass (frame-nest f len) (colour-nest f colour) z .0
+-- ---- what comes with an accepted description
+-- its rows are far enough apart
+pub spaced : (f : Frame) → Described f → Sound (packed f)
+spaced f D = record { depth = D .depth; apart = le-refl (rowBytes (f .width) (f .depth)) }
 
-pub description-passed : (f : Frame) (len : ℕ) → descriptionRefusal f (bufferRefusal f len 0) ≡ 0 → descriptionRefusal f 0 ≡ 0
-description-passed f len z = both-pass (description-nest f) (buffer-nest f len) z .0
-
--- ---- what comes with it
-pub sound : (f : Frame) → Described f → Sound (raster f)
-sound f D = record { depth = D .depth; apart = le-refl (rowBytes (f .width) (f .depth)) }
+pub sound : (f : Frame) → Described f → Placing (raster f)
+sound f D = placing (packed f) (spaced f D)
 
 pub product : (f : Frame) → Described f → f .width * f .depth ≤ 65536
 product f D = mul-le-mul (D .width) (depth-le (f .depth) (D .depth))
 
-pub row-fits : (f : Frame) → Described f → rowBytes (f .width) (f .depth) ≤ 8192
+pub row-fits : (f : Frame) → Described f → packed f .distance ≤ 8192
 unfolding rowBytes
 row-fits f D = omega (arith, product f D)
 
 pub size-fits : (f : Frame) → Described f → size f ≤ 16777216
 unfolding size
 size-fits f D =
-    let p : rowBytes (f .width) (f .depth) * f .height ≤ 8192 * 2048 = mul-le-mul (row-fits f D) (D .height) in
+    let p : packed f .distance * f .height ≤ 8192 * 2048 = mul-le-mul (row-fits f D) (D .height) in
     omega arith
 
 -- a pixel's bytes are in the buffer, and the numbers of its place are small
 module _ (f : Frame) (len x y : ℕ) (A : Accepted f len) (hx : x < f .width) (hy : y < f .height) where
-  pub pixel-room : {at : ℕ} → at ≡ y * rowBytes (f .width) (f .depth) + x * f .depth / 8 → at + parts (f .depth) ≤ len
+  pub pixel-room : {at : ℕ} → at ≡ y * packed f .distance + x * f .depth / 8 → at + parts (f .depth) ≤ len
   unfolding size
   pixel-room e =
       let r = A .room in
-      let p = pixel-in (raster f) (sound f (A .described)) x y hx hy in
+      let p = pixel-in (packed f) (spaced f (A .described)) x y hx hy in
       omega arith
 
   pub pixel-small : (x ≤ 2048) × (y ≤ 2048)
   pixel-small = let w = A .described .width in let h = A .described .height in (omega arith, omega arith)
 
--- a place in a row, or at its end, as a drawing call may ask for its byte
-pub place-small : (f : Frame) (len colour : ℕ) {x y : ℕ} → drawNumber f len colour 0 ≡ 0 → x ≤ f .width → y < f .height → (descriptionRefusal f 0 ≡ 0) × (x ≤ 2048) × (y ≤ 2048)
-place-small f len colour z hx hy =
-    let d = description-passed f len (frame-passed f len colour z) in
-    let D = is-described f d in
+-- a place in a row, or at its end, as a painter may ask for its byte
+pub place-small : (f : Frame) {x y : ℕ} → Described f → x ≤ f .width → y < f .height → Described f × (x ≤ 2048) × (y ≤ 2048)
+place-small f D hx hy =
     let w = D .width in
     let h = D .height in
-    (d, omega arith, omega arith)
+    (D, omega arith, omega arith)
 
--- a span ends in the buffer, or with it
-pub end-room : (f : Frame) (len x y : ℕ) → Accepted f len → x ≤ f .width → y < f .height → y * rowBytes (f .width) (f .depth) + x * f .depth / 8 ≤ len
-unfolding size rowBytes
-end-room f len x y A hx hy =
-    let w = (f .width * f .depth + 7) / 8 in
+-- a span ends in its row, or with it
+pub along-row : (f : Frame) (x : ℕ) → Described f → x ≤ f .width → x * f .depth / 8 ≤ packed f .distance
+unfolding rowBytes
+along-row f x D hx =
     let m : x * f .depth ≤ f .width * f .depth = mul-le-mul-right (f .depth) hx in
-    let l : (y + 1) * w ≤ f .height * w = mul-le-mul-right w (omega arith) in
+    let a = spaced f D .apart in
+    omega arith
+
+-- and so in the buffer, or with it
+pub end-room : (f : Frame) (len x y : ℕ) → Accepted f len → x ≤ f .width → y < f .height → y * packed f .distance + x * f .depth / 8 ≤ len
+unfolding size
+end-room f len x y A hx hy =
+    let a = along-row f x (A .described) hx in
+    let l : (y + 1) * packed f .distance ≤ f .height * packed f .distance = mul-le-mul-right (packed f .distance) (omega arith) in
     let r = A .room in
     omega arith
 
--- a frame that takes bytes takes those of a pixel
-pub one-pixel : (f : Frame) → Described f → 0 < size f → parts (f .depth) ≤ size f
-unfolding size rowBytes parts
-one-pixel f D h = go (f .width) (f .height) h
+-- rows without padding that take bytes take those of a pixel
+pub one-pixel : (f : Frame) → packed f .distance * 8 ≡ f .width * f .depth → 0 < size f → parts (f .depth) ≤ size f
+unfolding size parts
+one-pixel f e h = go (packed f .distance) (f .width) (f .height) e h
   where
-    go : (w t : ℕ) → 0 < (w * f .depth + 7) / 8 * t → (f .depth + 7) / 8 ≤ (w * f .depth + 7) / 8 * t
-    go w zero l = absurd (let z : (w * f .depth + 7) / 8 * 0 ≡ 0 = mul-zero ((w * f .depth + 7) / 8) in omega arith)
-    go zero (suc t) l = absurd (let z : (0 * f .depth + 7) / 8 ≡ 0 = omega arith in let e : (0 * f .depth + 7) / 8 * suc t ≡ 0 * suc t = ap (λ (k : ℕ). k * suc t) z in omega arith)
-    go (suc w) (suc t) l =
-        let a : f .depth ≤ suc w * f .depth = omega arith in
-        let b : (f .depth + 7) / 8 * 1 ≤ (suc w * f .depth + 7) / 8 * suc t = mul-le-mul (omega arith) (omega arith) in
-        omega arith
+    go : (d w t : ℕ) → d * 8 ≡ w * f .depth → 0 < d * t → (f .depth + 7) / 8 ≤ d * t
+    go d w zero e l = absurd (let z : d * 0 ≡ 0 = mul-zero d in omega arith)
+    go d zero (suc t) e l = absurd (let z : d ≡ 0 = omega arith in let k : d * suc t ≡ 0 * suc t = ap (λ (n : ℕ). n * suc t) z in omega arith)
+    go d (suc w) (suc t) e l = let a : f .depth ≤ suc w * f .depth = omega arith in let b : d * 1 ≤ d * suc t = omega arith in omega arith
 
 -- rows with padding have pixels
-pub padded : (f : Frame) → (rowBytes (f .width) (f .depth) * 8 ≡ f .width * f .depth → ⊥) → 0 < f .width
+pub padded : (f : Frame) → (packed f .distance * 8 ≡ f .width * f .depth → ⊥) → 0 < f .width
 unfolding rowBytes
 padded f h = go (f .width) h
   where
@@ -197,7 +133,7 @@ one-shifted d h =
     let m : 2 ^ d ≤ 4294967296 = pow-mono {i = d} {j = 32} h in
     ap (λ (x : ℕ). x % 18446744073709551616) (omega arith) ∙ mod-eq-of-lt (omega arith)
 
--- ---- a call that is refused
+-- ---- an answer that refuses
 pub refused-size : (r bytes : ℕ) → (r ≡ 0 → ⊥) → record { number = r; bytes = 0 } ≡ sized r bytes
 refused-size zero bytes h = absurd (h refl)
 refused-size (suc r) bytes h = refl
@@ -205,6 +141,3 @@ refused-size (suc r) bytes h = refl
 pub refused-read : (r colour : ℕ) → (r ≡ 0 → ⊥) → record { number = r; colour = 0 } ≡ read r colour
 refused-read zero colour h = absurd (h refl)
 refused-read (suc r) colour h = refl
-
-pub unchanged : (f : Frame) (r : ℕ) (s : ℤ → ℤ → Bool) (colour : ℕ) (b : List ℕ) → (r ≡ 0 → ⊥) → b ≡ afterDraw f r s colour b
-unchanged f r s colour b h = sym (ap (λ (t : Bool). cond t (painted (raster f) s colour b) b) (ne-eqb r 0 h))

@@ -1,59 +1,68 @@
--- 01, "Packed frames" and "Numbers an operation may answer": what a description says, the refusals of the operations on a frame, and what a
--- drawing call leaves. A refusal takes as `next` what the tests after it answer, so that the lowest number wins.
-use mathlib.Core.Bool.{Bool, cond, not, _||_}
-use mathlib.Core.List.{List}
-use Prim.Native.Nat.{ℕ, _*_, _^_}
-use lib.Dec.{eqb, leb, ltb}
-use lib.IntN.{ℤ, natAbs}
+-- 01, "Packed frames" and "Numbers an operation may answer": what a description says, and the tests of the operations on a frame, in their order.
+use mathlib.Core.Bool.{Bool, not, _||_}
+use mathlib.Core.List.{List, [], _∷_, _++_}
+use Prim.Native.Nat.{ℕ, _^_}
+use lib.Dec.{leb, ltb}
+use lib.IntN.{natAbs}
+use Rattle.refusals.specs.First.{Tests}
 use Rattle.geometry.specs.declared.Point.{Point}
-use Rattle.layout.specs.Raster.{Raster, goodDepth, rowBytes, getPixel, painted}
+use Rattle.layout.specs.Layout.{Layout, shown}
+use Rattle.layout.specs.Packed.{Packed, goodDepth, rowBytes, laid}
 use Rattle.framebuffer.specs.declared.Frame.{Frame}
-use Rattle.framebuffer.specs.Rectangle.{inPane, ownPane}
+use Rattle.framebuffer.specs.Window.{inWindow, wholeWindow}
 
 abbrev pub described : ℕ → ℕ → ℕ → Bool → Frame
 described w h d big = record { width = w; height = h; depth = d; big = big }
 
--- the layout: rows follow one another
-abbrev pub raster : Frame → Raster
-raster f = record { width = f .width; height = f .height; depth = f .depth; distance = rowBytes (f .width) (f .depth); big = f .big }
+-- the rows follow one another
+abbrev pub packed : Frame → Packed
+packed f = record { width = f .width; height = f .height; depth = f .depth; distance = rowBytes (f .width) (f .depth); big = f .big }
 
--- "the frame takes that times height"
+-- where the frame keeps its pixels
+abbrev pub raster : Frame → Layout
+raster f = laid (packed f)
+
+-- the bytes that it takes
 unfoldable pub size : Frame → ℕ
-size f = rowBytes (f .width) (f .depth) * f .height
+size f = raster f .size
 
--- ---- refusals
--- 1: the depth is not one of the seven; 2: the width or the height is above 2,048
-abbrev pub descriptionRefusal : Frame → ℕ → ℕ
-descriptionRefusal f next = cond (not (goodDepth (f .depth))) 1 (cond (ltb 2048 (f .width) || ltb 2048 (f .height)) 2 next)
+-- ---- the tests
+-- 1: the depth is not one of the seven
+abbrev pub noDepth : Frame → Bool
+noDepth f = not (goodDepth (f .depth))
+
+-- 2: the width or the height is above 2,048
+abbrev pub tooLarge : Frame → Bool
+tooLarge f = ltb 2048 (f .width) || ltb 2048 (f .height)
 
 -- 3: the buffer of len bytes is shorter than the frame needs
-abbrev pub bufferRefusal : Frame → ℕ → ℕ → ℕ
-bufferRefusal f len next = cond (ltb len (size f)) 3 next
+abbrev pub tooShort : Frame → ℕ → Bool
+tooShort f len = ltb len (size f)
 
 -- 4: the colour is 2^depth or more
-abbrev pub colourRefusal : Frame → ℕ → ℕ → ℕ
-colourRefusal f colour next = cond (leb (2 ^ (f .depth)) colour) 4 next
+abbrev pub noColour : Frame → ℕ → Bool
+noColour f colour = leb (2 ^ (f .depth)) colour
 
 -- 8: the pixel is outside the frame
-abbrev pub outsideRefusal : Frame → Point → ℕ → ℕ
-outsideRefusal f p next = cond (not (inPane (ownPane f) (p .0) (p .1))) 8 next
+abbrev pub isOutside : Frame → Point → Bool
+isOutside f p = not (inWindow (wholeWindow f) (p .0) (p .1))
 
 -- "Size of a frame: 1, 2"
-abbrev pub sizeNumber : Frame → ℕ
-sizeNumber f = descriptionRefusal f 0
+unfoldable pub descriptionTests : Frame → Tests
+descriptionTests f = (1, noDepth f) ∷ (2, tooLarge f) ∷ []
 
--- "Setting a pixel, filling the frame: 1 to 4"; what a drawing call tests besides comes next
-abbrev pub drawNumber : Frame → ℕ → ℕ → ℕ → ℕ
-drawNumber f len colour next = descriptionRefusal f (bufferRefusal f len (colourRefusal f colour next))
+-- a frame over len bytes: 1 to 3
+unfoldable pub frameTests : Frame → ℕ → Tests
+frameTests f len = descriptionTests f ++ ((3, tooShort f len) ∷ [])
+
+-- "Setting a pixel, filling the frame: 1 to 4"
+unfoldable pub drawTests : Frame → ℕ → ℕ → Tests
+drawTests f len colour = frameTests f len ++ ((4, noColour f colour) ∷ [])
 
 -- "Reading: 1 to 3, 8"
-abbrev pub readNumber : Frame → ℕ → Point → ℕ
-readNumber f len p = descriptionRefusal f (bufferRefusal f len (outsideRefusal f p 0))
+unfoldable pub readTests : Frame → ℕ → Point → Tests
+readTests f len p = frameTests f len ++ ((8, isOutside f p) ∷ [])
 
--- ---- what is read, and what is left
+-- the colour at a place of the frame
 abbrev pub colourAt : Frame → Point → List ℕ → ℕ
-colourAt f p b = getPixel (raster f) (natAbs (p .0)) (natAbs (p .1)) b
-
--- the bytes after a drawing call that answers the number
-abbrev pub afterDraw : Frame → ℕ → (ℤ → ℤ → Bool) → ℕ → List ℕ → List ℕ
-afterDraw f number figure colour b = cond (eqb number 0) (painted (raster f) figure colour b) b
+colourAt f p b = shown (raster f) b (natAbs (p .0)) (natAbs (p .1))

@@ -1,4 +1,5 @@
 pub mod Answer
+pub mod Window
 pub mod Description
-pub mod Rectangle
-pub mod Words
+pub mod Judged
+pub mod Drawing

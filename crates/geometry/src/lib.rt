@@ -1,6 +1,8 @@
-// Places of pixels and of half pixels, which look alike and are kept apart by their types; the bound on coordinates; and the answers that
-// questions on every figure share.
+// Places of pixels and of half pixels, which look alike and are kept apart by their types; the bound on coordinates; the order of places and of
+// columns; and the answers that questions on every figure share.
 ghost use mathlib.Core.Path.{_≡_};
+ghost use Rattle.geometry.specs.Place.{before};
+ghost use Rattle.geometry.specs.Extreme.{lesser, greater};
 ghost use Rattle.geometry.specs.Bound.{isCoord, inBounds};
 
 // A pixel's place: its column and its row.
@@ -38,4 +40,34 @@ pub fn in_bounds(p: Point) -> bool
     let x = p.0;
     let y = p.1;
     is_coord(x) && is_coord(y)
+}
+
+// Inside the library: whether a stands before b by y, then x, or in the same place.
+pub fn in_order(a: Point, b: Point) -> bool
+    ensures { λ r. ⌜ r ≡ before a b ⌝ }
+{
+    if a.1 == b.1 {
+        return a.0 <= b.0;
+    }
+    a.1 < b.1
+}
+
+// Inside the library: the lesser of two columns.
+pub fn lesser(a: i32, b: i32) -> i32
+    ensures { λ r. ⌜ r ≡ lesser a b ⌝ }
+{
+    if a <= b {
+        return a;
+    }
+    b
+}
+
+// Inside the library: the greater of two columns.
+pub fn greater(a: i32, b: i32) -> i32
+    ensures { λ r. ⌜ r ≡ greater a b ⌝ }
+{
+    if a <= b {
+        return b;
+    }
+    a
 }

@@ -18,10 +18,11 @@ use lib.Seq.{set-set, getD-set-same, getD-set-other, set-getD, ext-getD, getD-ta
 use borrow.Author.Tests.{eq-eqb, ne-eqb, leb-true, ltb-true, le-leb, lt-ltb, le-ltb, lt-leb}
 use Rattle.layout.specs.Digits.{digit, replaced, value, setCell, putDigits, setRun}
 use Rattle.layout.specs.Figure.{everywhere}
-use Rattle.layout.specs.Raster.{Raster, Sound, field, parts, per, turned, byteOf, slotOf, putPixel, getPixel, painted, fullByte}
+use Rattle.layout.specs.Layout.{putPixel, getPixel, painted}
+use Rattle.layout.specs.Packed.{Packed, laid, field, parts, per, turned, byteOf, slotOf, fullByte}
 use Rattle.whole.proofs.Tests.{eq-or-not, lt-or-ge, same-test, and-true, true-and}
 use Rattle.layout.proofs.Cells.{digit-lt, value-cong, value-digits, puts-len}
-use Rattle.layout.proofs.Places.{Depth, depth-of, column, per-pos, parts-pos, depth-pos, turned-below, turned-twice}
+use Rattle.layout.proofs.Places.{Sound, placing, Depth, depth-of, column, per-pos, parts-pos, depth-pos, turned-below, turned-twice}
 use Rattle.layout.proofs.Fields.{replaced-mod, replaced-value, pow-mul, value-lt, mask, mask-not, mask-and, low-fields, merge}
 use Rattle.layout.proofs.Runs.{run-length, run-out, run-in, run-cong, run-bytes, run-then, run-part}
 use Rattle.layout.proofs.Spans.{columns, span-one}
@@ -77,7 +78,7 @@ full-one d big c j e h =
 at-least : (i k : ℕ) → leb i k && true ≡ not (ltb k i)
 at-least i k = ⊎-elim (λ l. ap (λ (t : Bool). t && true) (lt-leb i k l) ∙ sym (ap not (lt-ltb k i l))) (λ l. ap (λ (t : Bool). t && true) (le-leb i k l) ∙ sym (ap not (le-ltb k i l))) (lt-or-ge k i)
 
-module _ (r : Raster) (S : Sound r) (c : ℕ) where
+module _ (r : Packed) (S : Sound r) (c : ℕ) where
   abbrev d : ℕ
   d = r .depth
 
@@ -100,7 +101,7 @@ module _ (r : Raster) (S : Sound r) (c : ℕ) where
   module _ (small : m ≡ 1) (hc : c < B) where
     -- one pixel, in its byte
     pub pixel-set : (x y : ℕ) (b : List ℕ)
-        → putPixel r x y c b ≡ set b (y * row + x * d / 8) (replaced B (slotOf d x) c (getD b (y * row + x * d / 8) 0))
+        → putPixel (laid r) x y c b ≡ set b (y * row + x * d / 8) (replaced B (slotOf d x) c (getD b (y * row + x * d / 8) 0))
     unfolding byteOf
     pixel-set x y b =
         let at = y * row + x * d / 8 in
@@ -114,13 +115,13 @@ module _ (r : Raster) (S : Sound r) (c : ℕ) where
     byte-at x = column d D x ∙ ap (λ (k : ℕ). x / n * k) small ∙ mul-one (x / n)
 
     pixel-byte : (y q a : ℕ) (b : List ℕ) → a < n
-        → putPixel r (q * n + a) y c b ≡ set b (y * row + q) (replaced B (n - 1 - a) c (getD b (y * row + q) 0))
+        → putPixel (laid r) (q * n + a) y c b ≡ set b (y * row + q) (replaced B (n - 1 - a) c (getD b (y * row + q) 0))
     unfolding slotOf
     pixel-byte y q a b h =
         pixel-set (q * n + a) y b
         ∙ ap₂ (λ (i j : ℕ). set b (y * row + i) (replaced B (n - 1 - j) c (getD b (y * row + i) 0))) (byte-at (q * n + a) ∙ digits-div q h) (digits-mod q h)
 
-    pub pixel-get : (x y : ℕ) (b : List ℕ) → getPixel r x y b ≡ digit B (slotOf d x) (getD b (y * row + x * d / 8) 0)
+    pub pixel-get : (x y : ℕ) (b : List ℕ) → getPixel (laid r) x y b ≡ digit B (slotOf d x) (getD b (y * row + x * d / 8) 0)
     unfolding byteOf
     pixel-get x y b =
         let at = y * row + x * d / 8 in
@@ -133,7 +134,7 @@ module _ (r : Raster) (S : Sound r) (c : ℕ) where
     partly a e v = value B n (λ k. cond (picks n a e k) c (digit B k v))
 
     pub some-pixels : (y q a e : ℕ) (b : List ℕ) → a ≤ e → e ≤ n → q * n + e ≤ r .width → y < r .height → y * row + q < length b → getD b (y * row + q) 0 < 256
-        → painted r (columns y (q * n + a) (q * n + e)) c b ≡ set b (y * row + q) (partly a e (getD b (y * row + q) 0))
+        → painted (laid r) (columns y (q * n + a) (q * n + e)) c b ≡ set b (y * row + q) (partly a e (getD b (y * row + q) 0))
     some-pixels y q a e b h l w hy i v = go e (e - a) (omega arith) l w
       where
         at : ℕ
@@ -173,19 +174,19 @@ module _ (r : Raster) (S : Sound r) (c : ℕ) where
                 ∙ ap (λ (s : Bool). cond s c (digit B j (getD b (y * row + q) 0))) (picks-more n a e j g k t f)
 
         go : (e k : ℕ) → e ≡ a + k → e ≤ n → q * n + e ≤ r .width
-            → painted r (columns y (q * n + a) (q * n + e)) c b ≡ set b (y * row + q) (partly a e (getD b (y * row + q) 0))
+            → painted (laid r) (columns y (q * n + a) (q * n + e)) c b ≡ set b (y * row + q) (partly a e (getD b (y * row + q) 0))
         go e zero f l w =
             let g : e ≡ a = omega arith in
-            ap (λ (e : ℕ). painted r (columns y (q * n + a) (q * n + e)) c b) g ∙ span-empty r S c b y (q * n + a) (q * n + a) (le-refl (q * n + a))
+            ap (λ (e : ℕ). painted (laid r) (columns y (q * n + a) (q * n + e)) c b) g ∙ span-empty (laid r) (placing r S) c b y (q * n + a) (q * n + a) (le-refl (q * n + a))
             ∙ sym (ap (λ (e : ℕ). set b (y * row + q) (partly a e (getD b (y * row + q) 0))) g ∙ ap (set b (y * row + q)) start ∙ set-getD b (y * row + q) 0)
         go zero (suc k) f l w = absurd (omega arith)
         go (suc e) (suc k) f l w =
             let i′ = y * row + q in
             let t = partly a e (getD b i′ 0) in
             let g : q * n + suc e ≡ q * n + e + 1 = omega arith in
-            ap (λ (x : ℕ). painted r (columns y (q * n + a) x) c b) g
-            ∙ sym (span-put r S c b y (q * n + a) (q * n + e) (omega arith) (omega arith) hy)
-            ∙ ap (putPixel r (q * n + e) y c) (go e k (omega arith) (omega arith) (omega arith))
+            ap (λ (x : ℕ). painted (laid r) (columns y (q * n + a) x) c b) g
+            ∙ sym (span-put (laid r) (placing r S) c b y (q * n + a) (q * n + e) (omega arith) (omega arith) hy)
+            ∙ ap (putPixel (laid r) (q * n + e) y c) (go e k (omega arith) (omega arith) (omega arith))
             ∙ pixel-byte y q e (set b i′ t) l
             ∙ ap (λ (v : ℕ). set (set b i′ t) i′ (replaced B (n - 1 - e) c v)) (getD-set-same b i′ t 0 i)
             ∙ set-set b i′ t (replaced B (n - 1 - e) c t)
@@ -230,12 +231,12 @@ module _ (r : Raster) (S : Sound r) (c : ℕ) where
       here k = ap (λ (j : ℕ). set b (y * row + j) (merged (getD b (y * row + j) 0) k)) (sym (byte-at x))
 
       -- from x to the end of its byte
-      pub head : (x / n + 1) * n ≤ r .width → painted r (columns y x ((x / n + 1) * n)) c b ≡ set b (y * row + x * d / 8) (merged (getD b (y * row + x * d / 8) 0) (onward x))
+      pub head : (x / n + 1) * n ≤ r .width → painted (laid r) (columns y x ((x / n + 1) * n)) c b ≡ set b (y * row + x * d / 8) (merged (getD b (y * row + x * d / 8) 0) (onward x))
       head w =
           let h = mod-lt x (per-pos d D) in
           let e : x / n * n + x % n ≡ x = div-add-mod' x n in
           let f : x / n * n + n ≡ (x / n + 1) * n = omega arith in
-          sym (ap₂ (λ (s t : ℕ). painted r (columns y s t) c b) e f)
+          sym (ap₂ (λ (s t : ℕ). painted (laid r) (columns y s t) c b) e f)
           ∙ some-pixels y (x / n) (x % n) n b (omega arith) (le-refl n) (omega arith) hy i (v (y * row + x / n))
           ∙ ap (set b (y * row + x / n)) (sym (ap (merged (getD b (y * row + x / n) 0)) (onward-is x)
           ∙ merged-is (x % n) n (getD b (y * row + x / n) 0) (λ k. ltb k (n - x % n)) (v (y * row + x / n)) (λ k l. sym (all k))))
@@ -245,11 +246,11 @@ module _ (r : Raster) (S : Sound r) (c : ℕ) where
           all k = ap (λ (t : Bool). t && ltb k (n - x % n)) (le-leb (n - n) k (omega arith))
 
       -- from the start of its byte to one before x
-      pub tail : x ≤ r .width → painted r (columns y (x / n * n) x) c b ≡ set b (y * row + x * d / 8) (merged (getD b (y * row + x * d / 8) 0) (255 - onward x))
+      pub tail : x ≤ r .width → painted (laid r) (columns y (x / n * n) x) c b ≡ set b (y * row + x * d / 8) (merged (getD b (y * row + x * d / 8) 0) (255 - onward x))
       tail w =
           let h = mod-lt x (per-pos d D) in
           let e : x / n * n + x % n ≡ x = div-add-mod' x n in
-          sym (ap₂ (λ (s t : ℕ). painted r (columns y s t) c b) (add-zero (x / n * n)) e)
+          sym (ap₂ (λ (s t : ℕ). painted (laid r) (columns y s t) c b) (add-zero (x / n * n)) e)
           ∙ some-pixels y (x / n) 0 (x % n) b (omega arith) (omega arith) (omega arith) hy i (v (y * row + x / n))
           ∙ ap (set b (y * row + x / n)) (sym (ap (merged (getD b (y * row + x / n) 0)) (before-is x)
           ∙ merged-is 0 (x % n) (getD b (y * row + x / n) 0) (λ k. not (ltb k (n - x % n))) (v (y * row + x / n)) (λ k l. sym (all k l))))
@@ -260,13 +261,13 @@ module _ (r : Raster) (S : Sound r) (c : ℕ) where
 
       -- from x to one before z, in one byte
       pub inner : (z : ℕ) → x ≤ z → z ≤ r .width → x / n ≡ z / n
-          → painted r (columns y x z) c b ≡ set b (y * row + x * d / 8) (merged (getD b (y * row + x * d / 8) 0) (bitAnd (onward x) (255 - onward z)))
+          → painted (laid r) (columns y x z) c b ≡ set b (y * row + x * d / 8) (merged (getD b (y * row + x * d / 8) 0) (bitAnd (onward x) (255 - onward z)))
       inner z l w q =
           let e : x / n * n + x % n ≡ x = div-add-mod' x n in
           let g : z / n * n + z % n ≡ z = div-add-mod' z n in
           let f : x / n * n + z % n ≡ z = ap (λ (t : ℕ). t * n + z % n) q ∙ g in
           let h = mod-lt z (per-pos d D) in
-          sym (ap₂ (λ (s t : ℕ). painted r (columns y s t) c b) e f)
+          sym (ap₂ (λ (s t : ℕ). painted (laid r) (columns y s t) c b) e f)
           ∙ some-pixels y (x / n) (x % n) (z % n) b (omega arith) (omega arith) (omega arith) hy i (v (y * row + x / n))
           ∙ ap (set b (y * row + x / n)) (sym (ap (merged (getD b (y * row + x / n) 0))
           (ap₂ bitAnd (onward-is x) (before-is z) ∙ mask-and (field d) n (λ k. ltb k (n - x % n)) (λ k. not (ltb k (n - z % n))))
@@ -290,11 +291,11 @@ module _ (r : Raster) (S : Sound r) (c : ℕ) where
     full-small j = full-one d (r .big) c j small hc
 
     group-small : (y q : ℕ) (b : List ℕ) → q * n + n ≤ r .width → y < r .height → y * row + q * m + m ≤ length b → Bytes b
-        → painted r (columns y (q * n) (q * n + n)) c b ≡ setRun (y * row + q * m) m (fullByte d (r .big) c) b
+        → painted (laid r) (columns y (q * n) (q * n + n)) c b ≡ setRun (y * row + q * m) m (fullByte d (r .big) c) b
     group-small y q b w hy l v =
         let e : q * m ≡ q = ap (λ (k : ℕ). q * k) small ∙ mul-one q in
         let i : y * row + q < length b = omega arith in
-        ap (λ (x : ℕ). painted r (columns y x (q * n + n)) c b) (sym (add-zero (q * n)))
+        ap (λ (x : ℕ). painted (laid r) (columns y x (q * n + n)) c b) (sym (add-zero (q * n)))
         ∙ some-pixels y q 0 n b (omega arith) (le-refl n) w hy i (v (y * row + q))
         ∙ ap (set b (y * row + q)) (value-cong B (pow-pos (field d)) n _ _ (λ k t. ap (λ (s : Bool). cond s c (digit B k (getD b (y * row + q) 0))) (all k t)))
         ∙ ap₂ (λ (i v : ℕ). set b i v) (omega arith) (sym (full-small 0))
@@ -386,7 +387,7 @@ module _ (r : Raster) (S : Sound r) (c : ℕ) where
               subst (λ (z : ℕ). getD (puts m) z 0 ≡ getD (setRun s m (fullByte d (r .big) c) b) z 0) e (inner (i - s) (omega arith))
 
     pub pixel-run : (x y : ℕ) (b : List ℕ) → y * row + x * m + m ≤ length b → Bytes b
-        → putPixel r x y c b ≡ setRun (y * row + x * m) m (fullByte d (r .big) c) b
+        → putPixel (laid r) x y c b ≡ setRun (y * row + x * m) m (fullByte d (r .big) c) b
     unfolding byteOf
     pixel-run x y b l v =
         (λ i. putDigits B (λ k. y * row + start x i + turned (r .big) m k) (λ k. slot0 x i) m c b) ∙ puts-run (y * row + x * m) b l v
@@ -397,14 +398,14 @@ module _ (r : Raster) (S : Sound r) (c : ℕ) where
       part-length = ap length e ∙ length-take-le k (drop a b) (subst (λ (i : ℕ). k ≤ i) (sym (length-drop a b)) (omega arith)) ∙ ek
 
       pub pixel-stored : (s′ : List ℕ) → s′ ≡ setRun 0 (length s) (λ j. digit 256 (turned (r .big) (length s) j) c) s
-          → take a b ++ (s′ ++ drop k (drop a b)) ≡ putPixel r x y c b
+          → take a b ++ (s′ ++ drop k (drop a b)) ≡ putPixel (laid r) x y c b
       pixel-stored s′ e′ =
           run-part a k (length s) b s s′ _ l e (le-refl (length s)) e′
           ∙ ap₂ (λ (i j : ℕ). setRun i j (λ t. digit 256 (turned (r .big) j t) c) b) (ea ∙ ap (λ (i : ℕ). y * row + i) (start x)) part-length
           ∙ run-cong (y * row + x * m) m _ _ b (λ j h. ap (λ (i : ℕ). digit i (turned (r .big) m j) c) (sym base) ∙ sym (full-large j ∙ ap (λ (i : ℕ). digit B (turned (r .big) m i) c) (mod-eq-of-lt h)))
           ∙ sym (pixel-run x y b (subst (λ (i : ℕ). y * row + i + m ≤ length b) (start x) (omega arith)) v)
 
-      pub pixel-loaded : value 256 (length s) (λ i. getD s (turned (r .big) (length s) i) 0) ≡ getPixel r x y b
+      pub pixel-loaded : value 256 (length s) (λ i. getD s (turned (r .big) (length s) i) 0) ≡ getPixel (laid r) x y b
       unfolding byteOf
       pixel-loaded =
           ap (λ (i : ℕ). value 256 i (λ j. getD s (turned (r .big) i j) 0)) part-length
@@ -417,19 +418,19 @@ module _ (r : Raster) (S : Sound r) (c : ℕ) where
           ∙ sym (λ z. value (base z) m (λ i. digit (base z) (slot0 x z) (getD b (y * row + x * d / 8 + turned (r .big) m i) 0)))
 
     group-large : (y q : ℕ) (b : List ℕ) → q * n + n ≤ r .width → y < r .height → y * row + q * m + m ≤ length b → Bytes b
-        → painted r (columns y (q * n) (q * n + n)) c b ≡ setRun (y * row + q * m) m (fullByte d (r .big) c) b
+        → painted (laid r) (columns y (q * n) (q * n + n)) c b ≡ setRun (y * row + q * m) m (fullByte d (r .big) c) b
     group-large y q b w hy l v =
         let e : q * n ≡ q = ap (λ (k : ℕ). q * k) alone ∙ mul-one q in
         let f : q * n + n ≡ q + 1 = omega arith in
-        ap₂ (λ (i j : ℕ). painted r (columns y i j) c b) e f
-        ∙ sym (put-single r S c b q y (omega arith) hy ∙ painted-cong r S c b _ _ (λ u v hu hv. span-one y q u v))
+        ap₂ (λ (i j : ℕ). painted (laid r) (columns y i j) c b) e f
+        ∙ sym (put-single (laid r) (placing r S) c b q y (omega arith) hy ∙ painted-cong (laid r) (placing r S) c b _ _ (λ u v hu hv. span-one y q u v))
         ∙ pixel-run q y b l v
 
   -- ---- every depth
   module _ (hc : c < 2 ^ (r .depth)) where
     -- the pixels that fill whole bytes together
     pub group : (y q : ℕ) (b : List ℕ) → q * n + n ≤ r .width → y < r .height → y * row + q * m + m ≤ length b → Bytes b
-        → painted r (columns y (q * n) (q * n + n)) c b ≡ setRun (y * row + q * m) m (fullByte d (r .big) c) b
+        → painted (laid r) (columns y (q * n) (q * n + n)) c b ≡ setRun (y * row + q * m) m (fullByte d (r .big) c) b
     group y q b w hy l v =
         ⊎-elim (λ e. group-large e y q b w hy l v) (λ e. group-small e (fits e) y q b w hy l v) (D .alone)
       where
@@ -452,9 +453,9 @@ module _ (r : Raster) (S : Sound r) (c : ℕ) where
 
     -- whole bytes, in a run
     pub whole-bytes : (y q k : ℕ) (b : List ℕ) → (q + k) * n ≤ r .width → y < r .height → y * row + (q + k) * m ≤ length b → Bytes b
-        → painted r (columns y (q * n) ((q + k) * n)) c b ≡ setRun (y * row + q * m) (k * m) (fullByte d (r .big) c) b
+        → painted (laid r) (columns y (q * n) ((q + k) * n)) c b ≡ setRun (y * row + q * m) (k * m) (fullByte d (r .big) c) b
     whole-bytes y q zero b w hy l v =
-        ap (λ (x : ℕ). painted r (columns y (q * n) (x * n)) c b) (add-zero q) ∙ span-empty r S c b y (q * n) (q * n) (le-refl (q * n))
+        ap (λ (x : ℕ). painted (laid r) (columns y (q * n) (x * n)) c b) (add-zero q) ∙ span-empty (laid r) (placing r S) c b y (q * n) (q * n) (le-refl (q * n))
         ∙ ap (λ (x : ℕ). setRun (y * row + q * m) x (fullByte d (r .big) c) b) none
       where
         none : 0 ≡ 0 * m
@@ -465,9 +466,9 @@ module _ (r : Raster) (S : Sound r) (c : ℕ) where
         let e : y * row + (q + k) * m ≡ y * row + q * m + k * m = omega arith in
         let f : (q + k) * n + n ≡ (q + suc k) * n = omega arith in
         let p : k * m + m ≡ suc k * m = omega arith in
-        ap (λ (x : ℕ). painted r (columns y (q * n) x) c b) (sym f)
-        ∙ sym (span-then r S c b y (q * n) ((q + k) * n) ((q + k) * n + n) (mul-le-mul-right n (omega arith)) (omega arith))
-        ∙ ap (painted r (columns y ((q + k) * n) ((q + k) * n + n)) c) (whole-bytes y q k b (omega arith) hy (omega arith) v)
+        ap (λ (x : ℕ). painted (laid r) (columns y (q * n) x) c b) (sym f)
+        ∙ sym (span-then (laid r) (placing r S) c b y (q * n) ((q + k) * n) ((q + k) * n + n) (mul-le-mul-right n (omega arith)) (omega arith))
+        ∙ ap (painted (laid r) (columns y ((q + k) * n) ((q + k) * n + n)) c) (whole-bytes y q k b (omega arith) hy (omega arith) v)
         ∙ group y (q + k) b′ (omega arith) hy (subst (λ (x : ℕ). y * row + (q + k) * m + m ≤ x) (sym (run-length (y * row + q * m) (k * m) g b)) (omega arith)) (run-bytes (y * row + q * m) (k * m) g b v full-byte)
         ∙ ap (λ (x : ℕ). setRun x m g b′) e
         ∙ sym (run-cong (y * row + q * m + k * m) m (λ j. g (k * m + j)) g b′ (λ j h. again k j (parts-pos d (S .depth))))
@@ -477,7 +478,7 @@ module _ (r : Raster) (S : Sound r) (c : ℕ) where
     -- the same, through a part of the buffer
     pub groups-filled : (y first last : ℕ) (b s s′ : List ℕ) (a k : ℕ) → first ≤ last → last * n ≤ r .width → y < r .height → a ≡ y * row + first * m → a + k ≡ y * row + last * m
         → a + k ≤ length b → Bytes b → s ≡ take k (drop a b) → s′ ≡ setRun 0 (length s) (fullByte d (r .big) c) s
-        → take a b ++ (s′ ++ drop k (drop a b)) ≡ painted r (columns y (first * n) (last * n)) c b
+        → take a b ++ (s′ ++ drop k (drop a b)) ≡ painted (laid r) (columns y (first * n) (last * n)) c b
     groups-filled y first last b s s′ a k h w hy ea ek l v e e′ =
         let t : first + (last - first) ≡ last = omega arith in
         let j : first * m + (last - first) * m ≡ last * m = (let z : first * m + (last - first) * m ≡ (first + (last - first)) * m = omega arith in z) ∙ ap (λ (i : ℕ). i * m) t in
@@ -486,16 +487,16 @@ module _ (r : Raster) (S : Sound r) (c : ℕ) where
         run-part a k (length s) b s s′ _ l e (le-refl (length s)) e′
         ∙ ap₂ (λ (i j : ℕ). setRun i j (fullByte d (r .big) c) b) ea n′
         ∙ sym (whole-bytes y first (last - first) b (subst (λ (i : ℕ). i * n ≤ r .width) (sym t) w) hy (subst (λ (i : ℕ). y * row + i * m ≤ length b) (sym t) (omega arith)) v)
-        ∙ ap (λ (i : ℕ). painted r (columns y (first * n) (i * n)) c b) t
+        ∙ ap (λ (i : ℕ). painted (laid r) (columns y (first * n) (i * n)) c b) t
 
     -- rows without padding, all in one run
     all-rows : (k : ℕ) (b : List ℕ) → r .width ≡ k * n → row ≡ k * m → row * r .height ≤ length b → Bytes b
-        → painted r everywhere c b ≡ setRun 0 (row * r .height) (fullByte d (r .big) c) b
+        → painted (laid r) everywhere c b ≡ setRun 0 (row * r .height) (fullByte d (r .big) c) b
     all-rows k b w e l v =
-        sym (rows-end r S c b (r .height) (le-refl (r .height))) ∙ go (r .height) (le-refl (r .height)) ∙ ap (λ (x : ℕ). setRun 0 x (fullByte d (r .big) c) b) (mul-comm (r .height) row)
+        sym (rows-end (laid r) (placing r S) c b (r .height) (le-refl (r .height))) ∙ go (r .height) (le-refl (r .height)) ∙ ap (λ (x : ℕ). setRun 0 x (fullByte d (r .big) c) b) (mul-comm (r .height) row)
       where
-        go : (y : ℕ) → y ≤ r .height → painted r (λ u v. ltZ v (pos y)) c b ≡ setRun 0 (y * row) (fullByte d (r .big) c) b
-        go zero h = rows-start r S c b ∙ ap (λ (x : ℕ). setRun 0 x (fullByte d (r .big) c) b) none
+        go : (y : ℕ) → y ≤ r .height → painted (laid r) (λ u v. ltZ v (pos y)) c b ≡ setRun 0 (y * row) (fullByte d (r .big) c) b
+        go zero h = rows-start (laid r) (placing r S) c b ∙ ap (λ (x : ℕ). setRun 0 x (fullByte d (r .big) c) b) none
           where
             none : 0 ≡ 0 * row
             none = omega arith
@@ -509,10 +510,10 @@ module _ (r : Raster) (S : Sound r) (c : ℕ) where
             let f : y * row + k * m ≡ suc y * row = omega arith in
             let z : 0 * n ≡ 0 = omega arith in
             let q : (0 + k) * n ≡ r .width = omega arith in
-            ap (λ (x : ℕ). painted r (λ u v. ltZ v (pos x)) c b) (sym next)
-            ∙ sym (rows-then r S c b y)
-            ∙ ap (painted r (columns y 0 (r .width)) c) (go y (omega arith))
-            ∙ sym (ap₂ (λ (i j : ℕ). painted r (columns y i j) c b′) z q)
+            ap (λ (x : ℕ). painted (laid r) (λ u v. ltZ v (pos x)) c b) (sym next)
+            ∙ sym (rows-then (laid r) (placing r S) c b y)
+            ∙ ap (painted (laid r) (columns y 0 (r .width)) c) (go y (omega arith))
+            ∙ sym (ap₂ (λ (i j : ℕ). painted (laid r) (columns y i j) c b′) z q)
             ∙ whole-bytes y 0 k b′ (omega arith) h (subst (λ (x : ℕ). y * row + (0 + k) * m ≤ x) (sym (run-length 0 (y * row) g b)) (omega arith)) (run-bytes 0 (y * row) g b v full-byte)
             ∙ ap (λ (x : ℕ). setRun x (k * m) g b′) s
             ∙ sym (run-cong (0 + y * row) (k * m) (λ j. g (y * row + j)) g b′ (λ j t. ap (λ (x : ℕ). g (x + j)) (ap (λ (x : ℕ). y * x) e ∙ assoc y k) ∙ again (y * k) j (parts-pos d (S .depth))))
@@ -524,10 +525,10 @@ module _ (r : Raster) (S : Sound r) (c : ℕ) where
 
     -- a row has no padding where its bits fill its bytes
     pub one-run : (b : List ℕ) → row * 8 ≡ r .width * d → row * r .height ≤ length b → Bytes b
-        → painted r everywhere c b ≡ setRun 0 (row * r .height) (fullByte d (r .big) c) b
+        → painted (laid r) everywhere c b ≡ setRun 0 (row * r .height) (fullByte d (r .big) c) b
     one-run b e l v = ⊎-elim thick thin (D .alone)
       where
-        thick : n ≡ 1 → painted r everywhere c b ≡ setRun 0 (row * r .height) (fullByte d (r .big) c) b
+        thick : n ≡ 1 → painted (laid r) everywhere c b ≡ setRun 0 (row * r .height) (fullByte d (r .big) c) b
         thick f =
             let g = eight f in
             let h : field d * m ≡ 8 * m = ap (λ (k : ℕ). k * m) g in
@@ -539,7 +540,7 @@ module _ (r : Raster) (S : Sound r) (c : ℕ) where
         cancel : (a z : ℕ) → 0 < d → a * d ≡ z * d → a ≡ z
         cancel a z p h = sym (mul-div-cancel a p) ∙ ap (λ (k : ℕ). k / d) h ∙ mul-div-cancel z p
 
-        thin : m ≡ 1 → painted r everywhere c b ≡ setRun 0 (row * r .height) (fullByte d (r .big) c) b
+        thin : m ≡ 1 → painted (laid r) everywhere c b ≡ setRun 0 (row * r .height) (fullByte d (r .big) c) b
         thin f =
             let g : field d ≡ d = sym (mul-one (field d)) ∙ ap (λ (k : ℕ). field d * k) (sym f) ∙ D .bits in
             let h : d * n ≡ 8 = ap (λ (k : ℕ). k * n) (sym g) ∙ D .whole in

@@ -1,11 +1,12 @@
 pub mod Screen
-pub mod Acts
 pub mod Cells
+pub mod Placing
 pub mod Places
 pub mod Painted
 pub mod Spans
 pub mod Runs
 pub mod Fields
 pub mod Bytes
-pub mod Kept
+pub mod Pictures
+pub mod Padding
 pub mod Order

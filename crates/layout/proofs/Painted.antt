@@ -1,4 +1,4 @@
--- What drawing loops cite: painting figures on a raster, one after another. Assumes nothing.
+-- What drawing loops cite: painting figures on a layout, one after another. Assumes nothing.
 use mathlib.Core.Path.{_≡_, refl, sym, ap, ap₂, _∙_}
 use mathlib.Core.Logic.{_⊎_, inl, inr}
 use mathlib.Core.Bool.{Bool, true, false, _||_, _&&_}
@@ -10,16 +10,15 @@ use lib.Dec.{eqb}
 use lib.IntN.{ℤ, pos}
 use lib.Signed.{ltZ}
 use lib.Arith.{digits-div, digits-mod, digits-lt}
-use lib.Pow.{pow-pos}
 use lib.ListN.{length}
 use borrow.Author.Tests.{eq-eqb, ne-eqb, lt-ltb, le-ltb}
 use Rattle.layout.specs.Paint.{putIf, paint}
 use Rattle.layout.specs.Figure.{single, everywhere}
-use Rattle.layout.specs.Raster.{Raster, Sound, field, parts, byteOf, slotOf, putPixel, putNo, painted}
+use Rattle.layout.specs.Layout.{Layout, putPixel, putNo, painted}
 use Rattle.whole.proofs.Tests.{eq-or-not}
 use Rattle.layout.proofs.Screen.{paint-cong, paint-none, paint-paint, put-paint}
 use Rattle.layout.proofs.Cells.{puts-len}
-use Rattle.layout.proofs.Places.{number-in, raster-laws}
+use Rattle.layout.proofs.Placing.{Placing, number-in, laws}
 use Rattle.layout.proofs.Spans.{columns, span-none, span-one, span-join, rows-more}
 
 -- a pixel's number is its column and its row
@@ -36,83 +35,82 @@ both w p q x y ex ey = go (eq-or-not q p) (eq-or-not (q % w) x) (eq-or-not (q / 
         absurd (n (sym (div-add-mod' q w) ∙ ap₂ (λ (i j : ℕ). i * w + j) (b ∙ sym ey) (a ∙ sym ex) ∙ div-add-mod' p w))
 
 -- the buffer keeps its length
-pub painted-length : (r : Raster) (s : ℤ → ℤ → Bool) (c : ℕ) (b : List ℕ) → length (painted r s c b) ≡ length b
+pub painted-length : (l : Layout) → Placing l → (s : ℤ → ℤ → Bool) (c : ℕ) (b : List ℕ) → length (painted l s c b) ≡ length b
 unfolding painted
-painted-length r s c b = go (r .height * r .width)
+painted-length l P s c b = go (l .height * l .width)
   where
-    one : (t : Bool) (p : ℕ) (a : List ℕ) → length a ≡ length b → length (putIf (putNo r) t p c a) ≡ length b
-    one true p a h =
-        puts-len (2 ^ field (r .depth)) (pow-pos (field (r .depth))) (byteOf r (p % r .width) (p / r .width)) (λ k. slotOf (r .depth) (p % r .width)) (parts (r .depth)) c a ∙ h
+    one : (t : Bool) (p : ℕ) (a : List ℕ) → length a ≡ length b → length (putIf (putNo l) t p c a) ≡ length b
+    one true p a h = puts-len (l .base) (P .base) (l .byte (p % l .width) (p / l .width)) (l .slot (p % l .width) (p / l .width)) (l .parts) c a ∙ h
     one false p a h = h
 
-    go : (n : ℕ) → length (paint (putNo r) n (λ p. s (pos (p % r .width)) (pos (p / r .width))) c b) ≡ length b
+    go : (n : ℕ) → length (paint (putNo l) n (λ p. s (pos (p % l .width)) (pos (p / l .width))) c b) ≡ length b
     go zero = refl
-    go (suc n) = one (s (pos (n % r .width)) (pos (n / r .width))) n _ (go n)
+    go (suc n) = one (s (pos (n % l .width)) (pos (n / l .width))) n _ (go n)
 
-module _ (r : Raster) (S : Sound r) (c : ℕ) (b : List ℕ) where
+module _ (l : Layout) (P : Placing l) (c : ℕ) (b : List ℕ) where
   -- figures that agree on the frame
-  pub painted-cong : (s t : ℤ → ℤ → Bool) → ((x y : ℕ) → x < r .width → y < r .height → s (pos x) (pos y) ≡ t (pos x) (pos y)) → painted r s c b ≡ painted r t c b
+  pub painted-cong : (s t : ℤ → ℤ → Bool) → ((x y : ℕ) → x < l .width → y < l .height → s (pos x) (pos y) ≡ t (pos x) (pos y)) → painted l s c b ≡ painted l t c b
   unfolding painted
   painted-cong s t h =
-      paint-cong (raster-laws r S) (λ p. s (pos (p % r .width)) (pos (p / r .width))) (λ p. t (pos (p % r .width)) (pos (p / r .width))) c b
-      (λ p l. h (p % r .width) (p / r .width) (number-in (r .width) (r .height) p l .0) (number-in (r .width) (r .height) p l .1))
+      paint-cong (laws l P) (λ p. s (pos (p % l .width)) (pos (p / l .width))) (λ p. t (pos (p % l .width)) (pos (p / l .width))) c b
+      (λ p k. h (p % l .width) (p / l .width) (number-in (l .width) (l .height) p k .0) (number-in (l .width) (l .height) p k .1))
 
   -- a figure that has no pixel of the frame
-  pub painted-none : (s : ℤ → ℤ → Bool) → ((x y : ℕ) → x < r .width → y < r .height → s (pos x) (pos y) ≡ false) → painted r s c b ≡ b
+  pub painted-none : (s : ℤ → ℤ → Bool) → ((x y : ℕ) → x < l .width → y < l .height → s (pos x) (pos y) ≡ false) → painted l s c b ≡ b
   unfolding painted
   painted-none s h =
-      paint-none (raster-laws r S) (λ p. s (pos (p % r .width)) (pos (p / r .width))) c b
-      (λ p l. h (p % r .width) (p / r .width) (number-in (r .width) (r .height) p l .0) (number-in (r .width) (r .height) p l .1))
+      paint-none (laws l P) (λ p. s (pos (p % l .width)) (pos (p / l .width))) c b
+      (λ p k. h (p % l .width) (p / l .width) (number-in (l .width) (l .height) p k .0) (number-in (l .width) (l .height) p k .1))
 
   -- two figures in one colour
-  pub painted-painted : (s t : ℤ → ℤ → Bool) → painted r s c (painted r t c b) ≡ painted r (λ x y. t x y || s x y) c b
+  pub painted-painted : (s t : ℤ → ℤ → Bool) → painted l s c (painted l t c b) ≡ painted l (λ x y. t x y || s x y) c b
   unfolding painted
   painted-painted s t =
-      paint-paint (raster-laws r S) (λ p. s (pos (p % r .width)) (pos (p / r .width))) (λ p. t (pos (p % r .width)) (pos (p / r .width))) c b
+      paint-paint (laws l P) (λ p. s (pos (p % l .width)) (pos (p / l .width))) (λ p. t (pos (p % l .width)) (pos (p / l .width))) c b
 
   -- one more pixel
-  pub put-painted : (s : ℤ → ℤ → Bool) (x y : ℕ) → x < r .width → y < r .height
-      → putPixel r x y c (painted r s c b) ≡ painted r (λ u v. s u v || single (pos x) (pos y) u v) c b
+  pub put-painted : (s : ℤ → ℤ → Bool) (x y : ℕ) → x < l .width → y < l .height
+      → putPixel l x y c (painted l s c b) ≡ painted l (λ u v. s u v || single (pos x) (pos y) u v) c b
   unfolding painted
   put-painted s x y hx hy =
-      let w = r .width in
-      let L = raster-laws r S in
+      let w = l .width in
+      let L = laws l P in
       let p = y * w + x in
       let ex : p % w ≡ x = digits-mod y hx in
       let ey : p / w ≡ y = digits-div y hx in
-      sym (ap₂ (λ (i j : ℕ). putPixel r i j c (painted r s c b)) ex ey)
+      sym (ap₂ (λ (i j : ℕ). putPixel l i j c (painted l s c b)) ex ey)
       ∙ put-paint L p (λ q. s (pos (q % w)) (pos (q / w))) c b (digits-lt hy hx)
       ∙ paint-cong L (λ q. s (pos (q % w)) (pos (q / w)) || eqb q p) (λ q. s (pos (q % w)) (pos (q / w)) || (eqb (q % w) x && eqb (q / w) y)) c b
-      (λ q l. ap (λ (t : Bool). s (pos (q % w)) (pos (q / w)) || t) (both w p q x y ex ey))
+      (λ q k. ap (λ (t : Bool). s (pos (q % w)) (pos (q / w)) || t) (both w p q x y ex ey))
 
   -- the first pixel
-  pub put-single : (x y : ℕ) → x < r .width → y < r .height → putPixel r x y c b ≡ painted r (single (pos x) (pos y)) c b
+  pub put-single : (x y : ℕ) → x < l .width → y < l .height → putPixel l x y c b ≡ painted l (single (pos x) (pos y)) c b
   put-single x y hx hy =
-      ap (putPixel r x y c) (sym (painted-none (λ u v. false) (λ u v hu hv. refl))) ∙ put-painted (λ u v. false) x y hx hy
+      ap (putPixel l x y c) (sym (painted-none (λ u v. false) (λ u v hu hv. refl))) ∙ put-painted (λ u v. false) x y hx hy
 
   -- ---- spans, from left to right
-  pub span-empty : (y x0 x1 : ℕ) → x1 ≤ x0 → painted r (columns y x0 x1) c b ≡ b
+  pub span-empty : (y x0 x1 : ℕ) → x1 ≤ x0 → painted l (columns y x0 x1) c b ≡ b
   span-empty y x0 x1 h = painted-none (columns y x0 x1) (λ u v hu hv. span-none y x0 x1 u v h)
 
-  pub span-put : (y x0 x : ℕ) → x0 ≤ x → x < r .width → y < r .height
-      → putPixel r x y c (painted r (columns y x0 x) c b) ≡ painted r (columns y x0 (x + 1)) c b
+  pub span-put : (y x0 x : ℕ) → x0 ≤ x → x < l .width → y < l .height
+      → putPixel l x y c (painted l (columns y x0 x) c b) ≡ painted l (columns y x0 (x + 1)) c b
   span-put y x0 x h hx hy =
       put-painted (columns y x0 x) x y hx hy
       ∙ painted-cong _ _
       (λ u v hu hv. ap (λ (t : Bool). columns y x0 x (pos u) (pos v) || t) (span-one y x u v) ∙ span-join y x0 x (x + 1) u v h (omega arith))
 
   pub span-then : (y x0 x1 x2 : ℕ) → x0 ≤ x1 → x1 ≤ x2
-      → painted r (columns y x1 x2) c (painted r (columns y x0 x1) c b) ≡ painted r (columns y x0 x2) c b
+      → painted l (columns y x1 x2) c (painted l (columns y x0 x1) c b) ≡ painted l (columns y x0 x2) c b
   span-then y x0 x1 x2 h k =
       painted-painted (columns y x1 x2) (columns y x0 x1) ∙ painted-cong _ _ (λ u v hu hv. span-join y x0 x1 x2 u v h k)
 
   -- ---- rows, from the top down
-  pub rows-start : painted r (λ u v. ltZ v (pos 0)) c b ≡ b
+  pub rows-start : painted l (λ u v. ltZ v (pos 0)) c b ≡ b
   rows-start = painted-none (λ u v. ltZ v (pos 0)) (λ u v hu hv. le-ltb v 0 (omega arith))
 
-  pub rows-then : (y : ℕ) → painted r (columns y 0 (r .width)) c (painted r (λ u v. ltZ v (pos y)) c b) ≡ painted r (λ u v. ltZ v (pos (y + 1))) c b
+  pub rows-then : (y : ℕ) → painted l (columns y 0 (l .width)) c (painted l (λ u v. ltZ v (pos y)) c b) ≡ painted l (λ u v. ltZ v (pos (y + 1))) c b
   rows-then y =
-      painted-painted (columns y 0 (r .width)) (λ u v. ltZ v (pos y)) ∙ painted-cong _ _ (λ u v hu hv. rows-more (r .width) y u v hu)
+      painted-painted (columns y 0 (l .width)) (λ u v. ltZ v (pos y)) ∙ painted-cong _ _ (λ u v hu hv. rows-more (l .width) y u v hu)
 
-  pub rows-end : (y : ℕ) → r .height ≤ y → painted r (λ u v. ltZ v (pos y)) c b ≡ painted r everywhere c b
+  pub rows-end : (y : ℕ) → l .height ≤ y → painted l (λ u v. ltZ v (pos y)) c b ≡ painted l everywhere c b
   rows-end y h = painted-cong _ _ (λ u v hu hv. lt-ltb v y (omega arith))

@@ -12,9 +12,13 @@ use lib.Arith.{digits-div, digits-mod, digits-lt}
 use lib.Pow.{pow-pos}
 use lib.ListN.{length}
 use borrow.Author.Tests.{eqb-true}
-use Rattle.layout.specs.Raster.{Raster, Sound, goodDepth, rowBytes, field, parts, per, turned, byteOf, slotOf, putNo, getNo}
-use Rattle.layout.proofs.Screen.{Laws}
-use Rattle.layout.proofs.Cells.{layout-laws}
+use Rattle.layout.specs.Packed.{Packed, goodDepth, rowBytes, laid, field, parts, per, turned, byteOf, slotOf}
+use Rattle.layout.proofs.Placing.{Placing}
+
+-- rows of a depth, far enough apart
+pub record Sound (r : Packed) : Type 0 where
+  pub depth : goodDepth (r .depth) ≡ true
+  pub apart : rowBytes (r .width) (r .depth) ≤ r .distance
 
 -- ---- what the layout needs to know of a depth
 pub record Depth (d : ℕ) : Type 0 where
@@ -74,14 +78,6 @@ pub digits-eq : (m q q′ r r′ : ℕ) → r < m → r′ < m → q * m + r ≡
 digits-eq m q q′ r r′ h h′ e =
     (sym (digits-div q h) ∙ ap (λ (n : ℕ). n / m) e ∙ digits-div q′ h′, sym (digits-mod q h) ∙ ap (λ (n : ℕ). n % m) e ∙ digits-mod q′ h′)
 
--- a pixel's number, and its column and row
-pub number-in : (w h p : ℕ) → p < h * w → (p % w < w) × (p / w < h)
-number-in w h p l = (mod-lt p (pos w l), div-lt-iff-lt-mul (pos w l) .1 l)
-  where
-    pos : (n : ℕ) → p < h * n → 0 < n
-    pos zero k = omega arith
-    pos (suc n) k = zero-lt-suc n
-
 pub turned-below : (big : Bool) (n k : ℕ) → k < n → turned big n k < n
 turned-below true n k h = omega arith
 turned-below false n k h = h
@@ -133,7 +129,7 @@ turned-inj : (big : Bool) (n k m : ℕ) → k < n → m < n → turned big n k �
 turned-inj true n k m h l e = omega arith
 turned-inj false n k m h l e = e
 
-module _ (r : Raster) (S : Sound r) where
+module _ (r : Packed) (S : Sound r) where
   D : Depth (r .depth)
   D = depth-of (r .depth) (S .depth)
 
@@ -183,12 +179,5 @@ module _ (r : Raster) (S : Sound r) where
       let e = turned-twice (r .big) m (m - 1) l in
       omega arith
 
-  pub raster-laws : Laws (r .height * r .width) (λ v. v < (2 ^ field (r .depth)) ^ parts (r .depth)) (List ℕ) (λ b. r .distance * r .height ≤ length b) (putNo r) (getNo r)
-  raster-laws =
-      let w = r .width in
-      let h = r .height in
-      layout-laws (2 ^ field (r .depth)) (pow-pos (field (r .depth))) (h * w) (parts (r .depth)) (λ p. byteOf r (p % w) (p / w)) (λ p k. slotOf (r .depth) (p % w))
-      (λ p q k m hp hq hk hm e s.
-      let i = place-inj (p % w) (p / w) k (q % w) (q / w) m (number-in w h p hp .0) (number-in w h q hq .0) hk hm e s in
-      (sym (div-add-mod' p w) ∙ ap₂ (λ (a b : ℕ). a * w + b) (i .1) (i .0) ∙ div-add-mod' q w, i .2))
-      (r .distance * h) (λ p k hp hk. place-in (p % w) (p / w) k (number-in w h p hp .0) (number-in w h p hp .1) hk)
+  pub placing : Placing (laid r)
+  placing = record { base = pow-pos (field (r .depth)); apart = place-inj; within = place-in }

@@ -9,7 +9,7 @@ use native.Mathlib.Omega.{arith}
 use borrow.Author.Tests.{eq-eqb, ne-eqb, lt-ltb, le-ltb}
 use lib.Dec.{eqb, ltb}
 use Rattle.layout.specs.Paint.{putIf, paint, render}
-use Rattle.whole.proofs.Tests.{eq-or-not}
+use Rattle.whole.proofs.Tests.{eq-or-not, lt-or-ge}
 
 -- what setting (`put`) and reading (`get`) the pixels 0 to N - 1 obey. `Col v`: v is a colour; `Ok b`: the buffer is long enough
 pub record Laws (N : ℕ) (Col : ℕ → Type 0) (Buf : Type 0) (Ok : Buf → Type 0) (put : ℕ → ℕ → Buf → Buf) (get : ℕ → Buf → ℕ) : Type 0 where
@@ -100,6 +100,30 @@ module _ {N : ℕ} {Col : ℕ → Type 0} {Buf : Type 0} {Ok : Buf → Type 0} {
 
       hi : (p : ℕ) → N ≤ p → g p ≡ f p
       hi p k = ap (λ (t : Bool). cond t (cond (s p) c (f p)) (f p)) (le-ltb p N k)
+
+  -- one picture over another
+  render-upto : (n : ℕ) (f g : ℕ → ℕ) (b : Buf) → n ≤ N → render put n f (render put N g b) ≡ render put N (λ p. cond (ltb p n) (f p) (g p)) b
+  render-upto zero f g b l = render-cong N _ _ b (λ p k. sym (ap (λ (t : Bool). cond t (f p) (g p)) (le-ltb p 0 (omega arith))))
+  render-upto (suc n) f g b l =
+      ap (put n (f n)) (render-upto n f g b (omega arith))
+      ∙ put-render N n (f n) h b (le-refl N) l
+      ∙ render-cong N (upd h n (f n)) (λ p. cond (ltb p (suc n)) (f p) (g p)) b (λ p k. one p (eq-or-not p n) (lt-or-ge p n))
+    where
+      h : ℕ → ℕ
+      h p = cond (ltb p n) (f p) (g p)
+
+      one : (p : ℕ) → (p ≡ n) ⊎ (p ≡ n → ⊥) → (p < n) ⊎ (n ≤ p) → upd h n (f n) p ≡ cond (ltb p (suc n)) (f p) (g p)
+      one p (inl e) k =
+          ap (upd h n (f n)) e ∙ upd-same h n (f n) ∙ ap f (sym e)
+          ∙ sym (ap (λ (t : Bool). cond t (f p) (g p)) (lt-ltb p (suc n) (omega arith)))
+      one p (inr d) (inl k) =
+          upd-other h n (f n) p d ∙ ap (λ (t : Bool). cond t (f p) (g p)) (lt-ltb p n k ∙ sym (lt-ltb p (suc n) (omega arith)))
+      one p (inr d) (inr k) =
+          upd-other h n (f n) p d
+          ∙ ap (λ (t : Bool). cond t (f p) (g p)) (le-ltb p n k ∙ sym (le-ltb p (suc n) (⊎-elim (λ e. absurd (d (sym e))) (λ m. m) (eq-or-lt-of-le k))))
+
+  pub render-render : (f g : ℕ → ℕ) (b : Buf) → render put N f (render put N g b) ≡ render put N f b
+  render-render f g b = render-upto N f g b (le-refl N) ∙ render-cong N _ _ b (λ p l. ap (λ (t : Bool). cond t (f p) (g p)) (lt-ltb p N l))
 
   -- a buffer is what rendering its own picture on it leaves
   self-upto : (n : ℕ) (b : Buf) → n ≤ N → render put n (λ p. get p b) b ≡ b

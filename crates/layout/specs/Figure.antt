@@ -1,8 +1,8 @@
 -- Figures: whether a place, by its column and its row, is inside.
 use mathlib.Core.Bool.{Bool, true, _&&_}
 use lib.IntN.{ℤ}
-use lib.Signed.{leZ, ltZ}
 use Rattle.whole.specs.Equal.{eqZ}
+use Rattle.whole.specs.Interval.{between}
 
 -- the one pixel in column x of row y
 abbrev pub single : ℤ → ℤ → ℤ → ℤ → Bool
@@ -10,7 +10,7 @@ single x y u v = eqZ u x && eqZ v y
 
 -- row y's columns from `start` to one before `end`
 abbrev pub spanFigure : ℤ → ℤ → ℤ → ℤ → ℤ → Bool
-spanFigure y start end u v = (leZ start u && ltZ u end) && eqZ v y
+spanFigure y start end u v = between start end u && eqZ v y
 
 -- every pixel
 abbrev pub everywhere : ℤ → ℤ → Bool

@@ -1,5 +1,5 @@
 pub mod Digits
 pub mod Paint
 pub mod Figure
-pub mod Raster
-pub mod Acts
+pub mod Layout
+pub mod Packed

@@ -1,47 +1,58 @@
--- Laws of a line's refusals: each number is given exactly when the table says, the lowest that applies. Assumes nothing.
-use mathlib.Core.Path.{_≡_, refl, ap, _∙_}
-use mathlib.Core.Bool.{Bool, true, false, cond, _&&_}
-use Prim.Native.Nat.{ℕ, _≤_, _<_}
-use native.Mathlib.Omega.{arith}
-use lib.Dec.{leb}
-use borrow.Author.Tests.{le-leb, lt-leb}
+-- Laws of a line's refusals: what 0 says, each number exactly when 01's table gives it, and that the numbers rise, so that the lowest that applies wins.
+-- Assumes nothing.
+use mathlib.Core.Path.{_≡_, refl}
+use mathlib.Core.Bool.{true, not, _&&_}
+use mathlib.Core.List.{[], _∷_}
+use mathlib.Core.Logic.{_↔_}
+use Prim.Native.Nat.{ℕ}
+use lib.Dec.{ltb}
+use borrow.Author.Tests.{not-false}
 use Rattle.whole.specs.Decides.{Decides}
-use Rattle.whole.proofs.Decides.{decides-and, decides-yes, decides-no}
+use Rattle.whole.proofs.Decides.{decides-and}
+use Rattle.refusals.specs.First.{first, numbered, rising}
+use Rattle.refusals.proofs.First.{Fail, exactly-0, exactly-once, fails-alone}
 use Rattle.geometry.specs.declared.Point.{Point}
 use Rattle.geometry.specs.Bound.{Bounded, inBounds}
 use Rattle.geometry.proofs.Bound.{bounded-decides}
 use Rattle.line.specs.Line.{major}
-use Rattle.line.specs.Answer.{endRefusal, stepRefusal}
+use Rattle.line.specs.Answer.{endTests, stepTests}
 
 module _ (s e : Point) where
+  -- ---- what 0 says
   both : Decides (inBounds s && inBounds e) (Bounded s × Bounded e)
   both = decides-and (inBounds s) (inBounds e) (bounded-decides s) (bounded-decides e)
 
-  -- ---- the ends: 5, or what comes next
-  pub refused-5 : (next : ℕ) → (Bounded s × Bounded e → ⊥) → endRefusal s e next ≡ 5
-  refused-5 next n = ap (λ (t : Bool). cond t next 5) (decides-no both n)
+  pub is-accepted : first (endTests s e) ≡ 0 → Bounded s × Bounded e
+  unfolding endTests
+  is-accepted z = both .yes (not-false _ (fails-alone _ _ z))
 
-  pub accepted : (next : ℕ) → Bounded s → Bounded e → endRefusal s e next ≡ next
-  accepted next hs he = ap (λ (t : Bool). cond t next 5) (decides-yes both (hs, he))
+  -- ---- the ends
+  pub end-numbered : numbered (endTests s e) ≡ true
+  unfolding endTests
+  end-numbered = refl
 
-  -- with 5, what comes next does not matter
-  pub refused-first : (next : ℕ) → (endRefusal s e 0 ≡ 0 → ⊥) → endRefusal s e 0 ≡ endRefusal s e next
-  refused-first next n = by (inBounds s && inBounds e) n
-    where
-      by : (t : Bool) → (_≡_ {A = ℕ} (cond t 0 5) 0 → ⊥) → cond t 0 5 ≡ cond t next 5
-      by true n = absurd (n refl)
-      by false n = refl
+  pub end-rising : rising 0 (endTests s e) ≡ true
+  unfolding endTests
+  end-rising = refl
 
-  pub is-accepted : endRefusal s e 0 ≡ 0 → Bounded s × Bounded e
-  is-accepted h = by (inBounds s && inBounds e) both h
-    where
-      by : (t : Bool) → Decides t (Bounded s × Bounded e) → _≡_ {A = ℕ} (cond t 0 5) 0 → Bounded s × Bounded e
-      by true d h = d .yes refl
-      by false d h = absurd (omega arith)
+  pub end-5 : first (endTests s e) ≡ 5 ↔ (Fail [] × (not (inBounds s && inBounds e) ≡ true))
+  unfolding endTests
+  end-5 = exactly-once [] 5 (not (inBounds s && inBounds e)) [] refl refl refl
 
-  -- ---- a step: 7 past the last
-  pub refused-7 : (k : ℕ) → Bounded s → Bounded e → major s e < k → stepRefusal s e k ≡ 7
-  refused-7 k hs he l = accepted (cond (leb k (major s e)) 0 7) hs he ∙ ap (λ (t : Bool). cond t 0 7) (lt-leb k (major s e) l)
+  -- ---- a step
+  module _ (k : ℕ) where
+    pub step-rising : rising 0 (stepTests s e k) ≡ true
+    unfolding endTests stepTests
+    step-rising = refl
 
-  pub reached : (k : ℕ) → Bounded s → Bounded e → k ≤ major s e → stepRefusal s e k ≡ 0
-  reached k hs he l = accepted (cond (leb k (major s e)) 0 7) hs he ∙ ap (λ (t : Bool). cond t 0 7) (le-leb k (major s e) l)
+    pub step-5 : first (stepTests s e k) ≡ 5 ↔ (Fail [] × (not (inBounds s && inBounds e) ≡ true))
+    unfolding endTests stepTests
+    step-5 = exactly-once [] 5 (not (inBounds s && inBounds e)) ((7, ltb (major s e) k) ∷ []) refl refl refl
+
+    pub step-7 : first (stepTests s e k) ≡ 7 ↔ (Fail (endTests s e) × (ltb (major s e) k ≡ true))
+    unfolding endTests stepTests
+    step-7 = exactly-once (endTests s e) 7 (ltb (major s e) k) [] refl refl refl
+
+    pub step-0 : first (stepTests s e k) ≡ 0 ↔ Fail (stepTests s e k)
+    unfolding endTests stepTests
+    step-0 = exactly-0 (stepTests s e k) refl

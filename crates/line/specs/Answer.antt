@@ -1,22 +1,23 @@
--- What the questions on a line are answered, by the number of the refusal or 0 (01, "Numbers an operation may answer"):
--- a point at a step 5, then 7; the others 5.
-use mathlib.Core.Bool.{cond, _&&_}
+-- What the questions on a line are answered, and the tests that refuse them (01, "Numbers an operation may answer").
+use mathlib.Core.Bool.{not, _&&_}
+use mathlib.Core.List.{[], _∷_, _++_}
 use Prim.Native.Nat.{ℕ, zero, suc}
-use lib.Dec.{leb}
+use lib.Dec.{ltb}
 use lib.IntN.{pos}
+use Rattle.refusals.specs.First.{Tests}
 use Rattle.geometry.specs.declared.Point.{Point}
 use Rattle.geometry.specs.Bound.{inBounds}
 use Rattle.line.specs.declared.Length.{Length}
 use Rattle.line.specs.declared.Step.{Step}
 use Rattle.line.specs.Line.{major}
 
--- 5, or what comes next
-abbrev pub endRefusal : Point → Point → ℕ → ℕ
-endRefusal s e next = cond (inBounds s && inBounds e) next 5
+-- "Other questions on a line: 5": a line end has a coordinate out of bounds
+unfoldable pub endTests : Point → Point → Tests
+endTests s e = (5, not (inBounds s && inBounds e)) ∷ []
 
--- 5, or 7 at a step past the last
-abbrev pub stepRefusal : Point → Point → ℕ → ℕ
-stepRefusal s e k = endRefusal s e (cond (leb k (major s e)) 0 7)
+-- "A point of a line: 5, 7": then a step past the last
+unfoldable pub stepTests : Point → Point → ℕ → Tests
+stepTests s e k = endTests s e ++ ((7, ltb (major s e) k) ∷ [])
 
 -- the answers
 abbrev pub lengthAnswer : ℕ → ℕ → Length

@@ -3,12 +3,13 @@ ghost use mathlib.Core.Path.{_≡_};
 ghost use Prim.Native.Nat.{ℕ, _+_, _*_, _≤_};
 ghost use lib.Dec.{eqb};
 ghost use lib.IntN.{ℤ, pos, natAbs, _+ℤ_, _-ℤ_, _*ℤ_};
+ghost use Rattle.refusals.specs.First.{first};
 ghost use Rattle.geometry.specs.declared.Point.{Point as Place};
 ghost use Rattle.geometry.specs.Bound.{Coord, Bounded};
 ghost use Rattle.geometry.specs.Answer.{verdict};
 ghost use Rattle.line.specs.Line.{toward, moves, major, points, pointAt, onLine, hasPoint};
 ghost use Rattle.line.specs.Walk.{CourseOf, Placing, Moving, Walking, DueAt, WalkerAt};
-ghost use Rattle.line.specs.Answer.{endRefusal, stepRefusal, lengthAnswer, stepAnswer};
+ghost use Rattle.line.specs.Answer.{endTests, stepTests, lengthAnswer, stepAnswer};
 use geometry::Point;
 use geometry::Verdict;
 
@@ -179,7 +180,7 @@ pub fn moves_at(major: u32, up: u32, k: u32) -> u32
 }
 
 // The coordinate that is so many major and minor moves from a, each move being -1, 0 or 1.
-fn placed(a: i32, major: i32, along: i32, minor: i32, across: i32) -> i32
+fn coordinate(a: i32, major: i32, along: i32, minor: i32, across: i32) -> i32
     requires { ⌜ Placing a major along minor across ⌝ }
     ensures { λ r. ⌜ r ≡ a +ℤ major *ℤ along +ℤ minor *ℤ across ⌝ }
 {
@@ -194,19 +195,16 @@ fn point_at(start: Point, end: Point, step: u32) -> Point
     let c = course_of(start, end);
     let m = moves_at(c.threshold as u32, c.up as u32, step) as i32;
     let k = step as i32;
-    let x = placed(start.0, c.xmajor, k, c.xminor, m);
-    let y = placed(start.1, c.ymajor, k, c.yminor, m);
+    let x = coordinate(start.0, c.xmajor, k, c.xminor, m);
+    let y = coordinate(start.1, c.ymajor, k, c.yminor, m);
     Point(x, y)
 }
 
 // Inside the library: 5 where a line end is out of bounds, else 0.
 pub fn refusal(start: Point, end: Point) -> u32
-    ensures { λ r. ⌜ r ≡ endRefusal start end 0 ⌝ }
+    ensures { λ r. ⌜ r ≡ first (endTests start end) ⌝ }
 {
-    if !geometry::in_bounds(start) {
-        return 5;
-    }
-    if !geometry::in_bounds(end) {
+    if !(geometry::in_bounds(start) & geometry::in_bounds(end)) {
         return 5;
     }
     0
@@ -223,7 +221,7 @@ pub fn last_step(start: Point, end: Point) -> u32
 
 // The number of points of a line.
 pub fn major_length(start: Point, end: Point) -> Length
-    ensures { λ r. ⌜ r ≡ lengthAnswer (endRefusal start end 0) (points start end) ⌝ }
+    ensures { λ r. ⌜ r ≡ lengthAnswer (first (endTests start end)) (points start end) ⌝ }
 {
     let number = refusal(start, end);
     if number != 0 {
@@ -237,7 +235,7 @@ pub fn major_length(start: Point, end: Point) -> Length
 
 // The point of a line at a step, the start being step 0.
 pub fn point(start: Point, end: Point, step: u32) -> Step
-    ensures { λ r. ⌜ r ≡ stepAnswer (stepRefusal start end step) (pointAt start end step) ⌝ }
+    ensures { λ r. ⌜ r ≡ stepAnswer (first (stepTests start end step)) (pointAt start end step) ⌝ }
 {
     let number = refusal(start, end);
     if number != 0 {
@@ -262,10 +260,11 @@ pub fn point(start: Point, end: Point, step: u32) -> Step
 fn progress(a: i32, b: i32, p: i32) -> i64
     ensures { λ r. ⌜ r ≡ toward a b *ℤ (p -ℤ a) ⌝ }
 {
+    let d = p as i64 - a as i64;
     if a <= b {
-        return p as i64 - a as i64;
+        return d;
     }
-    a as i64 - p as i64
+    -d
 }
 
 // Whether `across` are the moves along the minor axis at step `along`: the doubled area between the ideal line and the point is within the band
@@ -323,7 +322,7 @@ pub fn meets(start: Point, end: Point, p: Point) -> bool
 
 // Whether p is a point of the line: any pixel may be asked.
 pub fn has_point(start: Point, end: Point, p: Point) -> Verdict
-    ensures { λ r. ⌜ r ≡ verdict (endRefusal start end 0) (hasPoint start end p) ⌝ }
+    ensures { λ r. ⌜ r ≡ verdict (first (endTests start end)) (hasPoint start end p) ⌝ }
 {
     let number = refusal(start, end);
     if number != 0 {

@@ -5,10 +5,11 @@ use Rattle.line.specs.Line.{moves, wide, high, major, minor, xMoves, yMoves, po
 use Rattle.triangle.specs.Order.{before, sorted}
 use Rattle.triangle.specs.Row.{extended, hull, columns, rowSpan, firstRow, rowCount}
 use Rattle.triangle.specs.Triangle.{areaDoubled, noneBelow, noneAbove, onEdge, isFlat, isInside, contained}
-use Rattle.layout.specs.Raster.{rowBytes, field, parts, per, byteOf, slotOf, painted}
-use Rattle.framebuffer.specs.Description.{size}
+use Rattle.layout.specs.Layout.{rendered}
+use Rattle.layout.specs.Packed.{rowBytes, field, parts, per, byteOf, slotOf}
+use Rattle.framebuffer.specs.Description.{size, descriptionTests, frameTests}
 use Rattle.picture.specs.Known.{table, allHold}
 
 pub known : allHold table ≡ true
-unfolding moves wide high major minor xMoves yMoves pointAt hasPoint before sorted extended hull columns rowSpan firstRow rowCount areaDoubled noneBelow noneAbove onEdge isFlat isInside contained rowBytes field parts per byteOf slotOf painted size
+unfolding rendered descriptionTests frameTests moves wide high major minor xMoves yMoves pointAt hasPoint before sorted extended hull columns rowSpan firstRow rowCount areaDoubled noneBelow noneAbove onEdge isFlat isInside contained rowBytes field parts per byteOf slotOf size
 known = refl

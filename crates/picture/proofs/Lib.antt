@@ -1,5 +1,7 @@
-pub mod Blank
 pub mod Picture
-pub mod Known
+pub mod Last
 pub mod Ties
+pub mod Runs
+pub mod Known
 pub mod Table
+pub mod Kept

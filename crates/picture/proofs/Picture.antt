@@ -1,163 +1,162 @@
--- ONE PICTURE, ONE FRAME. Two zero-filled buffers of one length under one description, and any two lists of drawing calls, refused ones among
--- them: the bytes afterwards are equal exactly if every pixel of the frame has the same colour in both. Assumes nothing.
-use mathlib.Core.Path.{_≡_, refl, sym, ap, subst, subst₂, _∙_}
-use mathlib.Core.Bool.{Bool, true, false, cond, _&&_}
-use mathlib.Core.List.{List, [], _∷_}
+-- ONE PICTURE, ONE FRAME. Two zero-filled buffers of one length under one description, and any two lists of calls, refused ones among them: the bytes
+-- afterwards are equal exactly if every pixel of the frame has the same colour in both. Assumes nothing.
+use mathlib.Core.Path.{_≡_, refl, sym, ap, subst, _∙_}
+use mathlib.Core.Bool.{Bool, true, false, cond}
+use mathlib.Core.List.{List, [], _∷_, _++_}
 use mathlib.Core.Logic.{_↔_}
-use Prim.Native.Nat.{ℕ, _+_, _*_, _/_, _%_, _^_, _≤_, _<_}
+use Prim.Native.Nat.{ℕ, _^_, _≤_, _<_}
 use native.Mathlib.Nat.{one-le-pow}
-use lib.Arith.{digits-div, digits-mod, digits-lt}
 use lib.Dec.{eqb}
 use lib.IntN.{pos}
 use lib.ListN.{length, replicate, length-replicate}
 use lib.Pow.{pow-pos}
-use borrow.Author.Tests.{eqb-true, eqb-false, ne-eqb}
-use Rattle.line.specs.Answer.{endRefusal}
-use Rattle.triangle.specs.Answer.{vertexRefusal}
-use Rattle.circle.specs.Refusal.{refusalOf}
-use Rattle.layout.specs.Acts.{acts, pictured}
-use Rattle.layout.specs.Paint.{render}
-use Rattle.layout.specs.Raster.{field, parts, putNo, painted}
-use Rattle.layout.proofs.Acts as abstract
-use Rattle.layout.proofs.Painted.{painted-length}
-use Rattle.layout.proofs.Places.{number-in, raster-laws}
+use borrow.Author.Tests.{eqb-true, eqb-false, ne-eqb, leb-false}
+use Rattle.refusals.specs.First.{first}
+use Rattle.refusals.proofs.First.{refused, both-pass, fails-alone}
+use Rattle.layout.specs.Layout.{Layout, Picture, shown, rendered}
+use Rattle.layout.specs.Packed.{field, parts}
+use Rattle.layout.proofs.Fields.{pow-mul}
+use Rattle.layout.proofs.Pictures.{Colour, Everywhere, Agree, rendered-length, rendered-cong, rendered-again, rendered-shown, shown-rendered, shown-colour, shown-zeros, one-picture}
+use Rattle.layout.proofs.Places.{depth-of}
+use Rattle.layout.proofs.Placing.{Placing}
 use Rattle.framebuffer.specs.declared.Frame.{Frame}
-use Rattle.framebuffer.specs.Description.{raster, size, descriptionRefusal, bufferRefusal, drawNumber, afterDraw}
-use Rattle.framebuffer.proofs.Refusals.{Accepted, is-accepted, is-drawable, sound, frame-nest, refused}
-use Rattle.framebuffer.proofs.Calls.{number-zero}
-use Rattle.picture.specs.Calls.{Call, setPixel, fillFrame, drawLine, drawTriangle, drawOutline, drawCircle, figureOf, colourOf, numberOf, afterCall, afterCalls, Picture, shownAfter, blank, pictureAfter}
-use Rattle.picture.proofs.Blank.{blank-read, colour-fits}
+use Rattle.framebuffer.specs.Description.{raster, size, noColour, frameTests}
+use Rattle.framebuffer.specs.Drawing.{Drawing, pixelDrawing, fillDrawing}
+use Rattle.framebuffer.specs.Judged.{Described, Accepted}
+use Rattle.framebuffer.proofs.Refusals.{is-accepted, frame-numbered, sound}
+use Rattle.drawing.specs.Drawing.{lineDrawing, triangleDrawing, outlineDrawing, circleDrawing}
+use Rattle.picture.specs.Calls.{Call, setPixel, fillFrame, drawLine, drawTriangle, drawOutline, drawCircle, Change, draws, changeOf, numberOf, blank, shownAfter, pictureAfter, afterCall, afterCalls}
 
 -- a zero-filled buffer of n bytes
 abbrev pub zeros : ℕ → List ℕ
 zeros n = replicate n 0
 
--- ---- every call asks the frame and the colour first: what it tests besides
-abbrev own : Call → ℕ
-own (setPixel p c) = 0
-own (fillFrame c) = 0
-own (drawLine s e c) = endRefusal s e 0
-own (drawTriangle v1 v2 v3 c) = vertexRefusal v1 v2 v3
-own (drawOutline v1 v2 v3 c) = vertexRefusal v1 v2 v3
-own (drawCircle l d c) = refusalOf l d
+-- every pixel of the frame has a colour
+abbrev pub Colours : Frame → Picture → Type 0
+Colours f g = Everywhere (raster f) (λ x y. Colour (raster f) (g x y))
 
-number-is : (f : Frame) (n : ℕ) (o : Call) → numberOf f n o ≡ drawNumber f n (colourOf o) (own o)
-number-is f n (setPixel p c) = refl
-number-is f n (fillFrame c) = refl
-number-is f n (drawLine s e c) = refl
-number-is f n (drawTriangle v1 v2 v3 c) = refl
-number-is f n (drawOutline v1 v2 v3 c) = refl
-number-is f n (drawCircle l d c) = refl
+-- ---- what is asked of a change: it looks at no pixel outside the frame, and where its tests pass it shows colours
+pub record Lawful (f : Frame) (c : Change) : Type 0 where
+  pub local : (g h : Picture) → Agree (raster f) g h → Agree (raster f) (c .changes f g) (c .changes f h)
+  pub colours : Described f → first (c .own f) ≡ 0 → (g : Picture) → Colours f g → Colours f (c .changes f g)
 
--- ---- a buffer keeps its length, so each call answers by the length at the start
+-- a colour below 2^depth fits the digits of its pixel
+colour-fits : (f : Frame) → Described f → (v : ℕ) → v < 2 ^ (f .depth) → Colour (raster f) v
+colour-fits f D v h =
+    let d = f .depth in
+    subst (λ (x : ℕ). v < x) (sym (pow-mul (field d) (parts d) ∙ ap (λ (x : ℕ). 2 ^ x) (depth-of d (D .depth) .bits))) h
+
+draws-lawful : (f : Frame) (d : Drawing) → Lawful f (draws d)
+draws-lawful f d =
+    record {
+      local = λ g h a x y hx hy. ap (λ (v : ℕ). cond (d .figure (pos x) (pos y)) (d .colour) v) (a x y hx hy);
+      colours = λ D z g c x y hx hy.
+          let below = leb-false _ _ (fails-alone 3 _ (both-pass ((4, noColour f (d .colour)) ∷ []) (d .own) refl z .0)) in
+          one (d .figure (pos x) (pos y)) (colour-fits f D (d .colour) below) (c x y hx hy);
+    }
+  where
+    one : (t : Bool) {v : ℕ} → Colour (raster f) (d .colour) → Colour (raster f) v → Colour (raster f) (cond t (d .colour) v)
+    one true a b = a
+    one false a b = b
+
+pub lawful : (f : Frame) (o : Call) → Lawful f (changeOf o)
+lawful f (setPixel p c) = draws-lawful f (pixelDrawing p c)
+lawful f (fillFrame c) = draws-lawful f (fillDrawing c)
+lawful f (drawLine s e c) = draws-lawful f (lineDrawing s e c)
+lawful f (drawTriangle v1 v2 v3 c) = draws-lawful f (triangleDrawing v1 v2 v3 c)
+lawful f (drawOutline v1 v2 v3 c) = draws-lawful f (outlineDrawing v1 v2 v3 c)
+lawful f (drawCircle l d c) = draws-lawful f (circleDrawing l d c)
+
 module _ (f : Frame) (n : ℕ) where
-  act : Call → List ℕ → List ℕ
-  act o b = afterDraw f (numberOf f n o) (figureOf o) (colourOf o) b
-
-  act-length : (o : Call) (b : List ℕ) → length (act o b) ≡ length b
-  unfolding act
-  act-length o b = by (eqb (numberOf f n o) 0)
-    where
-      by : (t : Bool) → length (cond t (painted (raster f) (figureOf o) (colourOf o) b) b) ≡ length b
-      by true = painted-length (raster f) (figureOf o) (colourOf o) b
-      by false = refl
-
-  as-acts : (os : List Call) (b : List ℕ) → length b ≡ n → afterCalls f os b ≡ acts act os b
-  unfolding act
-  as-acts [] b h = refl
-  as-acts (o ∷ os) b h =
-      let one : afterCall f o b ≡ act o b = ap (λ (k : ℕ). afterDraw f (numberOf f k o) (figureOf o) (colourOf o) b) h in
-      ap (afterCalls f os) one ∙ as-acts os (act o b) (act-length o b ∙ h)
-
-  -- ---- the same by pixel numbers, row by row
-  by-number : Call → ℕ → Bool
-  by-number o p = figureOf o (pos (p % f .width)) (pos (p / f .width))
-
-  shows : Call → (ℕ → ℕ) → ℕ → ℕ
-  shows o before p = cond (eqb (numberOf f n o) 0) (cond (by-number o p) (colourOf o) (before p)) (before p)
-
-  one-test : (t s : Bool) (c a : ℕ) → cond t (cond s c a) a ≡ cond (t && s) c a
-  one-test true s c a = refl
-  one-test false s c a = refl
-
-  shows-after : (os : List Call) (numbers : ℕ → ℕ) (before : Picture) → ((p : ℕ) → numbers p ≡ before (p % f .width) (p / f .width))
-      → (p : ℕ) → pictured shows os numbers p ≡ pictureAfter f n os before (p % f .width) (p / f .width)
-  unfolding shows by-number
-  shows-after [] numbers before h p = h p
-  shows-after (o ∷ os) numbers before h p =
-      shows-after os (shows o numbers) (shownAfter f n o before)
-      (λ q. one-test (eqb (numberOf f n o) 0) (by-number o q) (colourOf o) (numbers q) ∙ ap (λ (a : ℕ). cond (eqb (numberOf f n o) 0 && by-number o q) (colourOf o) a) (h q)) p
-
   -- ---- an accepted description with room in the buffer
-  module _ (ok : descriptionRefusal f (bufferRefusal f n 0) ≡ 0) where
-    A : Accepted f n
-    A = is-accepted f n ok
+  module _ (A : Accepted f n) where
+    P : Placing (raster f)
+    P = sound f (A .described)
 
-    abbrev Col : ℕ → Type 0
-    Col v = v < (2 ^ field (f .depth)) ^ parts (f .depth)
-
-    -- a call changes the bytes of a picture into those of the picture that it shows
-    law : (o : Call) (g : ℕ → ℕ) (b : List ℕ) → act o (render (putNo (raster f)) (f .height * f .width) g b) ≡ render (putNo (raster f)) (f .height * f .width) (shows o g) b
-    unfolding act shows by-number painted
-    law o g b = abstract.paints (raster-laws (raster f) (sound f (A .described))) (eqb (numberOf f n o) 0) (by-number o) (colourOf o) g b
-
-    -- an accepted call has a colour of the frame
-    fits : (o : Call) → eqb (numberOf f n o) 0 ≡ true → Col (colourOf o)
-    fits o t =
-        let z : drawNumber f n (colourOf o) (own o) ≡ 0 = sym (number-is f n o) ∙ eqb-true (numberOf f n o) 0 t in
-        colour-fits (f .depth) (colourOf o) (A .described .depth) (is-drawable f n (colourOf o) (number-zero f n (colourOf o) (own o) z .0) .below)
-
-    cols : (o : Call) (g : ℕ → ℕ) → ((p : ℕ) → Col (g p)) → (p : ℕ) → Col (shows o g p)
-    unfolding shows
-    cols o g h = abstract.paints-col Col (eqb (numberOf f n o) 0) (by-number o) (colourOf o) g (fits o) h
-
-    room : raster f .distance * f .height ≤ length (zeros n)
+    room : (b : List ℕ) → length b ≡ n → raster f .size ≤ length b
     unfolding size
-    room = subst (λ (k : ℕ). raster f .distance * f .height ≤ k) (sym (length-replicate n 0)) (A .room)
+    room b e = subst (λ (k : ℕ). raster f .size ≤ k) (sym e) (A .room)
 
-    numbered : (xs ys : List Call)
-        → (acts act xs (zeros n) ≡ acts act ys (zeros n)) ↔ ((p : ℕ) → p < f .height * f .width → pictured shows xs (λ q. 0) p ≡ pictured shows ys (λ q. 0) p)
-    numbered =
-        abstract.one-picture-one-frame (raster-laws (raster f) (sound f (A .described))) act shows law cols (zeros n) room (λ p l. blank-read (raster f) n p) (one-le-pow (parts (f .depth)) (2 ^ field (f .depth)) (pow-pos (field (f .depth))))
+    -- a call changes the bytes of a picture into those of the changed one
+    after-rendered : (o : Call) (g : Picture) (b : List ℕ) → length b ≡ n → Colours f g
+        → afterCall f o (rendered (raster f) g b) ≡ rendered (raster f) (shownAfter f n o g) b
+    after-rendered o g b e c =
+        ap (λ (k : ℕ). cond (eqb (numberOf f k o) 0) (rendered (raster f) (changeOf o .changes f (shown (raster f) a)) a) a) (rendered-length (raster f) P g b ∙ e)
+        ∙ by (eqb (numberOf f n o) 0)
+      where
+        a : List ℕ
+        a = rendered (raster f) g b
 
-    accepted-case : (xs ys : List Call)
-        → (acts act xs (zeros n) ≡ acts act ys (zeros n)) ↔ ((x y : ℕ) → x < f .width → y < f .height → pictureAfter f n xs blank x y ≡ pictureAfter f n ys blank x y)
-    accepted-case xs ys = (
-      λ e x y hx hy.
-          subst₂ (λ (i j : ℕ). pictureAfter f n xs blank i j ≡ pictureAfter f n ys blank i j) (digits-mod y hx) (digits-div y hx)
-          (sym (shows-after xs (λ q. 0) blank (λ q. refl) (y * f .width + x)) ∙ numbered xs ys .0 e (y * f .width + x) (digits-lt hy hx) ∙ shows-after ys (λ q. 0) blank (λ q. refl) (y * f .width + x)),
-      λ h.
-          numbered xs ys .1
-          (λ p l. shows-after xs (λ q. 0) blank (λ q. refl) p ∙ h (p % f .width) (p / f .width) (number-in (f .width) (f .height) p l .0) (number-in (f .width) (f .height) p l .1) ∙ sym (shows-after ys (λ q. 0) blank (λ q. refl) p)),
-    )
+        by : (t : Bool) → cond t (rendered (raster f) (changeOf o .changes f (shown (raster f) a)) a) a ≡ rendered (raster f) (λ x y. cond t (changeOf o .changes f g x y) (g x y)) b
+        by true =
+            rendered-again (raster f) P (changeOf o .changes f (shown (raster f) a)) g b
+            ∙ rendered-cong (raster f) P _ _ b (lawful f o .local (shown (raster f) a) g (λ x y hx hy. shown-rendered (raster f) P g b (room b e) x y hx hy (c x y hx hy)))
+        by false = refl
+
+    colours-after : (o : Call) (g : Picture) → Colours f g → Colours f (shownAfter f n o g)
+    colours-after o g c x y hx hy = by (eqb (numberOf f n o) 0) refl
+      where
+        by : (t : Bool) → eqb (numberOf f n o) 0 ≡ t → Colour (raster f) (cond t (changeOf o .changes f g x y) (g x y))
+        by true e = lawful f o .colours (A .described) (both-pass (frameTests f n) (changeOf o .own f) (frame-numbered f n) (eqb-true _ 0 e) .1) g c x y hx hy
+        by false e = c x y hx hy
+
+    pub colours-after-calls : (os : List Call) (g : Picture) → Colours f g → Colours f (pictureAfter f n os g)
+    colours-after-calls [] g c = c
+    colours-after-calls (o ∷ os) g c = colours-after-calls os (shownAfter f n o g) (colours-after o g c)
+
+    calls-rendered : (os : List Call) (g : Picture) (b : List ℕ) → length b ≡ n → Colours f g
+        → afterCalls f os (rendered (raster f) g b) ≡ rendered (raster f) (pictureAfter f n os g) b
+    calls-rendered [] g b e c = refl
+    calls-rendered (o ∷ os) g b e c = ap (afterCalls f os) (after-rendered o g b e c) ∙ calls-rendered os (shownAfter f n o g) b e (colours-after o g c)
+
+    -- what calls leave of any bytes: those of the picture that they leave
+    pub bytes-after : (os : List Call) (b : List ℕ) → length b ≡ n → afterCalls f os b ≡ rendered (raster f) (pictureAfter f n os (shown (raster f) b)) b
+    bytes-after os b e =
+        ap (afterCalls f os) (sym (rendered-shown (raster f) P b)) ∙ calls-rendered os (shown (raster f) b) b e (λ x y hx hy. shown-colour (raster f) P b x y)
+
+    blank-colours : Colours f blank
+    blank-colours x y hx hy = one-le-pow (parts (f .depth)) (2 ^ field (f .depth)) (pow-pos (field (f .depth)))
+
+    -- of zeros
+    zeros-after : (os : List Call) → afterCalls f os (zeros n) ≡ rendered (raster f) (pictureAfter f n os blank) (zeros n)
+    zeros-after os =
+        ap (afterCalls f os) (sym (rendered-shown (raster f) P (zeros n)) ∙ rendered-cong (raster f) P _ blank (zeros n) (λ x y hx hy. shown-zeros (raster f) n x y))
+        ∙ calls-rendered os blank (zeros n) (length-replicate n 0) blank-colours
+
+    accepted-case : (xs ys : List Call) → (afterCalls f xs (zeros n) ≡ afterCalls f ys (zeros n)) ↔ Agree (raster f) (pictureAfter f n xs blank) (pictureAfter f n ys blank)
+    accepted-case xs ys =
+        let h = one-picture (raster f) P (pictureAfter f n xs blank) (pictureAfter f n ys blank) (zeros n) (room (zeros n) (length-replicate n 0)) (colours-after-calls xs blank blank-colours) (colours-after-calls ys blank blank-colours) in
+        (λ e. h .0 (sym (zeros-after xs) ∙ e ∙ zeros-after ys), λ a. zeros-after xs ∙ h .1 a ∙ sym (zeros-after ys))
 
   -- ---- another description, or too short a buffer: every call is refused
-  module _ (no : descriptionRefusal f (bufferRefusal f n 0) ≡ 0 → ⊥) where
+  module _ (no : first (frameTests f n) ≡ 0 → ⊥) where
     refuses : (o : Call) → eqb (numberOf f n o) 0 ≡ false
-    refuses o = ne-eqb (numberOf f n o) 0 (λ z. no (sym (refused (frame-nest f n) _ refl no) ∙ sym (number-is f n o) ∙ z))
+    refuses o = ne-eqb (numberOf f n o) 0 (λ z. no (refused (frameTests f n) (changeOf o .own f) refl no ∙ z))
 
-    nothing : (os : List Call) (b : List ℕ) → acts act os b ≡ b
-    unfolding act
-    nothing [] b = refl
-    nothing (o ∷ os) b = ap (acts act os) (ap (λ (t : Bool). cond t (painted (raster f) (figureOf o) (colourOf o) b) b) (refuses o)) ∙ nothing os b
+    pub no-bytes : (os : List Call) (b : List ℕ) → length b ≡ n → afterCalls f os b ≡ b
+    no-bytes [] b e = refl
+    no-bytes (o ∷ os) b e =
+        let after = rendered (raster f) (changeOf o .changes f (shown (raster f) b)) b in
+        ap (afterCalls f os) (ap (λ (t : Bool). cond t after b) (ap (λ (k : ℕ). eqb (numberOf f k o) 0) e ∙ refuses o)) ∙ no-bytes os b e
 
-    still : (os : List Call) (before : Picture) (x y : ℕ) → pictureAfter f n os before x y ≡ before x y
-    still [] before x y = refl
-    still (o ∷ os) before x y = still os (shownAfter f n o before) x y ∙ ap (λ (t : Bool). cond (t && figureOf o (pos x) (pos y)) (colourOf o) (before x y)) (refuses o)
+    pub no-pixels : (os : List Call) (before : Picture) (x y : ℕ) → pictureAfter f n os before x y ≡ before x y
+    no-pixels [] before x y = refl
+    no-pixels (o ∷ os) before x y = no-pixels os (shownAfter f n o before) x y ∙ ap (λ (t : Bool). cond t (changeOf o .changes f before x y) (before x y)) (refuses o)
+
+  -- a description is accepted over n bytes, or every call is refused
+  pub either-way : {Q : Type 0} → (Accepted f n → Q) → ((first (frameTests f n) ≡ 0 → ⊥) → Q) → Q
+  either-way {Q = Q} accepted refusing = by (eqb (first (frameTests f n)) 0) refl
+    where
+      by : (t : Bool) → eqb (first (frameTests f n)) 0 ≡ t → Q
+      by true t = accepted (is-accepted f n (eqb-true (first (frameTests f n)) 0 t))
+      by false t = refusing (eqb-false (first (frameTests f n)) 0 t)
 
   -- ---- ONE PICTURE, ONE FRAME, for every description, every length and any two lists of calls
   pub one-picture-one-frame : (xs ys : List Call)
       → (afterCalls f xs (zeros n) ≡ afterCalls f ys (zeros n)) ↔ ((x y : ℕ) → x < f .width → y < f .height → pictureAfter f n xs blank x y ≡ pictureAfter f n ys blank x y)
-  one-picture-one-frame xs ys = by (eqb (descriptionRefusal f (bufferRefusal f n 0)) 0) refl
-    where
-      e : (os : List Call) → afterCalls f os (zeros n) ≡ acts act os (zeros n)
-      e os = as-acts os (zeros n) (length-replicate n 0)
-
-      by : (t : Bool) → eqb (descriptionRefusal f (bufferRefusal f n 0)) 0 ≡ t
-          → (afterCalls f xs (zeros n) ≡ afterCalls f ys (zeros n)) ↔ ((x y : ℕ) → x < f .width → y < f .height → pictureAfter f n xs blank x y ≡ pictureAfter f n ys blank x y)
-      by true t =
-          let c = accepted-case (eqb-true (descriptionRefusal f (bufferRefusal f n 0)) 0 t) xs ys in
-          (λ h. c .0 (sym (e xs) ∙ h ∙ e ys), λ h. e xs ∙ c .1 h ∙ sym (e ys))
-      by false t =
-          let no = eqb-false (descriptionRefusal f (bufferRefusal f n 0)) 0 t in
-          (λ h x y hx hy. still no xs blank x y ∙ sym (still no ys blank x y), λ h. (e xs ∙ nothing no xs (zeros n)) ∙ sym (e ys ∙ nothing no ys (zeros n)))
+  one-picture-one-frame xs ys =
+      either-way (λ A. accepted-case A xs ys)
+      (λ no. (
+        λ e x y hx hy. no-pixels no xs blank x y ∙ sym (no-pixels no ys blank x y),
+        λ h. no-bytes no xs (zeros n) (length-replicate n 0) ∙ sym (no-bytes no ys (zeros n) (length-replicate n 0)),
+      ))

@@ -1,47 +1,81 @@
 -- The calls of the theorem are the library's: what each public drawing call promises, as its source states it, is the number and the bytes of its
 -- case. Assumes nothing.
-use mathlib.Core.Path.{_≡_, ap, _∙_}
-use mathlib.Core.Bool.{Bool}
-use mathlib.Core.List.{List}
+use mathlib.Core.Path.{_≡_, refl, sym, ap, _∙_}
+use mathlib.Core.Bool.{Bool, true, false, cond}
+use mathlib.Core.List.{List, [], _∷_, _++_, append-assoc}
 use Prim.Native.Nat.{ℕ}
-use lib.IntN.{ℤ}
+use lib.Dec.{eqb}
 use lib.ListN.{length}
+use borrow.Author.Tests.{eqb-true}
 use denote.Ref.{now}
+use Rattle.refusals.specs.First.{first}
+use Rattle.refusals.proofs.First.{both-pass}
+use Rattle.layout.specs.Layout.{painted, shown, coloured, rendered}
+use Rattle.layout.proofs.Pictures.{painted-rendered}
 use Rattle.framebuffer.specs.declared.Frame.{Frame}
 use Rattle.framebuffer.specs.declared.Drawn.{Drawn}
-use Rattle.framebuffer.specs.Answer.{drawn}
-use Rattle.framebuffer.specs.Description.{afterDraw}
+use Rattle.framebuffer.specs.Description.{raster, noColour, frameTests, drawTests}
+use Rattle.framebuffer.specs.Drawing.{Drawing, callTests, outcome}
+use Rattle.framebuffer.specs.Window.{heldBy, wholeWindow}
+use Rattle.framebuffer.proofs.Refusals.{is-accepted, frame-numbered, sound}
+use Rattle.framebuffer.proofs.Windows.{painted-whole}
 use Rattle.framebuffer.proofs.set_pixel.Reads as set-pixel
 use Rattle.framebuffer.proofs.fill.Reads as fill
 use Rattle.drawing.proofs.draw_line.Reads as draw-line
 use Rattle.drawing.proofs.draw_triangle.Reads as draw-triangle
 use Rattle.drawing.proofs.draw_outline.Reads as draw-outline
 use Rattle.drawing.proofs.draw_circle.Reads as draw-circle
-use Rattle.picture.specs.Calls.{Call, setPixel, fillFrame, drawLine, drawTriangle, drawOutline, drawCircle, numberOf, afterCall}
+use Rattle.picture.specs.Calls.{Call, setPixel, fillFrame, drawLine, drawTriangle, drawOutline, drawCircle, Change, draws, changeOf, numberOf, afterCall}
 
 -- what a call o on the frame f is to do: its answer's number, and the bytes afterwards
 pub record Does (f : Frame) (o : Call) (before : List ℕ) (r : Drawn) (after : List ℕ) : Type 0 where
   pub number : r .number ≡ numberOf f (length before) o
   pub bytes : after ≡ afterCall f o before
 
-does : (f : Frame) (figure : ℤ → ℤ → Bool) (colour N : ℕ) (b after : List ℕ) (r : Drawn) → (r ≡ drawn N) × (after ≡ afterDraw f (r .number) figure colour b)
-    → (r .number ≡ N) × (after ≡ afterDraw f N figure colour b)
-does f figure colour N b after r h = let n = ap (λ (q : Drawn). q .number) (h .0) in (n, h .1 ∙ ap (λ (k : ℕ). afterDraw f k figure colour b) n)
+-- ---- a call that draws
+module _ (f : Frame) (d : Drawing) (b : List ℕ) where
+  -- the same tests, the colour's with the frame's or with the call's own
+  tests-are : first (callTests f (length b) d) ≡ first (frameTests f (length b) ++ draws d .own f)
+  unfolding drawTests
+  tests-are = ap first (append-assoc (frameTests f (length b)) ((4, noColour f (d .colour)) ∷ []) (d .own))
+
+  bytes-are : (t : Bool) → eqb (first (frameTests f (length b) ++ draws d .own f)) 0 ≡ t
+      → cond t (painted (raster f) (heldBy (wholeWindow f) (d .figure)) (d .colour) b) b ≡ cond t (rendered (raster f) (coloured (d .figure) (d .colour) (shown (raster f) b)) b) b
+  bytes-are true e =
+      let D = is-accepted f (length b) (both-pass (frameTests f (length b)) (draws d .own f) (frame-numbered f (length b)) (eqb-true _ 0 e) .0) .described in
+      painted-whole f D (d .colour) b (d .figure) ∙ painted-rendered (raster f) (sound f D) (d .figure) (d .colour) b
+  bytes-are false e = refl
+
+  draws-does : (o : Call) → changeOf o ≡ draws d → {r : Drawn} {after : List ℕ} → _≡_ {A = Drawn × List ℕ} (r, after) (outcome f (wholeWindow f) d b) → Does f o b r after
+  unfolding outcome
+  draws-does o e h =
+      let k : first (callTests f (length b) d) ≡ numberOf f (length b) o = tests-are ∙ ap (λ (c : Change). first (frameTests f (length b) ++ c .own f)) (sym e) in
+      record {
+        number = ap (λ (p : Drawn × List ℕ). p .0 .number) h ∙ k;
+        bytes =
+            ap (λ (p : Drawn × List ℕ). p .1) h
+            ∙ ap (λ (m : ℕ). cond (eqb m 0) (painted (raster f) (heldBy (wholeWindow f) (d .figure)) (d .colour) b) b) tests-are
+            ∙ bytes-are (eqb (first (frameTests f (length b) ++ draws d .own f)) 0) refl
+            ∙ ap (λ (c : Change). cond (eqb (first (frameTests f (length b) ++ c .own f)) 0) (rendered (raster f) (c .changes f (shown (raster f) b)) b) b) (sym e);
+      }
 
 pub set-pixel-does : (κs : _) (a : _) (r : _) (s : _) → set-pixel.Post κs a r s → Does (a .1 .0) (setPixel (a .1 .1 .0) (a .1 .1 .1 .0)) (now (a .0)) r (now (s .0))
-set-pixel-does κs a r s h = let d = does _ _ _ _ _ _ _ h in record { number = d .0; bytes = d .1 }
+set-pixel-does κs a r s h = draws-does _ _ _ _ refl h
 
 pub fill-does : (κs : _) (a : _) (r : _) (s : _) → fill.Post κs a r s → Does (a .1 .0) (fillFrame (a .1 .1 .0)) (now (a .0)) r (now (s .0))
-fill-does κs a r s h = let d = does _ _ _ _ _ _ _ h in record { number = d .0; bytes = d .1 }
+fill-does κs a r s h = draws-does _ _ _ _ refl h
 
 pub draw-line-does : (κs : _) (a : _) (r : _) (s : _) → draw-line.Post κs a r s → Does (a .1 .0) (drawLine (a .1 .1 .0) (a .1 .1 .1 .0) (a .1 .1 .1 .1 .0)) (now (a .0)) r (now (s .0))
-draw-line-does κs a r s h = let d = does _ _ _ _ _ _ _ h in record { number = d .0; bytes = d .1 }
+draw-line-does κs a r s h = draws-does _ _ _ _ refl h
 
-pub draw-triangle-does : (κs : _) (a : _) (r : _) (s : _) → draw-triangle.Post κs a r s → Does (a .1 .0) (drawTriangle (a .1 .1 .0) (a .1 .1 .1 .0) (a .1 .1 .1 .1 .0) (a .1 .1 .1 .1 .1 .0)) (now (a .0)) r (now (s .0))
-draw-triangle-does κs a r s h = let d = does _ _ _ _ _ _ _ h in record { number = d .0; bytes = d .1 }
+pub draw-triangle-does : (κs : _) (a : _) (r : _) (s : _) → draw-triangle.Post κs a r s
+    → Does (a .1 .0) (drawTriangle (a .1 .1 .0) (a .1 .1 .1 .0) (a .1 .1 .1 .1 .0) (a .1 .1 .1 .1 .1 .0)) (now (a .0)) r (now (s .0))
+draw-triangle-does κs a r s h = draws-does _ _ _ _ refl h
 
-pub draw-outline-does : (κs : _) (a : _) (r : _) (s : _) → draw-outline.Post κs a r s → Does (a .1 .0) (drawOutline (a .1 .1 .0) (a .1 .1 .1 .0) (a .1 .1 .1 .1 .0) (a .1 .1 .1 .1 .1 .0)) (now (a .0)) r (now (s .0))
-draw-outline-does κs a r s h = let d = does _ _ _ _ _ _ _ h in record { number = d .0; bytes = d .1 }
+pub draw-outline-does : (κs : _) (a : _) (r : _) (s : _) → draw-outline.Post κs a r s
+    → Does (a .1 .0) (drawOutline (a .1 .1 .0) (a .1 .1 .1 .0) (a .1 .1 .1 .1 .0) (a .1 .1 .1 .1 .1 .0)) (now (a .0)) r (now (s .0))
+draw-outline-does κs a r s h = draws-does _ _ _ _ refl h
 
-pub draw-circle-does : (κs : _) (a : _) (r : _) (s : _) → draw-circle.Post κs a r s → Does (a .1 .0) (drawCircle (a .1 .1 .0) (a .1 .1 .1 .0) (a .1 .1 .1 .1 .0)) (now (a .0)) r (now (s .0))
-draw-circle-does κs a r s h = let d = does _ _ _ _ _ _ _ h in record { number = d .0; bytes = d .1 }
+pub draw-circle-does : (κs : _) (a : _) (r : _) (s : _) → draw-circle.Post κs a r s
+    → Does (a .1 .0) (drawCircle (a .1 .1 .0) (a .1 .1 .1 .0) (a .1 .1 .1 .1 .0)) (now (a .0)) r (now (s .0))
+draw-circle-does κs a r s h = draws-does _ _ _ _ refl h

@@ -1,17 +1,16 @@
--- Lists of drawing calls on one frame: what each call is, the bytes that a list leaves, and the colour that it leaves each pixel
--- ("One picture, one frame").
-use mathlib.Core.Bool.{Bool, cond, _&&_}
-use mathlib.Core.List.{List, [], _∷_}
+-- Lists of calls on one frame: what each call tests and changes, the picture that a list leaves, and the bytes ("One picture, one frame").
+use mathlib.Core.Bool.{cond}
+use mathlib.Core.List.{List, [], _∷_, _++_}
 use Prim.Native.Nat.{ℕ}
 use lib.Dec.{eqb}
-use lib.IntN.{ℤ, pos}
 use lib.ListN.{length}
+use Rattle.refusals.specs.First.{Tests, first}
 use Rattle.geometry.specs.declared.Point.{Point}
-use Rattle.layout.specs.Figure.{single, everywhere}
+use Rattle.layout.specs.Layout.{Picture, shown, coloured, rendered}
 use Rattle.framebuffer.specs.declared.Frame.{Frame}
-use Rattle.framebuffer.specs.Description.{drawNumber, afterDraw}
-use Rattle.drawing.specs.Figure.{lineFigure, triangleFigure, outlineFigure, circleFigure}
-use Rattle.drawing.specs.Number.{lineNumber, triangleNumber, circleNumber}
+use Rattle.framebuffer.specs.Description.{raster, noColour, frameTests}
+use Rattle.framebuffer.specs.Drawing.{Drawing, pixelDrawing, fillDrawing}
+use Rattle.drawing.specs.Drawing.{lineDrawing, triangleDrawing, outlineDrawing, circleDrawing}
 
 -- a call, by its arguments; the colour comes last
 pub data Call : Type 0 where
@@ -22,52 +21,45 @@ pub data Call : Type 0 where
   drawOutline : Point → Point → Point → ℕ → Call
   drawCircle : Point → ℕ → ℕ → Call
 
--- its figure
-abbrev pub figureOf : Call → ℤ → ℤ → Bool
-figureOf (setPixel p c) = single (p .0) (p .1)
-figureOf (fillFrame c) = everywhere
-figureOf (drawLine s e c) = lineFigure s e
-figureOf (drawTriangle v1 v2 v3 c) = triangleFigure v1 v2 v3
-figureOf (drawOutline v1 v2 v3 c) = outlineFigure v1 v2 v3
-figureOf (drawCircle l d c) = circleFigure l d
+-- what a call is on a frame: its own tests, which come behind those of the frame, and what it changes of a picture where no test holds
+pub record Change : Type 0 where
+  pub own : Frame → Tests
+  pub changes : Frame → Picture → Picture
 
-abbrev pub colourOf : Call → ℕ
-colourOf (setPixel p c) = c
-colourOf (fillFrame c) = c
-colourOf (drawLine s e c) = c
-colourOf (drawTriangle v1 v2 v3 c) = c
-colourOf (drawOutline v1 v2 v3 c) = c
-colourOf (drawCircle l d c) = c
+-- of a call that draws: the colour is tested first, and the pixels that the figure contains get it
+abbrev pub draws : Drawing → Change
+draws d = record { own = λ f. (4, noColour f (d .colour)) ∷ d .own; changes = λ f. coloured (d .figure) (d .colour) }
+
+abbrev pub changeOf : Call → Change
+changeOf (setPixel p c) = draws (pixelDrawing p c)
+changeOf (fillFrame c) = draws (fillDrawing c)
+changeOf (drawLine s e c) = draws (lineDrawing s e c)
+changeOf (drawTriangle v1 v2 v3 c) = draws (triangleDrawing v1 v2 v3 c)
+changeOf (drawOutline v1 v2 v3 c) = draws (outlineDrawing v1 v2 v3 c)
+changeOf (drawCircle l d c) = draws (circleDrawing l d c)
 
 -- the number that it answers on a frame over n bytes
 abbrev pub numberOf : Frame → ℕ → Call → ℕ
-numberOf f n (setPixel p c) = drawNumber f n c 0
-numberOf f n (fillFrame c) = drawNumber f n c 0
-numberOf f n (drawLine s e c) = lineNumber f n s e c
-numberOf f n (drawTriangle v1 v2 v3 c) = triangleNumber f n v1 v2 v3 c
-numberOf f n (drawOutline v1 v2 v3 c) = triangleNumber f n v1 v2 v3 c
-numberOf f n (drawCircle l d c) = circleNumber f n l d c
+numberOf f n o = first (frameTests f n ++ changeOf o .own f)
 
--- ---- the bytes after a call, and after calls, the first of the list first
+-- ---- pictures
+abbrev pub blank : Picture
+blank x y = 0
+
+-- after an accepted call a picture is the changed one; a refused call changes nothing
+abbrev pub shownAfter : Frame → ℕ → Call → Picture → Picture
+shownAfter f n o before x y = cond (eqb (numberOf f n o) 0) (changeOf o .changes f before x y) (before x y)
+
+-- after calls, the first of the list first
+abbrev pub pictureAfter : Frame → ℕ → List Call → Picture → Picture
+pictureAfter f n [] before = before
+pictureAfter f n (o ∷ os) before = pictureAfter f n os (shownAfter f n o before)
+
+-- ---- bytes
+-- after an accepted call every pixel of the frame has its colour in the changed picture; a refused call changes no byte
 abbrev pub afterCall : Frame → Call → List ℕ → List ℕ
-afterCall f o b = afterDraw f (numberOf f (length b) o) (figureOf o) (colourOf o) b
+afterCall f o b = cond (eqb (numberOf f (length b) o) 0) (rendered (raster f) (changeOf o .changes f (shown (raster f) b)) b) b
 
 abbrev pub afterCalls : Frame → List Call → List ℕ → List ℕ
 afterCalls f [] b = b
 afterCalls f (o ∷ os) b = afterCalls f os (afterCall f o b)
-
--- ---- a picture gives each pixel, by its column and its row, its colour
-abbrev pub Picture : Type 0
-Picture = ℕ → ℕ → ℕ
-
--- after an accepted call the pixels that its figure contains have its colour; a refused call changes nothing
-abbrev pub shownAfter : Frame → ℕ → Call → Picture → Picture
-shownAfter f n o before x y = cond (eqb (numberOf f n o) 0 && figureOf o (pos x) (pos y)) (colourOf o) (before x y)
-
-abbrev pub blank : Picture
-blank x y = 0
-
--- so after calls a pixel has the colour of the last accepted call whose figure contains it, or the one that it had
-abbrev pub pictureAfter : Frame → ℕ → List Call → Picture → Picture
-pictureAfter f n [] before = before
-pictureAfter f n (o ∷ os) before = pictureAfter f n os (shownAfter f n o before)

@@ -2,17 +2,18 @@
 use mathlib.Core.List.{List, [], _∷_}
 use Prim.Native.Nat.{ℕ}
 use lib.IntN.{ℤ}
+use Rattle.refusals.specs.First.{first}
 use Rattle.geometry.specs.declared.Span.{Span}
 use Rattle.geometry.specs.Answer.{verdict, span}
 use Rattle.line.specs.declared.Length.{Length}
 use Rattle.line.specs.declared.Step.{Step}
 use Rattle.line.specs.Line.{points, pointAt, hasPoint}
-use Rattle.line.specs.Answer.{endRefusal, stepRefusal, lengthAnswer, stepAnswer}
+use Rattle.line.specs.Answer.{endTests, stepTests, lengthAnswer, stepAnswer}
 use Rattle.triangle.specs.declared.RowRange.{RowRange}
-use Rattle.triangle.specs.Answer.{vertexRefusal, rowsAnswer}
+use Rattle.triangle.specs.Answer.{vertexTests, rowsAnswer}
 use Rattle.triangle.specs.Triangle as triangle
 use Rattle.triangle.specs.Row.{rowSpan, firstRow, rowCount}
-use Rattle.circle.specs.Refusal.{refusalOf}
+use Rattle.circle.specs.Refusal.{circleTests}
 use Rattle.circle.specs.Circle as circle
 use Rattle.text.specs.Fields.{nextU32, nextI32}
 use Rattle.protocol.specs.declared.fields.NextVertices.{NextVertices}
@@ -41,37 +42,37 @@ rowsSaid a = Two (a .number) (Whole (a .first)) (Natural (a .count))
 -- ---- of a line
 -- `length X1 Y1 X2 Y2`: number, points of the line
 unfoldable pub lengthReply : List ℕ → ℕ → Reply
-lengthReply said at = ofOne (λ l. ifLast said (l .next) (lengthSaid (lengthAnswer (endRefusal (l .start) (l .end) 0) (points (l .start) (l .end))))) (nextEnds said at)
+lengthReply said at = ofOne (λ l. ifLast said (l .next) (lengthSaid (lengthAnswer (first (endTests (l .start) (l .end))) (points (l .start) (l .end))))) (nextEnds said at)
 
 -- `point X1 Y1 X2 Y2 K`: number, x, y
 unfoldable pub pointReply : List ℕ → ℕ → Reply
 pointReply said at =
-    ofTwo (λ l k. ifLast said (k .next) (stepSaid (stepAnswer (stepRefusal (l .start) (l .end) (k .value)) (pointAt (l .start) (l .end) (k .value)))))
+    ofTwo (λ l k. ifLast said (k .next) (stepSaid (stepAnswer (first (stepTests (l .start) (l .end) (k .value))) (pointAt (l .start) (l .end) (k .value)))))
     (nextEnds said at) (λ l. nextU32 said (l .next))
 
 -- `online X1 Y1 X2 Y2 X Y`: number, whether the pixel is a point of the line
 unfoldable pub onlineReply : List ℕ → ℕ → Reply
 onlineReply said at =
-    ofTwo (λ l p. ifLast said (p .next) (verdictReply (verdict (endRefusal (l .start) (l .end) 0) (hasPoint (l .start) (l .end) (p .point)))))
+    ofTwo (λ l p. ifLast said (p .next) (verdictReply (verdict (first (endTests (l .start) (l .end))) (hasPoint (l .start) (l .end) (p .point)))))
     (nextEnds said at) (λ l. nextPoint said (l .next))
 
 -- ---- of a triangle
 -- `inside X1 Y1 X2 Y2 X3 Y3 X Y`: number, whether the triangle contains the pixel
 unfoldable pub insideReply : List ℕ → ℕ → Reply
 insideReply said at =
-    ofTwo (λ t p. ifLast said (p .next) (verdictReply (verdict (vertexRefusal (t .v1) (t .v2) (t .v3)) (triangle.contained (t .v1) (t .v2) (t .v3) (p .point)))))
+    ofTwo (λ t p. ifLast said (p .next) (verdictReply (verdict (first (vertexTests (t .v1) (t .v2) (t .v3))) (triangle.contained (t .v1) (t .v2) (t .v3) (p .point)))))
     (nextVertices said at) (λ t. nextPoint said (t .next))
 
 -- `span X1 Y1 X2 Y2 X3 Y3 Y`: number, first x, one past the last
 abbrev pub spanOf : NextVertices → ℤ → Span
-spanOf t y = span (vertexRefusal (t .v1) (t .v2) (t .v3)) (rowSpan (t .v1) (t .v2) (t .v3) y .0) (rowSpan (t .v1) (t .v2) (t .v3) y .1)
+spanOf t y = span (first (vertexTests (t .v1) (t .v2) (t .v3))) (rowSpan (t .v1) (t .v2) (t .v3) y .0) (rowSpan (t .v1) (t .v2) (t .v3) y .1)
 
 unfoldable pub spanReply : List ℕ → ℕ → Reply
 spanReply said at = ofTwo (λ t y. ifLast said (y .next) (spanSaid (spanOf t (y .value)))) (nextVertices said at) (λ t. nextI32 said (t .next))
 
 -- `rows X1 Y1 X2 Y2 X3 Y3`: number, first row, number of rows
 abbrev pub rowsOf : NextVertices → RowRange
-rowsOf t = rowsAnswer (vertexRefusal (t .v1) (t .v2) (t .v3)) (firstRow (t .v1) (t .v2) (t .v3)) (rowCount (t .v1) (t .v2) (t .v3))
+rowsOf t = rowsAnswer (first (vertexTests (t .v1) (t .v2) (t .v3))) (firstRow (t .v1) (t .v2) (t .v3)) (rowCount (t .v1) (t .v2) (t .v3))
 
 unfoldable pub rowsReply : List ℕ → ℕ → Reply
 rowsReply said at = ofOne (λ t. ifLast said (t .next) (rowsSaid (rowsOf t))) (nextVertices said at)
@@ -80,12 +81,12 @@ rowsReply said at = ofOne (λ t. ifLast said (t .next) (rowsSaid (rowsOf t))) (n
 -- `disc L T D X Y`: number, whether the circle contains the pixel
 unfoldable pub discReply : List ℕ → ℕ → Reply
 discReply said at =
-    ofTwo (λ c p. ifLast said (p .next) (verdictReply (verdict (refusalOf (c .topleft) (c .diameter)) (circle.contained (c .topleft) (c .diameter) (p .point)))))
+    ofTwo (λ c p. ifLast said (p .next) (verdictReply (verdict (first (circleTests (c .topleft) (c .diameter))) (circle.contained (c .topleft) (c .diameter) (p .point)))))
     (nextCircle said at) (λ c. nextPoint said (c .next))
 
 -- `discspan L T D Y`: number, first x, one past the last
 abbrev pub discspanOf : NextCircle → ℤ → Span
-discspanOf c y = span (refusalOf (c .topleft) (c .diameter)) (circle.spanStart (c .topleft) (c .diameter) y) (circle.spanEnd (c .topleft) (c .diameter) y)
+discspanOf c y = span (first (circleTests (c .topleft) (c .diameter))) (circle.spanStart (c .topleft) (c .diameter) y) (circle.spanEnd (c .topleft) (c .diameter) y)
 
 unfoldable pub discspanReply : List ℕ → ℕ → Reply
 discspanReply said at = ofTwo (λ c y. ifLast said (y .next) (spanSaid (discspanOf c (y .value)))) (nextCircle said at) (λ c. nextI32 said (c .next))

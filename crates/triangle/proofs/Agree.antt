@@ -15,8 +15,9 @@ use Rattle.geometry.specs.declared.Point.{Point}
 use Rattle.line.specs.Line.{HasPoint, hasPoint}
 use Rattle.line.proofs.Points.{has-start, has-end, has-decides}
 use Rattle.triangle.specs.Triangle.{areaDoubled, isInside, onEdge}
-use Rattle.triangle.specs.Between.{EdgePoint, Between}
+use Rattle.triangle.specs.EdgePoint.{EdgePoint}
 use Rattle.triangle.proofs.Area.{area-from-first, area-from-last, area-level}
+use Rattle.triangle.proofs.Between.{InRow}
 use Rattle.triangle.proofs.Edge.{RunOn, run-on, no-gap, edge-rows}
 use Rattle.triangle.proofs.Sides.{Flat, Inside, back-below, back-above, inside-rows, inside-decides}
 
@@ -165,11 +166,11 @@ module _ (p1 p2 p3 p : Point) (u : p1 .1 ≤ℤ p2 .1) (l : p2 .1 ≤ℤ p3 .1) 
   tall : p1 .1 <ℤ p3 .1
   tall = lt-unless not-level
 
-  between : (s e f g : Point) → ((z : ℤ) → HasPoint s e (z, p .1) → EdgePoint false p1 p2 p3 (z, p .1)) → ((z : ℤ) → HasPoint f g (z, p .1) → EdgePoint false p1 p2 p3 (z, p .1))
-      → Spanned s e f g (p .0) (p .1) → Between false p1 p2 p3 p
-  between s e f g i j h = by (h .ends)
+  in-row : (s e f g : Point) → ((z : ℤ) → HasPoint s e (z, p .1) → EdgePoint false p1 p2 p3 (z, p .1)) → ((z : ℤ) → HasPoint f g (z, p .1) → EdgePoint false p1 p2 p3 (z, p .1))
+      → Spanned s e f g (p .0) (p .1) → InRow false p1 p2 p3 p
+  in-row s e f g i j h = by (h .ends)
     where
-      by : (HasPoint s e (h .lo, p .1) × HasPoint f g (h .hi, p .1)) ⊎ (HasPoint f g (h .lo, p .1) × HasPoint s e (h .hi, p .1)) → Between false p1 p2 p3 p
+      by : (HasPoint s e (h .lo, p .1) × HasPoint f g (h .hi, p .1)) ⊎ (HasPoint f g (h .lo, p .1) × HasPoint s e (h .hi, p .1)) → InRow false p1 p2 p3 p
       by (inl q) = record { first = h .lo; last = h .hi; from = h .from; to = h .to; at-first = i (h .lo) (q .0); at-last = j (h .hi) (q .1) }
       by (inr q) = record { first = h .lo; last = h .hi; from = h .from; to = h .to; at-first = j (h .lo) (q .0); at-last = i (h .hi) (q .1) }
 
@@ -178,14 +179,14 @@ module _ (p1 p2 p3 p : Point) (u : p1 .1 ≤ℤ p2 .1) (l : p2 .1 ≤ℤ p3 .1) 
     long = run-on p1 p3 (p .1) a b
 
     -- ---- the upper half: the edges p1 to p2 and p1 to p3
-    in-upper : Upper → Inside p1 p2 p3 p → Between false p1 p2 p3 p
-    in-upper h i = between p1 p2 p1 p3 (λ z. inl) (λ z q. inr (inl q)) (spanned p1 p2 p1 p3 (p .0) (p .1) (run-on p1 p2 (p .1) a (h .0)) long (h .1) tall (sides i))
+    in-upper : Upper → Inside p1 p2 p3 p → InRow false p1 p2 p3 p
+    in-upper h i = in-row p1 p2 p1 p3 (λ z. inl) (λ z q. inr (inl q)) (spanned p1 p2 p1 p3 (p .0) (p .1) (run-on p1 p2 (p .1) a (h .0)) long (h .1) tall (sides i))
       where
         sides : Inside p1 p2 p3 p → Opposite p1 p2 p1 p3 p
         sides (inl s) = inl (s .ab, back-below p p3 p1 (s .ca))
         sides (inr s) = inr (s .ab, back-above p p3 p1 (s .ca))
 
-    out-upper : Upper → Between false p1 p2 p3 p → Inside p1 p2 p3 p ⊎ EdgePoint false p1 p2 p3 p
+    out-upper : Upper → InRow false p1 p2 p3 p → Inside p1 p2 p3 p ⊎ EdgePoint false p1 p2 p3 p
     out-upper h w =
         ⊎-elim inr (λ q. inl (inside (lt-unless (λ k. at-apex (le-antisym a k) q)) (q .sides)))
         (on-or-parted p1 p2 p1 p3 (p .0) (p .1) (run-on p1 p2 (p .1) a (h .0)) long (h .1) tall p2 p3 l meets (w .first) (w .last) (w .from) (w .to) (w .at-first) (w .at-last))
@@ -207,14 +208,14 @@ module _ (p1 p2 p3 p : Point) (u : p1 .1 ≤ℤ p2 .1) (l : p2 .1 ≤ℤ p3 .1) 
             inr (record { ab = s .0; bc = third-above _ _ _ _ _ _ (area-from-first p1 p2 p3 p) (lt-sub-pos _ _ c) (le-sub _ _ (h .0)) (le-sub _ _ b) ca (s .0); ca = ca })
 
     -- ---- the lower half: the edges p2 to p3 and p1 to p3
-    in-lower : Lower → Inside p1 p2 p3 p → Between false p1 p2 p3 p
-    in-lower h i = between p2 p3 p1 p3 (λ z q. inr (inr q)) (λ z q. inr (inl q)) (spanned p2 p3 p1 p3 (p .0) (p .1) (run-on p2 p3 (p .1) (h .0) b) long (h .1) tall (sides i))
+    in-lower : Lower → Inside p1 p2 p3 p → InRow false p1 p2 p3 p
+    in-lower h i = in-row p2 p3 p1 p3 (λ z q. inr (inr q)) (λ z q. inr (inl q)) (spanned p2 p3 p1 p3 (p .0) (p .1) (run-on p2 p3 (p .1) (h .0) b) long (h .1) tall (sides i))
       where
         sides : Inside p1 p2 p3 p → Opposite p2 p3 p1 p3 p
         sides (inl s) = inl (s .bc, back-below p p3 p1 (s .ca))
         sides (inr s) = inr (s .bc, back-above p p3 p1 (s .ca))
 
-    out-lower : Lower → Between false p1 p2 p3 p → Inside p1 p2 p3 p ⊎ EdgePoint false p1 p2 p3 p
+    out-lower : Lower → InRow false p1 p2 p3 p → Inside p1 p2 p3 p ⊎ EdgePoint false p1 p2 p3 p
     out-lower h w =
         ⊎-elim (λ q. inr (around q)) (λ q. inl (inside (lt-unless (λ k. at-apex (le-antisym k b) q)) (q .sides)))
         (on-or-parted p2 p3 p1 p3 (p .0) (p .1) (run-on p2 p3 (p .1) (h .0) b) long (h .1) tall p1 p2 u meets (w .first) (w .last) (w .from) (w .to) (around (w .at-first)) (around (w .at-last)))
@@ -240,22 +241,22 @@ module _ (p1 p2 p3 p : Point) (u : p1 .1 ≤ℤ p2 .1) (l : p2 .1 ≤ℤ p3 .1) 
             let ca = back-below p p1 p3 (s .1) in
             inr (record { ab = third-above _ _ _ _ _ _ (area-from-last p1 p2 p3 p) (lt-sub-pos _ _ c) (le-sub _ _ a) (le-sub _ _ (h .0)) (s .0) ca; bc = s .0; ca = ca })
 
-  solid-in : Inside p1 p2 p3 p ⊎ EdgePoint false p1 p2 p3 p → Between false p1 p2 p3 p
+  solid-in : Inside p1 p2 p3 p ⊎ EdgePoint false p1 p2 p3 p → InRow false p1 p2 p3 p
   solid-in (inl i) =
       let r = inside-rows p1 p2 p3 p u l solid i in
       ⊎-elim (λ h. in-upper (r .0) (r .1) h i) (λ h. in-lower (r .0) (r .1) h i) (halves (r .0) (r .1))
   solid-in (inr q) = record { first = p .0; last = p .0; from = ≤ℤ-refl (p .0); to = ≤ℤ-refl (p .0); at-first = q; at-last = q }
 
-  solid-out : Between false p1 p2 p3 p → Inside p1 p2 p3 p ⊎ EdgePoint false p1 p2 p3 p
+  solid-out : InRow false p1 p2 p3 p → Inside p1 p2 p3 p ⊎ EdgePoint false p1 p2 p3 p
   solid-out w =
       let r = edge-point-rows p1 p2 p3 u l false (w .first, p .1) (w .at-first) in
       ⊎-elim (λ h. out-upper (r .0) (r .1) h w) (λ h. out-lower (r .0) (r .1) h w) (halves (r .0) (r .1))
 
 -- ---- a triangle of zero area: the points of the line p1 to p3 have no gap on a row
-flat-in : (p1 p2 p3 p : Point) → HasPoint p1 p3 p → Between true p1 p2 p3 p
+flat-in : (p1 p2 p3 p : Point) → HasPoint p1 p3 p → InRow true p1 p2 p3 p
 flat-in p1 p2 p3 p q = record { first = p .0; last = p .0; from = ≤ℤ-refl (p .0); to = ≤ℤ-refl (p .0); at-first = q; at-last = q }
 
-flat-out : (p1 p2 p3 p : Point) → p1 .1 ≤ℤ p3 .1 → Between true p1 p2 p3 p → HasPoint p1 p3 p
+flat-out : (p1 p2 p3 p : Point) → p1 .1 ≤ℤ p3 .1 → InRow true p1 p2 p3 p → HasPoint p1 p3 p
 flat-out p1 p2 p3 p d w = no-gap p1 p3 (p .1) (w .first) (p .0) (w .last) d (w .at-first) (w .at-last) (w .from) (w .to)
 
 -- ---- containment by its tests, at sorted vertices
@@ -264,9 +265,9 @@ unfolding onEdge
 edge-decides p1 p2 p3 p =
     decides-or (hasPoint p1 p2 p) _ (has-decides p1 p2 p) (decides-or (hasPoint p1 p3 p) (hasPoint p2 p3 p) (has-decides p1 p3 p) (has-decides p2 p3 p))
 
-pub between-decides : (p1 p2 p3 p : Point) (flat : Bool) → Decides flat (Flat p1 p2 p3) → p1 .1 ≤ℤ p2 .1 → p2 .1 ≤ℤ p3 .1
-    → Decides (cond flat (hasPoint p1 p3 p) (isInside p1 p2 p3 p || onEdge p1 p2 p3 p)) (Between flat p1 p2 p3 p)
-between-decides p1 p2 p3 p true d u l = decides-map (has-decides p1 p3 p) (flat-in p1 p2 p3 p) (flat-out p1 p2 p3 p (le-trans u l))
-between-decides p1 p2 p3 p false d u l =
+pub row-decides : (p1 p2 p3 p : Point) (flat : Bool) → Decides flat (Flat p1 p2 p3) → p1 .1 ≤ℤ p2 .1 → p2 .1 ≤ℤ p3 .1
+    → Decides (cond flat (hasPoint p1 p3 p) (isInside p1 p2 p3 p || onEdge p1 p2 p3 p)) (InRow flat p1 p2 p3 p)
+row-decides p1 p2 p3 p true d u l = decides-map (has-decides p1 p3 p) (flat-in p1 p2 p3 p) (flat-out p1 p2 p3 p (le-trans u l))
+row-decides p1 p2 p3 p false d u l =
     decides-map (decides-or (isInside p1 p2 p3 p) (onEdge p1 p2 p3 p) (inside-decides p1 p2 p3 p) (edge-decides p1 p2 p3 p))
     (solid-in p1 p2 p3 p u l (d .no refl)) (solid-out p1 p2 p3 p u l (d .no refl))

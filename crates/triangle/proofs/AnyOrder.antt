@@ -1,12 +1,13 @@
 -- Any order of the vertices gives the same refusal, containment, spans and rows: two of the orders, from which the others are made. Assumes nothing.
 use mathlib.Core.Path.{_≡_, refl, ap, _∙_}
-use mathlib.Core.Bool.{Bool, true, false, cond, _&&_, _||_}
+use mathlib.Core.Bool.{Bool, true, false, cond, not, _&&_, _||_}
 use Prim.Native.Nat.{_+_}
 use lib.IntN.{ℤ, natAbs, _-ℤ_}
+use Rattle.refusals.specs.First.{first}
 use Rattle.geometry.specs.declared.Point.{Point}
 use Rattle.geometry.specs.Bound.{inBounds}
 use Rattle.line.specs.Line.{hasPoint}
-use Rattle.triangle.specs.Answer.{vertexRefusal}
+use Rattle.triangle.specs.Answer.{vertexTests}
 use Rattle.triangle.specs.Order.{sorted}
 use Rattle.triangle.specs.Triangle.{isFlat, isInside, onEdge, contained}
 use Rattle.triangle.specs.Row.{hull, edgeColumns, rowSpan, firstRow, rowCount}
@@ -15,14 +16,14 @@ use Rattle.triangle.proofs.Sides.{flat-swap, flat-turn, isInside-swap, 
 
 -- ANY ORDER of the vertices a, b, c gives the same as d, e, f
 pub record Same (a b c d e f : Point) : Type 0 where
-  pub refusal : vertexRefusal a b c ≡ vertexRefusal d e f
+  pub refusal : first (vertexTests a b c) ≡ first (vertexTests d e f)
   pub contains : (p : Point) → contained a b c p ≡ contained d e f p
   pub span : (y : ℤ) → rowSpan a b c y ≡ rowSpan d e f y
   pub first : firstRow a b c ≡ firstRow d e f
   pub count : rowCount a b c ≡ rowCount d e f
 
 -- from the same refusal, sorted vertices and tests
-same-by : (a b c d e f : Point) → vertexRefusal a b c ≡ vertexRefusal d e f → sorted a b c ≡ sorted d e f → isFlat a b c ≡ isFlat d e f → ((p : Point) → isInside a b c p ≡ isInside d e f p) → Same a b c d e f
+same-by : (a b c d e f : Point) → first (vertexTests a b c) ≡ first (vertexTests d e f) → sorted a b c ≡ sorted d e f → isFlat a b c ≡ isFlat d e f → ((p : Point) → isInside a b c p ≡ isInside d e f p) → Same a b c d e f
 unfolding contained rowSpan firstRow rowCount
 same-by a b c d e f r s z t =
     record {
@@ -52,12 +53,12 @@ and-turn false false r = refl
 
 module _ (a b c : Point) where
   pub order-bac : Same b a c a b c
-  unfolding vertexRefusal
-  order-bac = same-by b a c a b c (ap (λ (t : Bool). cond t 0 5) (and-swap (inBounds a) (inBounds b) (inBounds c))) (sorted-swap a b c) (flat-swap a b c) (isInside-swap a b c)
+  unfolding vertexTests
+  order-bac = same-by b a c a b c (ap (λ (t : Bool). cond (not t) 5 0) (and-swap (inBounds a) (inBounds b) (inBounds c))) (sorted-swap a b c) (flat-swap a b c) (isInside-swap a b c)
 
   pub order-bca : Same b c a a b c
-  unfolding vertexRefusal
-  order-bca = same-by b c a a b c (ap (λ (t : Bool). cond t 0 5) (and-turn (inBounds a) (inBounds b) (inBounds c))) (sorted-turn a b c) (flat-turn a b c) (isInside-turn a b c)
+  unfolding vertexTests
+  order-bca = same-by b c a a b c (ap (λ (t : Bool). cond (not t) 5 0) (and-turn (inBounds a) (inBounds b) (inBounds c))) (sorted-turn a b c) (flat-turn a b c) (isInside-turn a b c)
 
 module _ (a b c : Point) where
   pub order-cab : Same c a b a b c

@@ -1,7 +1,7 @@
 -- Laws of the bounding box: what is contained lies in it, so what lies beyond all three vertices is not contained; the test by the side of the first
 -- vertex; and a pixel that is not outside is in bounds, so that its areas are small. Assumes nothing.
 use mathlib.Core.Path.{_≡_, refl}
-use mathlib.Core.Bool.{Bool, true, false, _&&_, _||_, true≢false}
+use mathlib.Core.Bool.{Bool, true, false, _&&_, or-comm}
 use mathlib.Core.Logic.{_⊎_, inl, inr, ⊎-elim}
 use Prim.Native.Nat.{_≤_}
 use native.Mathlib.Omega.{arith}
@@ -9,10 +9,11 @@ use lib.IntN.{ℤ, pos, natAbs, _+ℤ_, _-ℤ_, _*ℤ_}
 use lib.Signed.{_≤ℤ_, _<ℤ_, ltZ}
 use Rattle.whole.specs.Decides.{Decides}
 use Rattle.whole.proofs.Decides.{decides-and, decides-or, decides-lt, decides-no}
-use Rattle.whole.proofs.Difference.{as-mk, mks, mk-eq, le-mk, le-nat, lt-nat, nat-le, nat-lt, sum-nat}
+use Rattle.whole.proofs.Difference.{as-mk, mks, mk-eq, le-mk, le-nat, lt-nat, nat-le, sum-nat}
 use Rattle.whole.proofs.Machine.{lt-yes}
-use Rattle.whole.proofs.Order.{le-trans, le-unless}
+use Rattle.whole.proofs.Order.{le-trans, le-unless, lt-le-lt, le-lt-lt, lt-more-le}
 use Rattle.whole.proofs.Sizes.{Sz, sizes}
+use Rattle.whole.proofs.Tests.{fails, or-false}
 use Rattle.geometry.specs.declared.Point.{Point}
 use Rattle.geometry.specs.Bound.{Coord, Bounded}
 use Rattle.geometry.proofs.Bound.{sz-coord}
@@ -20,8 +21,9 @@ use Rattle.line.specs.Line.{HasPoint}
 use Rattle.triangle.specs.declared.Sorted.{Sorted}
 use Rattle.triangle.specs.Order.{sorted}
 use Rattle.triangle.specs.Triangle.{areaDoubled, isFlat, contained}
-use Rattle.triangle.specs.Between.{EdgePoint, Between}
+use Rattle.triangle.specs.EdgePoint.{EdgePoint}
 use Rattle.triangle.specs.Box.{isBeyond, isOutside}
+use Rattle.triangle.proofs.Between.{InRow}
 use Rattle.triangle.proofs.Edge.{edge-left, edge-right, edge-top, edge-bottom}
 use Rattle.triangle.proofs.Order.{All, sorted-all}
 use Rattle.triangle.proofs.Triangle.{contained-decides}
@@ -45,7 +47,7 @@ module _ (v1 v2 v3 p : Point) (c : contained v1 v2 v3 p ≡ true) (z : ℤ) wher
   abbrev t : Sorted
   t = sorted v1 v2 v3
 
-  in-row : Between (isFlat v1 v2 v3) (t .p1) (t .p2) (t .p3) p
+  in-row : InRow (isFlat v1 v2 v3) (t .p1) (t .p2) (t .p3) p
   in-row = contained-decides v1 v2 v3 p .yes c
 
   -- the row's first and last edge point
@@ -75,14 +77,10 @@ module _ (v1 v2 v3 p : Point) (c : contained v1 v2 v3 p ≡ true) (z : ℤ) wher
 not-both : (x a : ℤ) → ltZ x a ≡ true → ltZ a x ≡ false
 not-both x a h = let k : x <ℤ a = lt-yes h in decides-no (decides-lt a x) (λ l. omega (arith, lt-nat l, lt-nat k))
 
-or-false : (s : Bool) → (s || false) ≡ s
-or-false true = refl
-or-false false = refl
-
 module _ (x a b c : ℤ) where
   pub beyond-before : ltZ x a ≡ true → isBeyond x a b c ≡ (ltZ x b && ltZ x c)
   unfolding isBeyond
-  beyond-before h = rw (h, not-both x a h) (or-false (ltZ x b && ltZ x c))
+  beyond-before h = rw (h, not-both x a h) (or-comm (ltZ x b && ltZ x c) false)
 
   pub beyond-after : ltZ a x ≡ true → isBeyond x a b c ≡ (ltZ b x && ltZ c x)
   unfolding isBeyond
@@ -101,13 +99,6 @@ module _ (x a b c : ℤ) where
       (decides-and (ltZ a x) _ (decides-lt a x) (decides-and (ltZ b x) (ltZ c x) (decides-lt b x) (decides-lt c x)))
 
 -- ---- what lies outside is not contained
-no-if : (s : Bool) → (s ≡ true → ⊥) → s ≡ false
-no-if true n = absurd (n refl)
-no-if false n = refl
-
-next-le : {x y : ℤ} → x <ℤ y → (x +ℤ pos 1) ≤ℤ y
-next-le {x} {y} h = nat-le (omega (arith, lt-nat h, sum-nat (x +ℤ pos 1) x 1 refl))
-
 le-last : {x y : ℤ} → y <ℤ x → y ≤ℤ (x -ℤ pos 1)
 le-last {x} {y} h = nat-le (omega (arith, lt-nat h, sum-nat x (x -ℤ pos 1) 1 (back x)))
   where
@@ -116,12 +107,12 @@ le-last {x} {y} h = nat-le (omega (arith, lt-nat h, sum-nat x (x -ℤ pos 1) 1 (
 
 pub outside-not : (v1 v2 v3 p : Point) → isOutside v1 v2 v3 p ≡ true → contained v1 v2 v3 p ≡ false
 outside-not v1 v2 v3 p h =
-    no-if (contained v1 v2 v3 p)
+    fails (contained v1 v2 v3 p)
     (λ c.
     ⊎-elim
-    (⊎-elim (λ q. not-after (p .0) (box-left v1 v2 v3 p c (p .0 +ℤ pos 1) (next-le (q .0)) (next-le (q .1 .0)) (next-le (q .1 .1))))
+    (⊎-elim (λ q. not-after (p .0) (box-left v1 v2 v3 p c (p .0 +ℤ pos 1) (lt-more-le (q .0)) (lt-more-le (q .1 .0)) (lt-more-le (q .1 .1))))
     (λ q. not-before (p .0) (box-right v1 v2 v3 p c (p .0 -ℤ pos 1) (le-last (q .0)) (le-last (q .1 .0)) (le-last (q .1 .1)))))
-    (⊎-elim (λ q. not-after (p .1) (box-top v1 v2 v3 p c (p .1 +ℤ pos 1) (next-le (q .0)) (next-le (q .1 .0)) (next-le (q .1 .1))))
+    (⊎-elim (λ q. not-after (p .1) (box-top v1 v2 v3 p c (p .1 +ℤ pos 1) (lt-more-le (q .0)) (lt-more-le (q .1 .0)) (lt-more-le (q .1 .1))))
     (λ q. not-before (p .1) (box-bottom v1 v2 v3 p c (p .1 -ℤ pos 1) (le-last (q .0)) (le-last (q .1 .0)) (le-last (q .1 .1)))))
     (decides-or _ _ (beyond-decides (p .0) (v1 .0) (v2 .0) (v3 .0)) (beyond-decides (p .1) (v1 .1) (v2 .1) (v3 .1)) .yes h))
   where
@@ -139,27 +130,11 @@ not-beyond x a b c h ha hb hc =
       low = le-unless (λ k. n (inl (lt-le-lt k (ha .low), (lt-le-lt k (hb .low), lt-le-lt k (hc .low)))));
       high = le-unless (λ k. n (inr (le-lt-lt (ha .high) k, (le-lt-lt (hb .high) k, le-lt-lt (hc .high) k))));
     }
-  where
-    lt-le-lt : {x y z : ℤ} → x <ℤ y → y ≤ℤ z → x <ℤ z
-    lt-le-lt {x} {y} {z} k l = nat-lt (omega (arith, lt-nat k, le-nat l))
-
-    le-lt-lt : {x y z : ℤ} → x ≤ℤ y → y <ℤ z → x <ℤ z
-    le-lt-lt {x} {y} {z} k l = nat-lt (omega (arith, le-nat k, lt-nat l))
-
-or-left : (s t : Bool) → (s || t) ≡ false → s ≡ false
-or-left true t h = h
-or-left false t h = refl
-
-or-right : (s t : Bool) → (s || t) ≡ false → t ≡ false
-or-right true t h = absurd (true≢false h)
-or-right false t h = h
 
 pub not-outside : (v1 v2 v3 p : Point) → isOutside v1 v2 v3 p ≡ false → Bounded v1 → Bounded v2 → Bounded v3 → Bounded p
 not-outside v1 v2 v3 p h h1 h2 h3 =
-    record {
-      x = not-beyond (p .0) (v1 .0) (v2 .0) (v3 .0) (or-left (isBeyond (p .0) (v1 .0) (v2 .0) (v3 .0)) (isBeyond (p .1) (v1 .1) (v2 .1) (v3 .1)) h) (h1 .x) (h2 .x) (h3 .x);
-      y = not-beyond (p .1) (v1 .1) (v2 .1) (v3 .1) (or-right (isBeyond (p .0) (v1 .0) (v2 .0) (v3 .0)) (isBeyond (p .1) (v1 .1) (v2 .1) (v3 .1)) h) (h1 .y) (h2 .y) (h3 .y);
-    }
+    let n = or-false (isBeyond (p .0) (v1 .0) (v2 .0) (v3 .0)) (isBeyond (p .1) (v1 .1) (v2 .1) (v3 .1)) h in
+    record { x = not-beyond (p .0) (v1 .0) (v2 .0) (v3 .0) (n .0) (h1 .x) (h2 .x) (h3 .x); y = not-beyond (p .1) (v1 .1) (v2 .1) (v3 .1) (n .1) (h1 .y) (h2 .y) (h3 .y) }
 
 -- so its areas are small
 pub area-size : (p a b : Point) → Bounded p → Bounded a → Bounded b → natAbs (areaDoubled p a b) ≤ 549755813888

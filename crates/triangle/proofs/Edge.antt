@@ -1,8 +1,8 @@
 -- What a triangle's edges give: a point of an edge lies in the box of its ends, each row of an edge that runs down has a run of points, points of
 -- one row have no gap between them, and rows along such an edge never go up. Assumes nothing.
 use mathlib.Core.Path.{_≡_, refl, sym, ap, _∙_}
-use mathlib.Core.Bool.{Bool, true, false}
-use Prim.Native.Nat.{ℕ, _+_, _*_, _≤_, _<_}
+use mathlib.Core.Bool.{Bool, true, false, cond}
+use Prim.Native.Nat.{ℕ, _≤_}
 use native.Mathlib.Omega.{arith}
 use lib.IntN.{ℤ, pos, negℤ, natAbs, _+ℤ_, _-ℤ_, _*ℤ_}
 use lib.Signed.{_≤ℤ_, _<ℤ_, leZ, ≤ℤ-refl}
@@ -91,11 +91,18 @@ module _ (s e : Point) (y : ℤ) (a : s .1 ≤ℤ y) (b : y ≤ℤ e .1) where
   pub edge-offsets : Offsets (wide s e) (high s e) v (firstOffset (wide s e) (high s e) v) (lastOffset (wide s e) (high s e) v)
   edge-offsets = offsets (wide s e) (high s e) v edge-row
 
-  pub edge-run-right : leZ (s .0) (e .0) ≡ true → Run s e y (s .0 +ℤ pos (firstOffset (wide s e) (high s e) v)) (s .0 +ℤ pos (lastOffset (wide s e) (high s e) v))
-  edge-run-right h = run-right s e y v _ _ (le-trans a b) (moves-to (s .1) y a) edge-offsets h
-
-  pub edge-run-left : leZ (s .0) (e .0) ≡ false → Run s e y (s .0 -ℤ pos (lastOffset (wide s e) (high s e) v)) (s .0 -ℤ pos (firstOffset (wide s e) (high s e) v))
-  edge-run-left h = run-left s e y v _ _ (le-trans a b) (moves-to (s .1) y a) edge-offsets h
+  -- counted from the start, towards the end
+  pub edge-run : Run s e y
+      (s .0 +ℤ cond (leZ (s .0) (e .0)) (pos (firstOffset (wide s e) (high s e) v)) (negℤ (pos (lastOffset (wide s e) (high s e) v))))
+      (s .0 +ℤ cond (leZ (s .0) (e .0)) (pos (lastOffset (wide s e) (high s e) v)) (negℤ (pos (firstOffset (wide s e) (high s e) v))))
+  edge-run = by (leZ (s .0) (e .0)) refl
+    where
+      by : (t : Bool) → leZ (s .0) (e .0) ≡ t
+          → Run s e y
+          (s .0 +ℤ cond t (pos (firstOffset (wide s e) (high s e) v)) (negℤ (pos (lastOffset (wide s e) (high s e) v))))
+          (s .0 +ℤ cond t (pos (lastOffset (wide s e) (high s e) v)) (negℤ (pos (firstOffset (wide s e) (high s e) v))))
+      by true h = run-right s e y v _ _ (le-trans a b) (moves-to (s .1) y a) edge-offsets h
+      by false h = run-left s e y v _ _ (le-trans a b) (moves-to (s .1) y a) edge-offsets h
 
 pub record RunOn (s e : Point) (y : ℤ) : Type 0 where
   pub lo : ℤ
@@ -103,11 +110,7 @@ pub record RunOn (s e : Point) (y : ℤ) : Type 0 where
   pub run : Run s e y lo hi
 
 pub run-on : (s e : Point) (y : ℤ) → s .1 ≤ℤ y → y ≤ℤ e .1 → RunOn s e y
-run-on s e y a b = by (leZ (s .0) (e .0)) refl
-  where
-    by : (t : Bool) → leZ (s .0) (e .0) ≡ t → RunOn s e y
-    by true h = record { lo = _; hi = _; run = edge-run-right s e y a b h }
-    by false h = record { lo = _; hi = _; run = edge-run-left s e y a b h }
+run-on s e y a b = record { lo = _; hi = _; run = edge-run s e y a b }
 
 -- between two points of one row there is no gap
 pub no-gap : (s e : Point) (y a x b : ℤ) → s .1 ≤ℤ e .1 → HasPoint s e (a, y) → HasPoint s e (b, y) → a ≤ℤ x → x ≤ℤ b → HasPoint s e (x, y)

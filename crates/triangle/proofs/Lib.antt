@@ -4,6 +4,7 @@ pub mod Run
 pub mod Edge
 pub mod Order
 pub mod Sides
+pub mod Between
 pub mod Agree
 pub mod Spans
 pub mod Triangle

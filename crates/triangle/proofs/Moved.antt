@@ -11,17 +11,17 @@ use Rattle.whole.proofs.Decides.{decides-map, decides-one}
 use Rattle.whole.proofs.Difference.{as-mk, mks, mk-eq}
 use Rattle.whole.proofs.Order.{le-move, move-le, lt-move, move-lt, move-eq}
 use Rattle.geometry.specs.declared.Point.{Point}
-use Rattle.geometry.specs.Place.{moved}
+use Rattle.geometry.specs.Place.{before, moved}
 use Rattle.line.specs.Line.{HasPoint, hasPoint}
 use Rattle.line.proofs.Points.{major-moved, point-moved, has-moved, has-decides}
 use Rattle.triangle.specs.declared.Sorted.{Sorted}
 use Rattle.triangle.specs.declared.Columns.{Columns}
-use Rattle.triangle.specs.Order.{before, three, placed, sorted}
+use Rattle.geometry.proofs.Place.{Before, before-decides}
+use Rattle.triangle.specs.Order.{three, placed, sorted}
 use Rattle.triangle.specs.Triangle.{noneBelow, noneAbove, isFlat, isInside, onEdge, contained}
-use Rattle.triangle.specs.Between.{EdgePoint}
+use Rattle.triangle.specs.EdgePoint.{EdgePoint}
 use Rattle.triangle.specs.Row.{rowSpan}
 use Rattle.triangle.proofs.Area.{area-moved}
-use Rattle.triangle.proofs.Order.{Before, before-decides}
 use Rattle.triangle.proofs.Spans.{Bounds, Spans, span-one}
 use Rattle.triangle.proofs.Triangle.{row-spans, row-bounds}
 

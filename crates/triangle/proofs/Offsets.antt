@@ -11,7 +11,7 @@ use native.Mathlib.Omega.{arith}
 use borrow.Author.Tests.{le-leb, lt-leb, leb-true, leb-false, eqb-true, eqb-false}
 use lib.Dec.{leb, eqb}
 use Rattle.line.specs.Line.{moves}
-use Rattle.triangle.specs.Offsets.{reach, start, firstOffset, lastOffset}
+use Rattle.triangle.specs.Offsets.{reach, reachFrom, firstOffset, lastOffset}
 use Rattle.line.proofs.Moves.{Band, moves-band, moves-is, moves-minor, moves-none}
 use Rattle.line.proofs.Closed.{OnLine}
 
@@ -68,8 +68,8 @@ reaches w h v t p = (
   λ l. le-div-iff-mul-le {k = 2 * h} {x = t} {y = (2 * v + 1) * w} (omega arith) .1 (omega arith),
 )
 
-firsts : (w h v t : ℕ) → 0 < h → 0 < w → (start w h v ≤ t) ↔ (2 * w * v ≤ 2 * h * t + (w - 1))
-unfolding start
+firsts : (w h v t : ℕ) → 0 < h → 0 < w → (reachFrom w h v ≤ t) ↔ (2 * w * v ≤ 2 * h * t + (w - 1))
+unfolding reachFrom
 firsts w h zero t p q = (λ l. omega arith, λ l. omega arith)
 firsts w h (suc v) t p q = (
   λ l. let n : ¬ (2 * h * t ≤ 2 * w * v + w) = λ s. omega (arith, reaches w h v t p .1 s) in omega arith,
@@ -77,21 +77,21 @@ firsts w h (suc v) t p q = (
 )
 
 -- a row has an offset
-some-reach : (w h v : ℕ) → 0 < h → h < w → start w h v ≤ reach w h v
-unfolding start
+some-reach : (w h v : ℕ) → 0 < h → h < w → reachFrom w h v ≤ reach w h v
+unfolding reachFrom
 some-reach w h zero p s = omega arith
 some-reach w h (suc v) p s = reaches w h (suc v) (reach w h v + 1) p .1 (omega (arith, reaches w h v (reach w h v) p .0 (omega arith)))
 
 module _ (w h v : ℕ) (p : 0 < h) (s : h < w) (r : v ≤ h) where
-  low-on : (t : ℕ) → OnLine false w h t v ↔ ((start w h v ≤ t) × (t ≤ min w (reach w h v)))
+  low-on : (t : ℕ) → OnLine false w h t v ↔ ((reachFrom w h v ≤ t) × (t ≤ min w (reach w h v)))
   low-on t = (to, from)
     where
-      to : OnLine false w h t v → (start w h v ≤ t) × (t ≤ min w (reach w h v))
+      to : OnLine false w h t v → (reachFrom w h v ≤ t) × (t ≤ min w (reach w h v))
       to o =
           let b : Band w h t v = subst (λ (n : ℕ). Band w h t n) (sym (o .1)) (moves-band w h t (omega arith) (o .0)) in
           (firsts w h v t p (omega arith) .1 (b .low), omega (arith, o .0, reaches w h v t p .1 (b .high)))
 
-      from : (start w h v ≤ t) × (t ≤ min w (reach w h v)) → OnLine false w h t v
+      from : (reachFrom w h v ≤ t) × (t ≤ min w (reach w h v)) → OnLine false w h t v
       from g =
           let b : Band w h t v = record { low = firsts w h v t p (omega arith) .0 (g .0); high = reaches w h v t p .0 (omega (arith, g .1)) } in
           let n : ¬ (t < v) = λ l. omega (arith, b .low, mul-le-mul-left w l, mul-le-mul-right t s) in
@@ -101,24 +101,24 @@ module _ (w h v : ℕ) (p : 0 < h) (s : h < w) (r : v ≤ h) where
   low-past t (yes l) g = omega (arith, mul-le-mul-left w r, mul-le-mul-left h l)
   low-past t (no l) g = let n : ¬ (2 * h * t ≤ 2 * w * v + w) = λ k. omega (arith, reaches w h v t p .1 k) in omega arith
 
-  pub low : Offsets w h v (start w h v) (min w (reach w h v))
+  pub low : Offsets w h v (reachFrom w h v) (min w (reach w h v))
   low =
       record {
         some = omega (arith, some-reach w h v p s, firsts w h v w p (omega arith) .1 (omega (arith, mul-le-mul-left w r)));
         wide = omega arith;
-        on = λ t. subst (λ (q : Bool). OnLine q w h t v ↔ ((start w h v ≤ t) × (t ≤ min w (reach w h v)))) (sym (lt-leb w h s)) (low-on t);
+        on = λ t. subst (λ (q : Bool). OnLine q w h t v ↔ ((reachFrom w h v ≤ t) × (t ≤ min w (reach w h v)))) (sym (lt-leb w h s)) (low-on t);
         before = λ t l. let n : ¬ (2 * w * v ≤ 2 * h * t + (w - 1)) = λ g. omega (arith, firsts w h v t p (omega arith) .1 g) in omega arith;
         past = λ q t l. low-past t (decLt w t) l;
       }
 
 -- as the code works out the first
-pub start-past : (w h v : ℕ) → 0 < v → reach w h (v - 1) + 1 ≡ start w h v
-unfolding start
-start-past w h zero p = absurd (omega arith)
-start-past w h (suc v) p = ap (λ (n : ℕ). reach w h n + 1) (omega arith)
+pub from-past : (w h v : ℕ) → 0 < v → reach w h (v - 1) + 1 ≡ reachFrom w h v
+unfolding reachFrom
+from-past w h zero p = absurd (omega arith)
+from-past w h (suc v) p = ap (λ (n : ℕ). reach w h n + 1) (omega arith)
 
-pub start-wide : (w h v : ℕ) → 0 < h → h < w → v ≤ h → start w h v ≤ w
-start-wide w h v p s r = let o = low w h v p s r in omega (arith, o .some, o .wide)
+pub from-wide : (w h v : ℕ) → 0 < h → h < w → v ≤ h → reachFrom w h v ≤ w
+from-wide w h v p s r = let o = low w h v p s r in omega (arith, o .some, o .wide)
 
 -- ---- any edge
 pub offsets : (w h v : ℕ) → v ≤ h → Offsets w h v (firstOffset w h v) (lastOffset w h v)
@@ -126,7 +126,7 @@ unfolding firstOffset lastOffset
 offsets w h v r = by (eqb h 0) (leb w h) (eqb-true h 0) (eqb-false h 0) (leb-true w h) (leb-false w h)
   where
     by : (s t : Bool) → (s ≡ true → h ≡ 0) → (s ≡ false → h ≡ 0 → ⊥) → (t ≡ true → w ≤ h) → (t ≡ false → h < w)
-        → Offsets w h v (cond s 0 (cond t (moves h w v) (start w h v))) (cond s w (cond t (moves h w v) (min w (reach w h v))))
+        → Offsets w h v (cond s 0 (cond t (moves h w v) (reachFrom w h v))) (cond s w (cond t (moves h w v) (min w (reach w h v))))
     by true t f g p q = let e = f refl in subst (λ (n : ℕ). Offsets w n v 0 w) (sym e) (subst (λ (n : ℕ). Offsets w 0 n 0 w) (omega arith) (level w))
     by false true f g p q = steep w h v (p refl) r
     by false false f g p q = let n = g refl in low w h v (omega arith) (q refl) r

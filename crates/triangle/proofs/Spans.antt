@@ -1,25 +1,27 @@
 -- Laws of spans: a span of columns runs from the smallest to one past the largest, or is 0 to 0 where there are none; there is one such span; the span of
 -- two sets of columns is that of both joined; and a row's span, as it is defined, is the span of the edge points on the row. Assumes nothing.
-use mathlib.Core.Path.{_≡_, refl, sym, ap, _∙_}
+use mathlib.Core.Path.{_≡_, refl, sym, ap, subst, _∙_}
 use mathlib.Core.Bool.{Bool, true, false, cond}
 use mathlib.Core.List.{List, [], _∷_, _++_, List·Memᴰ, List·Memᴰ·head, List·Memᴰ·tail, List·Memᴰ·not-nil, List·Memᴰ·cases-cons, List·Memᴰ·append-cases, Memᴰ·append-left, Memᴰ·append-right}
 use mathlib.Core.Logic.{_⊎_, inl, inr, ⊎-elim}
-use Prim.Native.Nat.{ℕ, zero, suc, _+_, _≤_, _<_}
+use Prim.Native.Nat.{ℕ, zero, suc, _<_}
 use native.Mathlib.Decide.{decLt}
 use native.Mathlib.Omega.{arith}
 use lib.IntN.{ℤ, pos, _+ℤ_}
-use lib.Signed.{_≤ℤ_, _<ℤ_, leZ, ltZ, ≤ℤ-refl}
+use lib.Signed.{_≤ℤ_, _<ℤ_, ≤ℤ-refl}
 use Rattle.whole.specs.Decides.{Decides}
 use Rattle.whole.specs.Equal.{eqZ}
-use Rattle.whole.proofs.Decides.{decides-map, decides-and, decides-le, decides-lt, decides-eq, decides-no}
+use Rattle.whole.proofs.Decides.{decides-map, decides-between, decides-eq, decides-no}
 use Rattle.whole.proofs.Difference.{le-nat, lt-nat, eq-nat, nat-le, nat-lt, sum-nat}
-use Rattle.whole.proofs.Machine.{le-yes, le-no}
-use Rattle.whole.proofs.Order.{le-trans, le-antisym, lt-le}
+use Rattle.whole.proofs.Order.{le-trans, le-antisym, lt-le-lt}
 use Rattle.geometry.specs.declared.Point.{Point}
+use Rattle.geometry.specs.Extreme.{lesser, greater}
+use Rattle.geometry.proofs.Extreme.{InOrder, in-order}
 use Rattle.line.specs.Line.{pointAt, points, HasPoint}
 use Rattle.triangle.specs.declared.Columns.{Columns}
 use Rattle.triangle.proofs.Run.{Run}
-use Rattle.triangle.specs.Row.{extended, hull, inSpan, columnsTo, columns}
+use Rattle.triangle.proofs.Between.{Between}
+use Rattle.triangle.specs.Row.{extended, hull, inSpan, columnsTo, lineColumns}
 
 -- ---- the span of the columns E
 pub record Bounds (E : ℤ → Type 0) (s : Columns) : Type 0 where
@@ -50,44 +52,25 @@ span-map E F s f g (inl b) =
     inl (record { last = b .last; past = b .past; at-first = f (s .0) (b .at-first); at-last = f (b .last) (b .at-last); least = λ x q. b .least x (g x q); largest = λ x q. b .largest x (g x q) })
 span-map E F s f g (inr n) = inr (n .0, λ x q. n .1 x (g x q))
 
--- a column is in the span exactly if it lies between two of E
-pub record Hull (E : ℤ → Type 0) (x : ℤ) : Type 0 where
-  pub first : ℤ
-  pub last : ℤ
-  pub from : first ≤ℤ x
-  pub to : x ≤ℤ last
-  pub at-first : E first
-  pub at-last : E last
-
 before-past : (x z y : ℤ) → z ≡ y +ℤ pos 1 → x ≤ℤ y → x <ℤ z
 before-past x z y e h = nat-lt (omega (arith, le-nat h, sum-nat z y 1 e))
 
 past-before : (x z y : ℤ) → z ≡ y +ℤ pos 1 → x <ℤ z → x ≤ℤ y
 past-before x z y e h = nat-le (omega (arith, lt-nat h, sum-nat z y 1 e))
 
-pub hull-decides : (E : ℤ → Type 0) (s : Columns) (x : ℤ) → Spans E s → Decides (inSpan s x) (Hull E x)
-hull-decides E s x b = decides-map (decides-and (leZ (s .0) x) (ltZ x (s .1)) (decides-le (s .0) x) (decides-lt x (s .1))) (to b) (from b)
+-- a column is in the span exactly if it lies between two of E
+pub span-decides : (E : ℤ → Type 0) (s : Columns) (x : ℤ) → Spans E s → Decides (inSpan s x) (Between E x)
+span-decides E s x b = decides-map (decides-between (s .0) (s .1) x) (to b) (from b)
   where
-    to : Spans E s → (s .0 ≤ℤ x) × (x <ℤ s .1) → Hull E x
+    to : Spans E s → (s .0 ≤ℤ x) × (x <ℤ s .1) → Between E x
     to (inl b) h = record { first = s .0; last = b .last; from = h .0; to = past-before x (s .1) (b .last) (b .past) (h .1); at-first = b .at-first; at-last = b .at-last }
     to (inr n) h = absurd (omega (arith, le-nat (h .0), lt-nat (h .1), eq-nat (ap (λ (c : Columns). c .0) (n .0)), eq-nat (ap (λ (c : Columns). c .1) (n .0))))
 
-    from : Spans E s → Hull E x → (s .0 ≤ℤ x) × (x <ℤ s .1)
+    from : Spans E s → Between E x → (s .0 ≤ℤ x) × (x <ℤ s .1)
     from (inl b) h = (le-trans (b .least (h .first) (h .at-first)) (h .from), before-past x (s .1) (b .last) (b .past) (le-trans (h .to) (b .largest (h .last) (h .at-last))))
     from (inr n) h = absurd (n .1 (h .first) (h .at-first))
 
 -- ---- two spans joined
--- the smaller of two least, and the larger of two largest
-record Least (E : ℤ → Type 0) (a : ℤ) : Type 0 where
-  at : E a
-  least : (x : ℤ) → E x → a ≤ℤ x
-
-record Past (E : ℤ → Type 0) (b : ℤ) : Type 0 where
-  last : ℤ
-  past : b ≡ last +ℤ pos 1
-  at : E last
-  largest : (x : ℤ) → E x → x ≤ℤ last
-
 full : (E : ℤ → Type 0) (s : Columns) → Bounds E s → eqZ (s .0) (s .1) ≡ false
 full E s b = decides-no (decides-eq (s .0) (s .1)) (λ e. omega (arith, eq-nat e, lt-nat (before-past (s .0) (s .1) (b .last) (b .past) (b .least (b .last) (b .at-last)))))
 
@@ -99,23 +82,34 @@ module _ (E F : ℤ → Type 0) (s t : Columns) where
   Both x = E x ⊎ F x
 
   module _ (a : Bounds E s) (b : Bounds F t) where
-    join-first : (p : Bool) → (p ≡ true → s .0 ≤ℤ t .0) → (p ≡ false → t .0 <ℤ s .0) → Least Both (cond p (s .0) (t .0))
-    join-first true f g = record { at = inl (a .at-first); least = λ x. ⊎-elim (a .least x) (λ q. le-trans (f refl) (b .least x q)) }
-    join-first false f g = record { at = inr (b .at-first); least = λ x. ⊎-elim (λ q. le-trans (lt-le (g refl)) (a .least x q)) (b .least x) }
+    join-both : Bounds Both (lesser (s .0) (t .0), greater (s .1) (t .1))
+    join-both = by (past .high-is)
+      where
+        first : InOrder (s .0) (t .0) (lesser (s .0) (t .0)) (greater (s .0) (t .0))
+        first = in-order (s .0) (t .0)
 
-    join-last : (p : Bool) → (p ≡ true → s .1 ≤ℤ t .1) → (p ≡ false → t .1 <ℤ s .1) → Past Both (cond p (t .1) (s .1))
-    join-last true f g =
-        let l : a .last ≤ℤ b .last = nat-le (omega (arith, le-nat (f refl), sum-nat (s .1) (a .last) 1 (a .past), sum-nat (t .1) (b .last) 1 (b .past))) in
-        record { last = b .last; past = b .past; at = inr (b .at-last); largest = λ x. ⊎-elim (λ q. le-trans (a .largest x q) l) (b .largest x) }
-    join-last false f g =
-        let l : b .last ≤ℤ a .last = nat-le (omega (arith, lt-nat (g refl), sum-nat (s .1) (a .last) 1 (a .past), sum-nat (t .1) (b .last) 1 (b .past))) in
-        record { last = a .last; past = a .past; at = inl (a .at-last); largest = λ x. ⊎-elim (a .largest x) (λ q. le-trans (b .largest x q) l) }
+        past : InOrder (s .1) (t .1) (lesser (s .1) (t .1)) (greater (s .1) (t .1))
+        past = in-order (s .1) (t .1)
 
-    join-both : Bounds Both (cond (leZ (s .0) (t .0)) (s .0) (t .0), cond (leZ (s .1) (t .1)) (t .1) (s .1))
-    join-both =
-        let f = join-first (leZ (s .0) (t .0)) le-yes le-no in
-        let l = join-last (leZ (s .1) (t .1)) le-yes le-no in
-        record { last = l .last; past = l .past; at-first = f .at; at-last = l .at; least = f .least; largest = l .largest }
+        -- every column is before the greater end
+        below : (x : ℤ) → Both x → x <ℤ greater (s .1) (t .1)
+        below x (inl q) = lt-le-lt (before-past x (s .1) (a .last) (a .past) (a .largest x q)) (past .to-first)
+        below x (inr q) = lt-le-lt (before-past x (t .1) (b .last) (b .past) (b .largest x q)) (past .to-second)
+
+        over : (z : ℤ) → greater (s .1) (t .1) ≡ z +ℤ pos 1 → Both z → Bounds Both (lesser (s .0) (t .0), greater (s .1) (t .1))
+        over z e q =
+            record {
+              last = z;
+              past = e;
+              at-first = ⊎-elim (λ h. inl (subst E (sym h) (a .at-first))) (λ h. inr (subst F (sym h) (b .at-first))) (first .low-is);
+              at-last = q;
+              least = λ x. ⊎-elim (λ h. le-trans (first .from-first) (a .least x h)) (λ h. le-trans (first .from-second) (b .least x h));
+              largest = λ x h. past-before x (greater (s .1) (t .1)) z e (below x h);
+            }
+
+        by : (greater (s .1) (t .1) ≡ s .1) ⊎ (greater (s .1) (t .1) ≡ t .1) → Bounds Both (lesser (s .0) (t .0), greater (s .1) (t .1))
+        by (inl e) = over (a .last) (e ∙ a .past) (inl (a .at-last))
+        by (inr e) = over (b .last) (e ∙ b .past) (inr (b .at-last))
 
   pub join-spans : Spans E s → Spans F t → Spans Both (extended s t)
   unfolding extended
@@ -173,23 +167,23 @@ module _ (f : ℕ → Point) (x y : ℤ) where
       by false d fewer (no l) = absurd (d .no refl (ap (λ (p : Point). p .1) (sym (here l))))
 
 module _ (s e : Point) (x y : ℤ) where
-  pub column-has : List·Memᴰ x (columns s e y) → HasPoint s e (x, y)
-  unfolding columns
+  pub column-has : List·Memᴰ x (lineColumns s e y) → HasPoint s e (x, y)
+  unfolding lineColumns
   column-has m = let q = listed (pointAt s e) x y (points s e) m in record { step = q .k; walked = omega (arith, q .below); here = q .here }
 
-  pub has-column : HasPoint s e (x, y) → List·Memᴰ x (columns s e y)
-  unfolding columns
+  pub has-column : HasPoint s e (x, y) → List·Memᴰ x (lineColumns s e y)
+  unfolding lineColumns
   has-column h = lists (pointAt s e) x y (points s e) (record { k = h .step; below = omega (arith, h .walked); here = h .here })
 
 -- the span of a line's points on a row
-pub line-spans : (s e : Point) (y : ℤ) → Spans (λ x. HasPoint s e (x, y)) (hull (columns s e y))
-line-spans s e y = span-map (λ x. List·Memᴰ x (columns s e y)) (λ x. HasPoint s e (x, y)) _ (λ x. column-has s e x y) (λ x. has-column s e x y) (list-spans (columns s e y))
+pub line-spans : (s e : Point) (y : ℤ) → Spans (λ x. HasPoint s e (x, y)) (hull (lineColumns s e y))
+line-spans s e y = span-map (λ x. List·Memᴰ x (lineColumns s e y)) (λ x. HasPoint s e (x, y)) _ (λ x. column-has s e x y) (λ x. has-column s e x y) (list-spans (lineColumns s e y))
 
 -- it is the run, or there is none
-pub run-span : (s e : Point) (y lo hi : ℤ) → Run s e y lo hi → hull (columns s e y) ≡ (lo, hi +ℤ pos 1)
+pub run-span : (s e : Point) (y lo hi : ℤ) → Run s e y lo hi → hull (lineColumns s e y) ≡ (lo, hi +ℤ pos 1)
 run-span s e y lo hi r =
     span-one (λ x. HasPoint s e (x, y)) _ _ (line-spans s e y)
     (inl (record { last = hi; past = refl; at-first = r .on lo (≤ℤ-refl lo) (r .some); at-last = r .on hi (r .some) (≤ℤ-refl hi); least = λ x q. r .has x q .0; largest = λ x q. r .has x q .1 }))
 
-pub no-span : (s e : Point) (y : ℤ) → ((x : ℤ) → HasPoint s e (x, y) → ⊥) → hull (columns s e y) ≡ (pos 0, pos 0)
+pub no-span : (s e : Point) (y : ℤ) → ((x : ℤ) → HasPoint s e (x, y) → ⊥) → hull (lineColumns s e y) ≡ (pos 0, pos 0)
 no-span s e y n = span-one (λ x. HasPoint s e (x, y)) _ _ (line-spans s e y) (inr (refl, n))

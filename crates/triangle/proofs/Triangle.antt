@@ -3,27 +3,29 @@
 use mathlib.Core.Path.{_≡_, ap, _∙_}
 use mathlib.Core.Bool.{Bool, true, false, cond, _||_}
 use mathlib.Core.List.{List·Memᴰ, List·Memᴰ·append-cases, Memᴰ·append-left, Memᴰ·append-right}
-use mathlib.Core.Logic.{_⊎_, inl, inr, ⊎-elim}
-use Prim.Native.Nat.{ℕ, _+_, _≤_, _<_}
+use mathlib.Core.Logic.{inl, inr, ⊎-elim}
+use Prim.Native.Nat.{ℕ, _+_}
 use native.Mathlib.Omega.{arith}
 use lib.IntN.{ℤ, pos, natAbs, _+ℤ_, _-ℤ_}
 use lib.Signed.{_≤ℤ_, _<ℤ_, ≤ℤ-refl}
 use Rattle.whole.specs.Decides.{Decides}
-use Rattle.whole.proofs.Decides.{decides-map, decides-at, decides-one, decides-yes, decides-no}
+use Rattle.whole.proofs.Decides.{decides-at, decides-one}
 use Rattle.whole.proofs.Difference.{as-mk, mks, mk-eq, le-nat, nat-lt, sum-nat}
 use Rattle.whole.proofs.Order.{le-trans}
 use Rattle.geometry.specs.declared.Point.{Point}
+use Rattle.geometry.proofs.Place.{before-rows}
 use Rattle.line.specs.Line.{HasPoint, hasPoint}
 use Rattle.triangle.specs.Order.{sorted}
-use Rattle.triangle.specs.Triangle.{areaDoubled, noneBelow, noneAbove, isFlat, isInside, onEdge, contained}
-use Rattle.triangle.specs.Between.{EdgePoint, Between}
-use Rattle.triangle.specs.Row.{hull, inSpan, columns, edgeColumns, rowSpan, firstRow, rowCount}
+use Rattle.triangle.specs.Triangle.{isFlat, isInside, onEdge, contained}
+use Rattle.triangle.specs.EdgePoint.{EdgePoint}
+use Rattle.triangle.specs.Row.{hull, inSpan, lineColumns, edgeColumns, rowSpan, firstRow, rowCount}
 use Rattle.triangle.proofs.Run.{moves-to}
 use Rattle.triangle.proofs.Edge.{run-on}
-use Rattle.triangle.proofs.Order.{before-rows, sorted-ordered, sorted-same}
-use Rattle.triangle.proofs.Sides.{Flat, flat-decides, flat-swap, flat-turn, isInside-swap, isInside-turn}
-use Rattle.triangle.proofs.Agree.{edge-point-rows, between-decides}
-use Rattle.triangle.proofs.Spans.{Bounds, Spans, span-map, hull-decides, list-spans, column-has, has-column}
+use Rattle.triangle.proofs.Order.{sorted-ordered, sorted-same}
+use Rattle.triangle.proofs.Sides.{flat-decides, flat-swap, flat-turn, isInside-swap, isInside-turn}
+use Rattle.triangle.proofs.Between.{InRow}
+use Rattle.triangle.proofs.Agree.{edge-point-rows, row-decides}
+use Rattle.triangle.proofs.Spans.{Bounds, Spans, span-map, span-decides, list-spans, column-has, has-column}
 
 module _ (v1 v2 v3 : Point) where
   abbrev pub p1 : Point
@@ -55,35 +57,29 @@ module _ (v1 v2 v3 : Point) where
   inside-sorted p = sorted-same (λ a b c. isInside a b c p) (λ a b c. isInside-swap a b c p) (λ a b c. isInside-turn a b c p) v1 v2 v3
 
   -- ---- CONTAINED exactly if it lies between two edge points of its row
-  pub contained-decides : (p : Point) → Decides (contained v1 v2 v3 p) (Between flat p1 p2 p3 p)
+  pub contained-decides : (p : Point) → Decides (contained v1 v2 v3 p) (InRow flat p1 p2 p3 p)
   unfolding contained
   contained-decides p =
       decides-at (ap (λ (b : Bool). cond flat (hasPoint p1 p3 p) (b || onEdge p1 p2 p3 p)) (inside-sorted p))
-      (between-decides p1 p2 p3 p flat (decides-at flat-sorted (flat-decides p1 p2 p3)) upper lower)
+      (row-decides p1 p2 p3 p flat (decides-at flat-sorted (flat-decides p1 p2 p3)) upper lower)
 
-  -- by the area: only a triangle with area has an inside
-  pub contained-flat : (p : Point) → Flat v1 v2 v3 → contained v1 v2 v3 p ≡ hasPoint p1 p3 p
+  -- by what is known of its tests: only a triangle with area has an inside
+  pub contained-by : (p : Point) (f s : Bool) → flat ≡ f → isInside v1 v2 v3 p ≡ s → contained v1 v2 v3 p ≡ cond f (hasPoint p1 p3 p) (s || onEdge p1 p2 p3 p)
   unfolding contained
-  contained-flat p h = ap (λ (b : Bool). cond b (hasPoint p1 p3 p) (isInside v1 v2 v3 p || onEdge p1 p2 p3 p)) (decides-yes (flat-decides v1 v2 v3) h)
-
-  module _ (p : Point) (solid : Flat v1 v2 v3 → ⊥) where
-    pub contained-solid : (s t : Bool) → noneBelow (areaDoubled p v1 v2) (areaDoubled p v2 v3) (areaDoubled p v3 v1) ≡ s → noneAbove (areaDoubled p v1 v2) (areaDoubled p v2 v3) (areaDoubled p v3 v1) ≡ t
-        → contained v1 v2 v3 p ≡ ((s || t) || onEdge p1 p2 p3 p)
-    unfolding contained isInside
-    contained-solid s t below above = λ i. cond (decides-no (flat-decides v1 v2 v3) solid i) (hasPoint p1 p3 p) ((below i || above i) || onEdge p1 p2 p3 p)
+  contained-by p f s ef es = λ i. cond (ef i) (hasPoint p1 p3 p) (es i || onEdge p1 p2 p3 p)
 
   -- ---- the span of row y is that of the edge points on it
   listed : (b : Bool) (x y : ℤ) → List·Memᴰ x (edgeColumns b (sorted v1 v2 v3) y) → EdgePoint b p1 p2 p3 (x, y)
   listed true x y m = column-has p1 p3 x y m
   listed false x y m =
-      ⊎-elim (λ q. inl (column-has p1 p2 x y q)) (λ q. inr (⊎-elim (λ r. inl (column-has p1 p3 x y r)) (λ r. inr (column-has p2 p3 x y r)) (List·Memᴰ·append-cases (columns p1 p3 y) q)))
-      (List·Memᴰ·append-cases (columns p1 p2 y) m)
+      ⊎-elim (λ q. inl (column-has p1 p2 x y q)) (λ q. inr (⊎-elim (λ r. inl (column-has p1 p3 x y r)) (λ r. inr (column-has p2 p3 x y r)) (List·Memᴰ·append-cases (lineColumns p1 p3 y) q)))
+      (List·Memᴰ·append-cases (lineColumns p1 p2 y) m)
 
   lists : (b : Bool) (x y : ℤ) → EdgePoint b p1 p2 p3 (x, y) → List·Memᴰ x (edgeColumns b (sorted v1 v2 v3) y)
   lists true x y q = has-column p1 p3 x y q
   lists false x y (inl q) = Memᴰ·append-left _ (has-column p1 p2 x y q)
-  lists false x y (inr (inl q)) = Memᴰ·append-right (columns p1 p2 y) (Memᴰ·append-left _ (has-column p1 p3 x y q))
-  lists false x y (inr (inr q)) = Memᴰ·append-right (columns p1 p2 y) (Memᴰ·append-right (columns p1 p3 y) (has-column p2 p3 x y q))
+  lists false x y (inr (inl q)) = Memᴰ·append-right (lineColumns p1 p2 y) (Memᴰ·append-left _ (has-column p1 p3 x y q))
+  lists false x y (inr (inr q)) = Memᴰ·append-right (lineColumns p1 p2 y) (Memᴰ·append-right (lineColumns p1 p3 y) (has-column p2 p3 x y q))
 
   pub row-spans : (y : ℤ) → Spans (λ x. EdgePoint flat p1 p2 p3 (x, y)) (rowSpan v1 v2 v3 y)
   unfolding rowSpan
@@ -94,10 +90,7 @@ module _ (v1 v2 v3 : Point) where
   -- ---- SPAN AND CONTAINMENT AGREE: a pixel is contained exactly if the span of its row holds its column
   pub span-and-containment-agree : (p : Point) → contained v1 v2 v3 p ≡ inSpan (rowSpan v1 v2 v3 (p .1)) (p .0)
   span-and-containment-agree p =
-      decides-one _ _ (contained-decides p)
-      (decides-map (hull-decides (λ x. EdgePoint flat p1 p2 p3 (x, p .1)) (rowSpan v1 v2 v3 (p .1)) (p .0) (row-spans (p .1)))
-      (λ h. record { first = h .first; last = h .last; from = h .from; to = h .to; at-first = h .at-first; at-last = h .at-last })
-      (λ h. record { first = h .first; last = h .last; from = h .from; to = h .to; at-first = h .at-first; at-last = h .at-last }))
+      decides-one _ _ (contained-decides p) (span-decides (λ x. EdgePoint flat p1 p2 p3 (x, p .1)) (rowSpan v1 v2 v3 (p .1)) (p .0) (row-spans (p .1)))
 
   -- ---- the rows: those from y1 to y3 have a span, and no other
   pub no-row : (y : ℤ) → (p1 .1 ≤ℤ y → y ≤ℤ p3 .1 → ⊥) → rowSpan v1 v2 v3 y ≡ (pos 0, pos 0)

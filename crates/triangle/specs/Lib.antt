@@ -1,6 +1,6 @@
 pub mod Order
 pub mod Triangle
-pub mod Between
+pub mod EdgePoint
 pub mod Row
 pub mod Offsets
 pub mod Box

@@ -10,13 +10,13 @@ unfoldable pub reach : ℕ → ℕ → ℕ → ℕ
 reach w h v = (2 * v + 1) * w / (2 * h)
 
 -- the first: one past the last of the row above
-unfoldable pub start : ℕ → ℕ → ℕ → ℕ
-start w h zero = 0
-start w h (suc v) = reach w h v + 1
+unfoldable pub reachFrom : ℕ → ℕ → ℕ → ℕ
+reachFrom w h zero = 0
+reachFrom w h (suc v) = reach w h v + 1
 
 -- the first and the last of any edge: a level one has all its columns on its row, a steep one has one on each row
 unfoldable pub firstOffset : ℕ → ℕ → ℕ → ℕ
-firstOffset w h v = cond (eqb h 0) 0 (cond (leb w h) (moves h w v) (start w h v))
+firstOffset w h v = cond (eqb h 0) 0 (cond (leb w h) (moves h w v) (reachFrom w h v))
 
 unfoldable pub lastOffset : ℕ → ℕ → ℕ → ℕ
 lastOffset w h v = cond (eqb h 0) w (cond (leb w h) (moves h w v) (min w (reach w h v)))

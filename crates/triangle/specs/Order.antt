@@ -1,13 +1,9 @@
 -- The vertices sorted by y, then x, to p1, p2, p3 (01, "Triangles").
-use mathlib.Core.Bool.{Bool, cond}
-use lib.Signed.{leZ, ltZ, _≤ℤ_}
-use Rattle.whole.specs.Equal.{eqZ}
+use mathlib.Core.Bool.{cond}
+use lib.Signed.{_≤ℤ_}
 use Rattle.geometry.specs.declared.Point.{Point}
+use Rattle.geometry.specs.Place.{before}
 use Rattle.triangle.specs.declared.Sorted.{Sorted}
-
--- a stands before b, or they are the same place
-unfoldable pub before : Point → Point → Bool
-before a b = cond (eqZ (a .1) (b .1)) (leZ (a .0) (b .0)) (ltZ (a .1) (b .1))
 
 -- p1, p2, p3 in this order
 abbrev pub three : Point → Point → Point → Sorted

@@ -1,23 +1,17 @@
 -- A triangle's rows, and the columns of a row (01, "Triangles").
-use mathlib.Core.Bool.{Bool, cond, _&&_}
+use mathlib.Core.Bool.{Bool, cond}
 use mathlib.Core.List.{List, [], _∷_, _++_}
 use Prim.Native.Nat.{ℕ, zero, suc, _+_}
 use lib.IntN.{ℤ, pos, natAbs, _+ℤ_, _-ℤ_}
-use lib.Signed.{leZ, ltZ}
 use Rattle.whole.specs.Equal.{eqZ}
+use Rattle.whole.specs.Interval.{between}
 use Rattle.geometry.specs.declared.Point.{Point}
+use Rattle.geometry.specs.Extreme.{lesser, greater}
 use Rattle.line.specs.Line.{pointAt, points}
 use Rattle.triangle.specs.declared.Sorted.{Sorted}
 use Rattle.triangle.specs.declared.Columns.{Columns}
 use Rattle.triangle.specs.Order.{sorted}
 use Rattle.triangle.specs.Triangle.{isFlat}
-
--- the smaller and the larger of two columns
-abbrev pub lesser : ℤ → ℤ → ℤ
-lesser a b = cond (leZ a b) a b
-
-abbrev pub greater : ℤ → ℤ → ℤ
-greater a b = cond (leZ a b) b a
 
 -- the span that takes in a and b: a span is its first column and one past its last, and empty if they are the same
 unfoldable pub extended : Columns → Columns → Columns
@@ -30,7 +24,7 @@ hull (x ∷ xs) = extended (x, x +ℤ pos 1) (hull xs)
 
 -- the span has the column x
 abbrev pub inSpan : Columns → ℤ → Bool
-inSpan s x = leZ (s .0) x && ltZ x (s .1)
+inSpan s x = between (s .0) (s .1) x
 
 -- the columns of those points on row y that the steps below n lead to
 abbrev pub columnsTo : (ℕ → Point) → ℤ → ℕ → List ℤ
@@ -38,12 +32,12 @@ columnsTo f y zero = []
 columnsTo f y (suc n) = cond (eqZ (f n .1) y) (f n .0 ∷ columnsTo f y n) (columnsTo f y n)
 
 -- the columns of a line's points on row y
-unfoldable pub columns : Point → Point → ℤ → List ℤ
-columns s e y = columnsTo (pointAt s e) y (points s e)
+unfoldable pub lineColumns : Point → Point → ℤ → List ℤ
+lineColumns s e y = columnsTo (pointAt s e) y (points s e)
 
 -- the columns of the edge points on row y; zero area: of the line p1 to p3 only
 abbrev pub edgeColumns : Bool → Sorted → ℤ → List ℤ
-edgeColumns flat t y = cond flat (columns (t .p1) (t .p3) y) (columns (t .p1) (t .p2) y ++ (columns (t .p1) (t .p3) y ++ columns (t .p2) (t .p3) y))
+edgeColumns flat t y = cond flat (lineColumns (t .p1) (t .p3) y) (lineColumns (t .p1) (t .p2) y ++ (lineColumns (t .p1) (t .p3) y ++ lineColumns (t .p2) (t .p3) y))
 
 module _ (v1 v2 v3 : Point) where
   -- the span of row y

@@ -1,18 +1,19 @@
 // Triangles: whether a pixel is contained, the columns of a row, and the rows. Vertices may come in any order, lie on one line or coincide.
 ghost use mathlib.Core.Path.{_≡_};
-ghost use mathlib.Core.Bool.{cond, not, _&&_};
+ghost use mathlib.Core.Bool.{cond, not, _&&_, _||_};
 ghost use Prim.Native.Nat.{_<_, _≤_, min};
-ghost use lib.IntN.{pos, _+ℤ_};
+ghost use lib.IntN.{pos, negℤ, natAbs, _+ℤ_};
 ghost use lib.Signed.{_≤ℤ_};
 ghost use Rattle.whole.specs.Equal.{eqZ};
+ghost use Rattle.refusals.specs.First.{first};
 ghost use Rattle.geometry.specs.Bound.{Bounded};
 ghost use Rattle.geometry.specs.Answer.{verdict, span};
-ghost use Rattle.triangle.specs.Order.{before, placed, sorted, Down};
-ghost use Rattle.triangle.specs.Triangle.{areaDoubled, noneBelow, onEdge, isFlat, contained};
-ghost use Rattle.triangle.specs.Offsets.{reach, start, firstOffset, lastOffset};
-ghost use Rattle.triangle.specs.Row.{extended, hull, columns, edgeColumns, rowSpan, firstRow, rowCount};
+ghost use Rattle.triangle.specs.Order.{placed, sorted, Down};
+ghost use Rattle.triangle.specs.Triangle.{areaDoubled, noneBelow, noneAbove, onEdge, isFlat, contained};
+ghost use Rattle.triangle.specs.Offsets.{reach, reachFrom, firstOffset, lastOffset};
+ghost use Rattle.triangle.specs.Row.{extended, hull, lineColumns, edgeColumns, rowSpan, firstRow, rowCount};
 ghost use Rattle.triangle.specs.Box.{isBeyond, isOutside};
-ghost use Rattle.triangle.specs.Answer.{vertexRefusal, rowsAnswer};
+ghost use Rattle.triangle.specs.Answer.{vertexTests, rowsAnswer};
 use geometry::Point;
 use geometry::Span;
 use geometry::Verdict;
@@ -43,12 +44,12 @@ pub struct RowRange {
 
 // Inside the library: 5 where a vertex is out of bounds, else 0.
 pub fn refusal(v1: Point, v2: Point, v3: Point) -> u32
-    ensures { λ r. ⌜ r ≡ vertexRefusal v1 v2 v3 ⌝ }
+    ensures { λ r. ⌜ r ≡ first (vertexTests v1 v2 v3) ⌝ }
 {
-    if geometry::in_bounds(v1) & (geometry::in_bounds(v2) & geometry::in_bounds(v3)) {
-        return 0;
+    if !(geometry::in_bounds(v1) & (geometry::in_bounds(v2) & geometry::in_bounds(v3))) {
+        return 5;
     }
-    5
+    0
 }
 
 // Inside the library: twice the signed area of p, a, b, by differences and products of 64 bits. Each difference is taken from p, which changes no
@@ -64,28 +65,26 @@ pub fn area_doubled(p: Point, a: Point, b: Point) -> i64
     ax * by - bx * ay
 }
 
-// Whether a stands before b by y, then x, or in the same place.
-fn in_order(a: Point, b: Point) -> bool
-    ensures { λ r. ⌜ r ≡ before a b ⌝ }
+// Inside the library: whether an accepted triangle has an area.
+pub fn is_solid(v1: Point, v2: Point, v3: Point) -> bool
+    requires { ⌜ Bounded v1 × Bounded v2 × Bounded v3 ⌝ }
+    ensures { λ r. ⌜ r ≡ not (isFlat v1 v2 v3) ⌝ }
 {
-    if a.1 == b.1 {
-        return a.0 <= b.0;
-    }
-    a.1 < b.1
+    area_doubled(v1, v2, v3) != 0
 }
 
 // c put into its place among a and b, which are sorted.
 fn place(a: Point, b: Point, c: Point) -> Sorted
     ensures { λ r. ⌜ r ≡ placed a b c ⌝ }
 {
-    if in_order(c, a) {
+    if geometry::in_order(c, a) {
         return Sorted {
             p1: c,
             p2: a,
             p3: b,
         };
     }
-    if in_order(c, b) {
+    if geometry::in_order(c, b) {
         return Sorted {
             p1: a,
             p2: c,
@@ -103,7 +102,7 @@ fn place(a: Point, b: Point, c: Point) -> Sorted
 pub fn sorted_yx(v1: Point, v2: Point, v3: Point) -> Sorted
     ensures { λ r. ⌜ r ≡ sorted v1 v2 v3 ⌝ }
 {
-    if in_order(v1, v2) {
+    if geometry::in_order(v1, v2) {
         return place(v1, v2, v3);
     }
     place(v2, v1, v3)
@@ -149,6 +148,14 @@ fn one_side(a: i64, b: i64, c: i64) -> bool
     false
 }
 
+// Whether a, b, c are all at least 0 or all at most 0, and not all 0.
+fn same_side(a: i64, b: i64, c: i64) -> bool
+    requires { ⌜ (natAbs a ≤ 549755813888) × (natAbs b ≤ 549755813888) × (natAbs c ≤ 549755813888) ⌝ }
+    ensures { λ r. ⌜ r ≡ (noneBelow a b c || noneAbove a b c) && not (eqZ ((a +ℤ b) +ℤ c) (pos 0)) ⌝ }
+{
+    one_side(a, b, c) || one_side(-a, -b, -c)
+}
+
 // Whether p is a point of one of the three edges.
 fn on_edge(t: Sorted, p: Point) -> bool
     requires { ⌜ Bounded (t .p1) × Bounded (t .p2) × Bounded (t .p3) ⌝ }
@@ -175,10 +182,7 @@ fn holds(v1: Point, v2: Point, v3: Point, p: Point) -> bool
     let a = area_doubled(p, v1, v2);
     let b = area_doubled(p, v2, v3);
     let c = area_doubled(p, v3, v1);
-    if one_side(a, b, c) {
-        return true;
-    }
-    if one_side(-a, -b, -c) {
+    if same_side(a, b, c) {
         return true;
     }
     let t = sorted_yx(v1, v2, v3);
@@ -190,7 +194,7 @@ fn holds(v1: Point, v2: Point, v3: Point, p: Point) -> bool
 
 // Whether the triangle contains p: any pixel may be asked.
 pub fn contains(v1: Point, v2: Point, v3: Point, p: Point) -> Verdict
-    ensures { λ r. ⌜ r ≡ verdict (vertexRefusal v1 v2 v3) (contained v1 v2 v3 p) ⌝ }
+    ensures { λ r. ⌜ r ≡ verdict (first (vertexTests v1 v2 v3)) (contained v1 v2 v3 p) ⌝ }
 {
     let number = refusal(v1, v2, v3);
     if number != 0 {
@@ -204,7 +208,7 @@ pub fn contains(v1: Point, v2: Point, v3: Point, p: Point) -> Verdict
 
 // The first row of a triangle, and how many it has.
 pub fn rows(v1: Point, v2: Point, v3: Point) -> RowRange
-    ensures { λ r. ⌜ r ≡ rowsAnswer (vertexRefusal v1 v2 v3) (firstRow v1 v2 v3) (rowCount v1 v2 v3) ⌝ }
+    ensures { λ r. ⌜ r ≡ rowsAnswer (first (vertexTests v1 v2 v3)) (firstRow v1 v2 v3) (rowCount v1 v2 v3) ⌝ }
 {
     let number = refusal(v1, v2, v3);
     if number != 0 {
@@ -235,7 +239,7 @@ fn reach_on(wide: u32, high: u32, row: u32) -> u64
 // The first column on a row of an edge that is wider than high: one past the last of the row above.
 fn first_on(wide: u32, high: u32, row: u32) -> u32
     requires { ⌜ (wide ≤ 262144) × (high < wide) × (0 < high) × (row ≤ high) ⌝ }
-    ensures { λ r. ⌜ r ≡ start wide high row ⌝ }
+    ensures { λ r. ⌜ r ≡ reachFrom wide high row ⌝ }
 {
     if row == 0 {
         return 0;
@@ -279,10 +283,21 @@ fn stretch_on(wide: u32, high: u32, row: u32) -> Stretch
     }
 }
 
+// So many columns to the right of a start, or to its left: there the last is the first.
+fn offset(rightward: bool, right: u32, left: u32) -> i32
+    requires { ⌜ (right ≤ 262144) × (left ≤ 262144) ⌝ }
+    ensures { λ r. ⌜ r ≡ cond rightward (pos right) (negℤ (pos left)) ⌝ }
+{
+    if rightward {
+        return right as i32;
+    }
+    -(left as i32)
+}
+
 // Inside the library: the columns of the points on row y of an edge that runs down.
 pub fn bresenham_intersection(start: Point, end: Point, y: i32) -> Columns
     requires { ⌜ (Bounded start × Bounded end) × (start .1 ≤ℤ end .1) ⌝ }
-    ensures { λ r. ⌜ r ≡ hull (columns start end y) ⌝ }
+    ensures { λ r. ⌜ r ≡ hull (lineColumns start end y) ⌝ }
 {
     let x = start.0;
     let top = start.1;
@@ -298,22 +313,9 @@ pub fn bresenham_intersection(start: Point, end: Point, y: i32) -> Columns
     let high = (bottom - top) as u32;
     let row = (y - top) as u32;
     let s = stretch_on(wide, high, row);
-    let first = s.first as i32;
-    let last = s.last as i32;
-    if x <= far {
-        return Columns(x + first, x + last + 1);
-    }
-    Columns(x - last, x - first + 1)
-}
-
-// One of two columns.
-fn choose(first: bool, a: i32, b: i32) -> i32
-    ensures { λ r. ⌜ r ≡ cond first a b ⌝ }
-{
-    if first {
-        return a;
-    }
-    b
+    let first = offset(x <= far, s.first, s.last);
+    let last = offset(x <= far, s.last, s.first);
+    Columns(x + first, x + last + 1)
 }
 
 // The span that takes in both; an empty one adds nothing.
@@ -326,8 +328,8 @@ fn extend(a: Columns, b: Columns) -> Columns
     if b.0 == b.1 {
         return a;
     }
-    let first = choose(a.0 <= b.0, a.0, b.0);
-    let past = choose(a.1 <= b.1, b.1, a.1);
+    let first = geometry::lesser(a.0, b.0);
+    let past = geometry::greater(a.1, b.1);
     Columns(first, past)
 }
 
@@ -347,7 +349,7 @@ pub fn scanline_intersection(t: Sorted, y: i32) -> Columns
 
 // The columns of row y of the triangle: any row may be asked.
 pub fn row_span(v1: Point, v2: Point, v3: Point, y: i32) -> Span
-    ensures { λ r. ⌜ r ≡ span (vertexRefusal v1 v2 v3) (rowSpan v1 v2 v3 y .0) (rowSpan v1 v2 v3 y .1) ⌝ }
+    ensures { λ r. ⌜ r ≡ span (first (vertexTests v1 v2 v3)) (rowSpan v1 v2 v3 y .0) (rowSpan v1 v2 v3 y .1) ⌝ }
 {
     let number = refusal(v1, v2, v3);
     if number != 0 {

@@ -10,6 +10,7 @@ use lib.Signed.{leZ, ltZ, mag, _≤ℤ_, _<ℤ_}
 use borrow.Author.Tests.{leb-true, leb-false, ltb-true, ltb-false, eqb-true, eqb-false}
 use Rattle.whole.specs.Decides.{Decides}
 use Rattle.whole.specs.Equal.{eqZ}
+use Rattle.whole.specs.Interval.{between}
 
 -- ---- a test decides that it passes
 pub tested : (b : Bool) → Decides b (T b)
@@ -59,6 +60,9 @@ pub decides-or : (a b : Bool) {P Q : Type 0} → Decides a P → Decides b Q →
 decides-or true b p q = always (inl (p .yes refl))
 decides-or false true p q = always (inr (q .yes refl))
 decides-or false false p q = never (⊎-elim (p .no refl) (q .no refl))
+
+pub decides-between : (a b x : ℤ) → Decides (between a b x) ((a ≤ℤ x) × (x <ℤ b))
+decides-between a b x = decides-and (leZ a x) (ltZ x b) (decides-le a x) (decides-lt x b)
 
 -- ---- one answer
 pub decides-one : (a b : Bool) {P : Type 0} → Decides a P → Decides b P → a ≡ b

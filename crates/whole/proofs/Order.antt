@@ -23,6 +23,12 @@ le-of {a} {b} h = nat-le (omega (arith, eq-nat h))
 pub lt-le : {a b : ℤ} → a <ℤ b → a ≤ℤ b
 lt-le {a} {b} h = nat-le (omega (arith, lt-nat h))
 
+pub lt-le-lt : {a b c : ℤ} → a <ℤ b → b ≤ℤ c → a <ℤ c
+lt-le-lt {a} {b} {c} h k = nat-lt (omega (arith, lt-nat h, le-nat k))
+
+pub le-lt-lt : {a b c : ℤ} → a ≤ℤ b → b <ℤ c → a <ℤ c
+le-lt-lt {a} {b} {c} h k = nat-lt (omega (arith, le-nat h, lt-nat k))
+
 -- one of the two orders, unless the other holds
 pub le-unless : {a b : ℤ} → (b <ℤ a → ⊥) → a ≤ℤ b
 le-unless {a} {b} n = let m : ¬ (up b + dn a < up a + dn b) = λ k. n (nat-lt k) in nat-le (omega arith)

@@ -49,6 +49,10 @@ true-or true b h = refl
 true-or false b (inl e) = absurd (true≢false (sym e))
 true-or false b (inr e) = e
 
+pub or-false : (a b : Bool) → a || b ≡ false → (a ≡ false) × (b ≡ false)
+or-false true b e = absurd (true≢false e)
+or-false false b e = (refl, e)
+
 -- the test of two whole numbers
 pub eqZ-true : (a b : ℤ) → eqZ a b ≡ true → a ≡ b
 eqZ-true (pos a) (pos b) e = ap pos (eqb-true a b e)

@@ -1,8 +1,6 @@
 -- `beamacorn_draw_circle` hands on to `drawing::draw_circle`. Assumes nothing.
 use borrow.Author.Needs.{needs}
-use lib.ListN.{length}
-use Rattle.drawing.specs.Figure.{circleFigure}
-use Rattle.drawing.specs.Number.{circleNumber}
+use Rattle.drawing.specs.Drawing.{circleDrawing}
 use Rattle.beamacorn.proofs.Places.{place}
 use Rattle.beamacorn.proofs.Calls.{handed-on}
 use Rattle.beamacorn.proofs.beamacorn_draw_circle.Statement.{statement}
@@ -23,7 +21,7 @@ returns c =
     let f = c .before .before .before .before .before .before .fits in
     let corner = place (f .left) (f .top) in
     let frame = c .before .before .before .frame .ensures in
-    handed-on (g .colour) (g .buf .now) frame (λ i. circleNumber (frame i) (length (g .buf .now)) (corner i) (g .diameter) (g .colour)) (λ i. circleFigure (corner i) (g .diameter)) (c .before .before .draw-circle .ensures)
+    handed-on (g .buf .now) frame (λ i. circleDrawing (corner i) (g .diameter) (g .colour)) (c .before .before .draw-circle .ensures)
 
 pub beamacorn-draw-circle-spec : {M : Type 1} → statement M
 beamacorn-draw-circle-spec = tie.close (tie.spec frame-requires draw-circle-requires same-length returns)

@@ -1,8 +1,6 @@
 -- `beamacorn_draw_line` hands on to `drawing::draw_line`. Assumes nothing.
 use borrow.Author.Needs.{needs}
-use lib.ListN.{length}
-use Rattle.drawing.specs.Figure.{lineFigure}
-use Rattle.drawing.specs.Number.{lineNumber}
+use Rattle.drawing.specs.Drawing.{lineDrawing}
 use Rattle.beamacorn.proofs.Places.{place}
 use Rattle.beamacorn.proofs.Calls.{handed-on}
 use Rattle.beamacorn.proofs.beamacorn_draw_line.Statement.{statement}
@@ -24,7 +22,7 @@ returns c =
     let s = place (f .x1) (f .y1) in
     let e = place (f .x2) (f .y2) in
     let frame = c .before .before .before .frame .ensures in
-    handed-on (g .colour) (g .buf .now) frame (λ i. lineNumber (frame i) (length (g .buf .now)) (s i) (e i) (g .colour)) (λ i. lineFigure (s i) (e i)) (c .before .before .draw-line .ensures)
+    handed-on (g .buf .now) frame (λ i. lineDrawing (s i) (e i) (g .colour)) (c .before .before .draw-line .ensures)
 
 pub beamacorn-draw-line-spec : {M : Type 1} → statement M
 beamacorn-draw-line-spec = tie.close (tie.spec frame-requires draw-line-requires same-length returns)

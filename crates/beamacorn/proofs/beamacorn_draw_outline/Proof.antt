@@ -1,8 +1,6 @@
 -- `beamacorn_draw_outline` hands on to `drawing::draw_outline`. Assumes nothing.
 use borrow.Author.Needs.{needs}
-use lib.ListN.{length}
-use Rattle.drawing.specs.Figure.{outlineFigure}
-use Rattle.drawing.specs.Number.{triangleNumber}
+use Rattle.drawing.specs.Drawing.{outlineDrawing}
 use Rattle.beamacorn.proofs.Places.{place}
 use Rattle.beamacorn.proofs.Calls.{handed-on}
 use Rattle.beamacorn.proofs.beamacorn_draw_outline.Statement.{statement}
@@ -25,7 +23,7 @@ returns c =
     let v2 = place (f .x2) (f .y2) in
     let v3 = place (f .x3) (f .y3) in
     let frame = c .before .before .before .frame .ensures in
-    handed-on (g .colour) (g .buf .now) frame (λ i. triangleNumber (frame i) (length (g .buf .now)) (v1 i) (v2 i) (v3 i) (g .colour)) (λ i. outlineFigure (v1 i) (v2 i) (v3 i)) (c .before .before .draw-outline .ensures)
+    handed-on (g .buf .now) frame (λ i. outlineDrawing (v1 i) (v2 i) (v3 i) (g .colour)) (c .before .before .draw-outline .ensures)
 
 pub beamacorn-draw-outline-spec : {M : Type 1} → statement M
 beamacorn-draw-outline-spec = tie.close (tie.spec frame-requires draw-outline-requires same-length returns)

@@ -1,8 +1,6 @@
 -- `beamacorn_fill` hands on to `framebuffer::fill`. Assumes nothing.
 use mathlib.Core.Path.{refl}
 use borrow.Author.Needs.{needs}
-use lib.ListN.{length}
-use Rattle.framebuffer.specs.Description.{drawNumber}
 use Rattle.beamacorn.proofs.Calls.{handed-on}
 use Rattle.beamacorn.proofs.beamacorn_fill.Statement.{statement}
 use Rattle.beamacorn.proofs.beamacorn_fill.Tie as tie
@@ -20,7 +18,7 @@ returns : tie.Need-returns
 returns c =
     let g = c .before .before .before .before .before .before .args in
     let frame = c .before .before .before .frame .ensures in
-    handed-on (g .colour) (g .buf .now) frame (λ i. drawNumber (frame i) (length (g .buf .now)) (g .colour) 0) (refl) (c .before .before .fill .ensures)
+    handed-on (g .buf .now) frame refl (c .before .before .fill .ensures)
 
 pub beamacorn-fill-spec : {M : Type 1} → statement M
 beamacorn-fill-spec = tie.close (tie.spec frame-requires fill-requires same-length returns)

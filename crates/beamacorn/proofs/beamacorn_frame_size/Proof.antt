@@ -1,8 +1,9 @@
 -- `beamacorn_frame_size` hands on to `framebuffer::buffer_size_bpp`. Assumes nothing.
 use mathlib.Core.Path.{_∙_}
 use borrow.Author.Needs.{needs}
+use Rattle.refusals.specs.First.{first}
 use Rattle.framebuffer.specs.Answer.{sized}
-use Rattle.framebuffer.specs.Description.{size, sizeNumber}
+use Rattle.framebuffer.specs.Description.{size, descriptionTests}
 use Rattle.beamacorn.proofs.beamacorn_frame_size.Statement.{statement}
 use Rattle.beamacorn.proofs.beamacorn_frame_size.Tie as tie
 
@@ -15,7 +16,7 @@ buffer-size-bpp-requires c κs = search needs
 returns : tie.Need-returns
 returns c =
     let frame = c .before .frame .ensures in
-    c .buffer-size-bpp .ensures ∙ (λ i. sized (sizeNumber (frame i)) (size (frame i)))
+    c .buffer-size-bpp .ensures ∙ (λ i. sized (first (descriptionTests (frame i))) (size (frame i)))
 
 pub beamacorn-frame-size-spec : {M : Type 1} → statement M
 beamacorn-frame-size-spec = tie.close (tie.spec frame-requires buffer-size-bpp-requires returns)

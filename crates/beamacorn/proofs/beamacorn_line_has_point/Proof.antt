@@ -3,7 +3,8 @@ use mathlib.Core.Path.{_∙_}
 use borrow.Author.Needs.{needs}
 use Rattle.geometry.specs.Answer.{verdict}
 use Rattle.line.specs.Line.{hasPoint}
-use Rattle.line.specs.Answer.{endRefusal}
+use Rattle.line.specs.Answer.{endTests}
+use Rattle.refusals.specs.First.{first}
 use Rattle.beamacorn.proofs.Places.{place}
 use Rattle.beamacorn.proofs.beamacorn_line_has_point.Statement.{statement}
 use Rattle.beamacorn.proofs.beamacorn_line_has_point.Tie as tie
@@ -17,7 +18,7 @@ returns c =
     let s = place (f .x1) (f .y1) in
     let e = place (f .x2) (f .y2) in
     let p = place (f .x) (f .y) in
-    c .has-point .ensures ∙ (λ i. verdict (endRefusal (s i) (e i) 0) (hasPoint (s i) (e i) (p i)))
+    c .has-point .ensures ∙ (λ i. verdict (first (endTests (s i) (e i))) (hasPoint (s i) (e i) (p i)))
 
 pub beamacorn-line-has-point-spec : {M : Type 1} → statement M
 beamacorn-line-has-point-spec = tie.close (tie.spec has-point-requires returns)

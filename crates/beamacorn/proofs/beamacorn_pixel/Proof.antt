@@ -3,7 +3,8 @@ use mathlib.Core.Path.{_∙_}
 use borrow.Author.Needs.{needs}
 use lib.ListN.{length}
 use Rattle.framebuffer.specs.Answer.{read}
-use Rattle.framebuffer.specs.Description.{readNumber, colourAt}
+use Rattle.framebuffer.specs.Description.{readTests, colourAt}
+use Rattle.refusals.specs.First.{first}
 use Rattle.beamacorn.proofs.Places.{place}
 use Rattle.beamacorn.proofs.beamacorn_pixel.Statement.{statement}
 use Rattle.beamacorn.proofs.beamacorn_pixel.Tie as tie
@@ -20,7 +21,7 @@ returns c =
     let f = c .before .before .before .fits in
     let p = place (f .x) (f .y) in
     let frame = c .before .frame .ensures in
-    c .pixel .ensures ∙ (λ i. read (readNumber (frame i) (length (g .buf .now)) (p i)) (colourAt (frame i) (p i) (g .buf .now)))
+    c .pixel .ensures ∙ (λ i. read (first (readTests (frame i) (length (g .buf .now)) (p i))) (colourAt (frame i) (p i) (g .buf .now)))
 
 pub beamacorn-pixel-spec : {M : Type 1} → statement M
 beamacorn-pixel-spec = tie.close (tie.spec frame-requires pixel-requires returns)

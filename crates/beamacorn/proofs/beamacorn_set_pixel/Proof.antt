@@ -1,8 +1,6 @@
 -- `beamacorn_set_pixel` hands on to `framebuffer::set_pixel`. Assumes nothing.
 use borrow.Author.Needs.{needs}
-use lib.ListN.{length}
-use Rattle.layout.specs.Figure.{single}
-use Rattle.framebuffer.specs.Description.{drawNumber}
+use Rattle.framebuffer.specs.Drawing.{pixelDrawing}
 use Rattle.beamacorn.proofs.Places.{place}
 use Rattle.beamacorn.proofs.Calls.{handed-on}
 use Rattle.beamacorn.proofs.beamacorn_set_pixel.Statement.{statement}
@@ -23,7 +21,7 @@ returns c =
     let f = c .before .before .before .before .before .before .fits in
     let p = place (f .x) (f .y) in
     let frame = c .before .before .before .frame .ensures in
-    handed-on (g .colour) (g .buf .now) frame (λ i. drawNumber (frame i) (length (g .buf .now)) (g .colour) 0) (λ i. single (p i .0) (p i .1)) (c .before .before .set-pixel .ensures)
+    handed-on (g .buf .now) frame (λ i. pixelDrawing (p i) (g .colour)) (c .before .before .set-pixel .ensures)
 
 pub beamacorn-set-pixel-spec : {M : Type 1} → statement M
 beamacorn-set-pixel-spec = tie.close (tie.spec frame-requires set-pixel-requires same-length returns)

@@ -2,7 +2,8 @@
 use mathlib.Core.Path.{_∙_}
 use borrow.Author.Needs.{needs}
 use Rattle.triangle.specs.Row.{firstRow, rowCount}
-use Rattle.triangle.specs.Answer.{vertexRefusal, rowsAnswer}
+use Rattle.triangle.specs.Answer.{vertexTests, rowsAnswer}
+use Rattle.refusals.specs.First.{first}
 use Rattle.beamacorn.proofs.Places.{place}
 use Rattle.beamacorn.proofs.beamacorn_triangle_rows.Statement.{statement}
 use Rattle.beamacorn.proofs.beamacorn_triangle_rows.Tie as tie
@@ -16,7 +17,7 @@ returns c =
     let v1 = place (f .x1) (f .y1) in
     let v2 = place (f .x2) (f .y2) in
     let v3 = place (f .x3) (f .y3) in
-    c .rows .ensures ∙ (λ i. rowsAnswer (vertexRefusal (v1 i) (v2 i) (v3 i)) (firstRow (v1 i) (v2 i) (v3 i)) (rowCount (v1 i) (v2 i) (v3 i)))
+    c .rows .ensures ∙ (λ i. rowsAnswer (first (vertexTests (v1 i) (v2 i) (v3 i))) (firstRow (v1 i) (v2 i) (v3 i)) (rowCount (v1 i) (v2 i) (v3 i)))
 
 pub beamacorn-triangle-rows-spec : {M : Type 1} → statement M
 beamacorn-triangle-rows-spec = tie.close (tie.spec rows-requires returns)

@@ -31,7 +31,7 @@ distance-squared-requires : tie.Need-distance-squared-requires
 distance-squared-requires c κs =
     let s = c .before .before .before .before in
     let near = in-box-away (s .args .topleft) (s .args .diameter) (s .args .p) (sym (c .before .before .before .in-box .ensures) ∙ not-false _ (c .before .before .if1 .left)) in
-    let wide = widest (s .args .topleft) (s .args .diameter) (s .pre) in
+    let wide = widest (s .pre) in
     rw (c .before .place-2x .ensures, c .center-2x .ensures) (omega arith, omega arith)
 
 threshold-requires : tie.Need-threshold-requires

@@ -13,7 +13,7 @@ use Rattle.whole.proofs.Machine.{field-back}
 use Rattle.geometry.specs.Answer.{span}
 use Rattle.geometry.specs.Bound.{Coord}
 use Rattle.circle.specs.Circle.{boxRow, inBox, leadOf}
-use Rattle.circle.proofs.Refusals.{accepted, widest}
+use Rattle.circle.proofs.Refusals.{widest}
 use Rattle.circle.proofs.Spans.{first-column, lead-some, start-is, kept-is, no-start, no-end}
 use Rattle.circle.proofs.Worked.{after-fits, after-is}
 use Rattle.circle.proofs.accepted_row_span.Statement.{statement}
@@ -59,10 +59,10 @@ module _ (c : tie.After-lead) where
 
   -- the numbers that are added are small
   left : Coord (s .args .topleft .0)
-  left = accepted (s .args .topleft) (s .args .diameter) .0 (s .pre) .0 .x
+  left = s .pre .corner .x
 
   rest : (n : ℕ) → s .args .diameter - n ≤ 262144
-  rest n = omega (arith, widest (s .args .topleft) (s .args .diameter) (s .pre))
+  rest n = omega (arith, widest (s .pre))
 
   few : c .lead .result ≤ 262144
   few = omega (arith, some, rest 0)

@@ -37,7 +37,7 @@ module _ (s : tie.Start) where
   near = row-away (s .args .topleft) (s .args .diameter) (s .args .y) row
 
   wide : s .args .diameter ≤ 262144
-  wide = widest (s .args .topleft) (s .args .diameter) (s .pre .0)
+  wide = widest (s .pre .0)
 
   rest : far * far < thresholdOf (s .args .diameter)
   rest = room (s .args .diameter) far near

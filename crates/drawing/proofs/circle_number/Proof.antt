@@ -1,6 +1,6 @@
 -- `drawing::circle_number` asks the frame and the colour, then the box. Assumes nothing.
 use borrow.Author.Needs.{needs}
-use Rattle.drawing.proofs.Calls.{calls}
+use Rattle.framebuffer.proofs.Calls.{calls}
 use Rattle.drawing.proofs.circle_number.Statement.{statement}
 use Rattle.drawing.proofs.circle_number.Tie as tie
 

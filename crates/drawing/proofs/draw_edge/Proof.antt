@@ -9,24 +9,20 @@ use Rattle.geometry.specs.declared.Point.{Point}
 use Rattle.line.specs.Line.{points}
 use Rattle.line.specs.Walk.{WalkerAt, Walking}
 use Rattle.line.proofs.Lengths.{major-size}
-use Rattle.layout.specs.Raster.{painted}
 use Rattle.layout.specs.Figure.{single}
-use Rattle.layout.proofs.Painted.{painted-length}
-use Rattle.framebuffer.specs.Description.{raster, drawNumber}
-use Rattle.framebuffer.specs.Rectangle.{inside}
-use Rattle.drawing.proofs.Calls.{sound-at}
-use Rattle.drawing.proofs.Figures.{steps, steps-start, steps-more, steps-end}
+use Rattle.framebuffer.specs.Judged.{Ready, brushed}
+use Rattle.drawing.proofs.Figures.{brush-sound, steps, steps-start, steps-more, steps-end}
 use Rattle.drawing.proofs.draw_edge.Statement.{statement}
 use Rattle.drawing.proofs.draw_edge.Tie as tie
 
 abbrev Inv-loop : tie.InvT-loop
-Inv-loop buf₀ frame pane colour walker₀ count k₀ buf walker k =
+Inv-loop buf₀ brush walker₀ count k₀ buf walker k =
     (length buf ≡ length buf₀) × (k ≤ count)
-    × ((s e : Point) → count ≡ points s e → drawNumber frame (length buf₀) colour 0 ≡ 0 → WalkerAt s e 0 walker₀
-    → WalkerAt s e k walker × (buf ≡ steps (raster frame) pane colour buf₀ s e k))
+    × ((s e : Point) → count ≡ points s e → Ready brush (length buf₀) → WalkerAt s e 0 walker₀
+    → WalkerAt s e k walker × (buf ≡ steps brush buf₀ s e k))
 
 abbrev μ-loop : tie.MeasureT-loop
-μ-loop buf₀ frame pane colour walker₀ count k₀ buf walker k = count - k
+μ-loop buf₀ brush walker₀ count k₀ buf walker k = count - k
 
 new-requires : tie.Need-new-requires Inv-loop μ-loop
 new-requires c κs = search needs
@@ -35,19 +31,19 @@ last-step-requires : tie.Need-last-step-requires Inv-loop μ-loop
 last-step-requires c κs = search needs
 
 add-count : tie.Need-add-count Inv-loop μ-loop
-add-count c = let s = c .before .before .before in omega (arith, c .last-step .ensures, major-size (s .pre .2 .0) (s .pre .2 .1))
+add-count c = let s = c .before .before .before in omega (arith, c .last-step .ensures, major-size (s .pre .1 .0) (s .pre .1 .1))
 
 loop-holds : tie.Need-loop-holds Inv-loop μ-loop
 loop-holds c =
     let a = c .before .before .before .args in
-    (refl, omega arith, λ s e n ok at. (at, sym (steps-start (raster (a .frame)) (sound-at (a .frame) (length (a .buf .now)) (a .colour) ok) (a .pane) (a .colour) (a .buf .now) s e)))
+    (refl, omega arith, λ s e n ok at. (at, sym (steps-start (a .brush) (brush-sound ok) (a .buf .now) s e)))
 
 -- at the loop's head the walker stands at step k, and the steps below it are set
 module _ (c : tie.At-loop Inv-loop μ-loop) where
   abbrev entry : tie.Start Inv-loop μ-loop
   entry = c .before .before .before .before
 
-  head : WalkerAt (entry .args .start) (entry .args .end) (c .loop .k) (c .loop .walker) × (c .loop .buf ≡ steps (raster (entry .args .frame)) (entry .args .pane) (entry .args .colour) (entry .args .buf .now) (entry .args .start) (entry .args .end) (c .loop .k))
+  head : WalkerAt (entry .args .start) (entry .args .end) (c .loop .k) (c .loop .walker) × (c .loop .buf ≡ steps (entry .args .brush) (entry .args .buf .now) (entry .args .start) (entry .args .end) (c .loop .k))
   head = c .loop .inv .2 (entry .args .start) (entry .args .end) (ap (λ (n : ℕ). n + 1) (c .before .last-step .ensures)) (entry .pre .0) (c .before .before .new .ensures)
 
 walking : (c : tie.In-loop Inv-loop μ-loop) → Walking (c .before .loop .walker)
@@ -62,10 +58,10 @@ put-point-requires : tie.Need-put-point-requires Inv-loop μ-loop
 put-point-requires c κs =
     let h = c .before .before .before in
     let s = entry h in
-    (subst (λ (n : ℕ). drawNumber (s .args .frame) n (s .args .colour) 0 ≡ 0) (sym (h .loop .inv .0)) (s .pre .0), s .pre .1)
+    subst (Ready (s .args .brush)) (sym (h .loop .inv .0)) (s .pre .0)
 
 add-k : tie.Need-add-k Inv-loop μ-loop
-add-k c = let h = c .before .before .before .before .before .before .before in let s = entry h in omega (arith, h .before .last-step .ensures, major-size (s .pre .2 .0) (s .pre .2 .1))
+add-k c = let h = c .before .before .before .before .before .before .before in let s = entry h in omega (arith, h .before .last-step .ensures, major-size (s .pre .1 .0) (s .pre .1 .1))
 
 loop-less : tie.Need-loop-less Inv-loop μ-loop
 loop-less c = search needs
@@ -76,14 +72,14 @@ loop-again c =
     let step = put .before .before in
     let h = step .before .before in
     let a = entry h .args in (
-      ap length (put .put-point .ensures) ∙ painted-length (raster (a .frame)) (inside (a .pane) (single (step .step .result .point .0) (step .step .result .point .1))) (a .colour) (h .loop .buf) ∙ h .loop .inv .0,
+      put .put-point .kept .0 ∙ h .loop .inv .0,
       omega arith,
       λ s e n ok at.
           let i = h .loop .inv .2 s e n ok at in
           let g = step .step .ensures s e (h .loop .k) (omega arith) (i .0) in (
             g .1,
-            put .put-point .ensures ∙ ap₂ (λ (p : Point) (b : List ℕ). painted (raster (a .frame)) (inside (a .pane) (single (p .0) (p .1))) (a .colour) b) (g .0) (i .1)
-                ∙ steps-more (raster (a .frame)) (sound-at (a .frame) (length (a .buf .now)) (a .colour) ok) (a .pane) (a .colour) (a .buf .now) s e (h .loop .k),
+            put .put-point .ensures ∙ ap₂ (λ (p : Point) (b : List ℕ). brushed (a .brush) (single (p .0) (p .1)) b) (g .0) (i .1)
+                ∙ steps-more (a .brush) (brush-sound ok) (a .buf .now) s e (h .loop .k),
           ),
     )
 
@@ -94,7 +90,7 @@ returns : tie.Need-returns Inv-loop μ-loop
 returns c =
     let a = entry (c .before) .args in
     let all : c .before .loop .k ≡ points (a .start) (a .end) = omega (arith, c .before .before .last-step .ensures) in
-    head (c .before) .1 ∙ ap (steps (raster (a .frame)) (a .pane) (a .colour) (a .buf .now) (a .start) (a .end)) all ∙ steps-end (raster (a .frame)) (a .pane) (a .colour) (a .buf .now) (a .start) (a .end)
+    head (c .before) .1 ∙ ap (steps (a .brush) (a .buf .now) (a .start) (a .end)) all ∙ steps-end (a .brush) (a .buf .now) (a .start) (a .end)
 
 pub draw-edge-spec : {M : Type 1} → statement M
 draw-edge-spec =

@@ -13,26 +13,24 @@ use Rattle.geometry.specs.Bound.{Coord}
 use Rattle.geometry.specs.Answer.{span}
 use Rattle.geometry.specs.declared.Span.{Span}
 use Rattle.circle.specs.Circle.{spanStart, spanEnd}
-use Rattle.circle.proofs.Refusals.{accepted, widest}
+use Rattle.circle.proofs.Refusals.{widest}
 use Rattle.circle.proofs.Worked.{after-fits, after-is}
 use Rattle.layout.specs.Figure.{spanFigure}
-use Rattle.layout.specs.Raster.{painted}
-use Rattle.framebuffer.specs.Description.{raster, drawNumber}
-use Rattle.framebuffer.specs.Rectangle.{inside}
+use Rattle.framebuffer.specs.Judged.{Ready, brushed}
 use Rattle.drawing.specs.Figure.{circleFigure}
-use Rattle.drawing.proofs.Calls.{sound-at}
+use Rattle.drawing.proofs.Figures.{brush-sound}
 use Rattle.drawing.proofs.Circles.{circle-above, circle-below, circle-columns}
 use Rattle.drawing.proofs.Rows.{above, rows-start, rows-turn, rows-end}
 use Rattle.drawing.proofs.fill_circle.Statement.{statement}
 use Rattle.drawing.proofs.fill_circle.Tie as tie
 
 abbrev Inv-loop : tie.InvT-loop
-Inv-loop buf₀ frame pane topleft diameter colour top k₀ buf k =
+Inv-loop buf₀ brush topleft diameter top k₀ buf k =
     (length buf ≡ length buf₀) × (k ≤ diameter)
-    × (drawNumber frame (length buf₀) colour 0 ≡ 0 → buf ≡ painted (raster frame) (inside pane (above (circleFigure topleft diameter) (topleft .1 +ℤ pos k))) colour buf₀)
+    × (Ready brush (length buf₀) → buf ≡ brushed brush (above (circleFigure topleft diameter) (topleft .1 +ℤ pos k)) buf₀)
 
 abbrev μ-loop : tie.MeasureT-loop
-μ-loop buf₀ frame pane topleft diameter colour top k₀ buf k = diameter - k
+μ-loop buf₀ brush topleft diameter top k₀ buf k = diameter - k
 
 loop-holds : tie.Need-loop-holds Inv-loop μ-loop
 loop-holds c =
@@ -40,7 +38,7 @@ loop-holds c =
     let start : a .topleft .1 +ℤ pos 0 ≡ a .topleft .1 = +ℤ-idr (a .topleft .1) in (
       refl,
       omega arith,
-      λ ok. sym (rows-start (raster (a .frame)) (sound-at (a .frame) (length (a .buf .now)) (a .colour) ok) (a .pane) (a .colour) (a .buf .now) (circleFigure (a .topleft) (a .diameter)) (a .topleft .1 +ℤ pos 0)
+      λ ok. sym (rows-start (a .brush) (brush-sound ok) (a .buf .now) (circleFigure (a .topleft) (a .diameter)) (a .topleft .1 +ℤ pos 0)
           (λ u v l. circle-above (a .topleft) (a .diameter) u v (subst (λ (z : ℤ). pos v <ℤ z) start l))),
     )
 
@@ -50,10 +48,10 @@ module _ (c : tie.In-loop Inv-loop μ-loop) where
   entry = c .before .before .before .before
 
   few : c .before .loop .k ≤ 262144
-  few = omega (arith, widest (entry .args .topleft) (entry .args .diameter) (entry .pre .2))
+  few = omega (arith, widest (entry .pre .1))
 
   top : Coord (entry .args .topleft .1)
-  top = accepted (entry .args .topleft) (entry .args .diameter) .0 (entry .pre .2) .0 .y
+  top = entry .pre .1 .corner .y
 
   y-is : toZ w32 (ofZ w32 (toZ w32 (ofZ w32 (entry .args .topleft .1)) +ℤ toZ w32 (c .before .loop .k))) ≡ entry .args .topleft .1 +ℤ pos (c .before .loop .k)
   y-is = after-is top (c .before .loop .k) few
@@ -71,7 +69,7 @@ paint-span-requires : tie.Need-paint-span-requires Inv-loop μ-loop
 paint-span-requires c κs =
     let h = c .before .before .before .before in
     let s = entry h in
-    (subst (λ (n : ℕ). drawNumber (s .args .frame) n (s .args .colour) 0 ≡ 0) (sym (h .before .loop .inv .0)) (s .pre .0), s .pre .1)
+    subst (Ready (s .args .brush)) (sym (h .before .loop .inv .0)) (s .pre .0)
 
 add-k : tie.Need-add-k Inv-loop μ-loop
 add-k c = search needs
@@ -95,10 +93,10 @@ loop-again c =
       omega arith,
       λ ok.
           paint .paint-span .ensures
-          ∙ (λ i. painted (raster (a .frame)) (inside (a .pane) (spanFigure (y-is h i) (start i) (end i))) (a .colour) (h .before .loop .inv .2 ok i))
-          ∙ rows-turn (raster (a .frame)) (sound-at (a .frame) (length (a .buf .now)) (a .colour) ok) (a .pane) (a .colour) (a .buf .now) (circleFigure (a .topleft) (a .diameter)) y (spanStart (a .topleft) (a .diameter) y) (spanEnd (a .topleft) (a .diameter) y)
+          ∙ (λ i. brushed (a .brush) (spanFigure (y-is h i) (start i) (end i)) (h .before .loop .inv .2 ok i))
+          ∙ rows-turn (a .brush) (brush-sound ok) (a .buf .now) (circleFigure (a .topleft) (a .diameter)) y (spanStart (a .topleft) (a .diameter) y) (spanEnd (a .topleft) (a .diameter) y)
           (λ u v hu hv e. circle-columns (a .topleft) (a .diameter) y u v e)
-          ∙ ap (λ (z : ℤ). painted (raster (a .frame)) (inside (a .pane) (above (circleFigure (a .topleft) (a .diameter)) z)) (a .colour) (a .buf .now)) (+ℤ-assoc (a .topleft .1) (pos k) (pos 1)),
+          ∙ ap (λ (z : ℤ). brushed (a .brush) (above (circleFigure (a .topleft) (a .diameter)) z) (a .buf .now)) (+ℤ-assoc (a .topleft .1) (pos k) (pos 1)),
     )
 
 same-length : tie.Need-same-length Inv-loop μ-loop
@@ -110,7 +108,7 @@ returns c =
     let a = s .args in
     let all : c .before .loop .k ≡ a .diameter = omega arith in
     c .before .loop .inv .2 (s .pre .0)
-    ∙ rows-end (raster (a .frame)) (sound-at (a .frame) (length (a .buf .now)) (a .colour) (s .pre .0)) (a .pane) (a .colour) (a .buf .now) (circleFigure (a .topleft) (a .diameter)) (a .topleft .1 +ℤ pos (c .before .loop .k))
+    ∙ rows-end (a .brush) (brush-sound (s .pre .0)) (a .buf .now) (circleFigure (a .topleft) (a .diameter)) (a .topleft .1 +ℤ pos (c .before .loop .k))
     (λ u v l. circle-below (a .topleft) (a .diameter) u v (subst (λ (n : ℕ). (a .topleft .1 +ℤ pos n) ≤ℤ pos v) all l))
 
 pub fill-circle-spec : {M : Type 1} → statement M

@@ -1,72 +1,227 @@
--- `drawing::fill_triangle` walks the edges of the sorted vertices; what lies between their points is what the triangle contains. Assumes nothing.
-use mathlib.Core.Path.{ap, subst₂}
-use mathlib.Core.Bool.{Bool, not}
+-- `drawing::fill_triangle` takes a row from the walks along the edges and paints its span, a row a turn: before row y the triangle's rows above y are
+-- painted. Assumes nothing.
+use mathlib.Core.Path.{_≡_, refl, sym, ap, subst, subst₂, _∙_}
+use mathlib.Core.Bool.{Bool}
+use Prim.Native.Nat.{_+_, _-_, _<_}
+use native.Mathlib.Omega.{arith}
+use lib.IntN.{ℤ, pos, _+ℤ_}
+use lib.ListN.{length}
+use lib.Signed.{_≤ℤ_, _<ℤ_}
 use mir.Syntax.{w32}
-use mir.Val.{toZ, ofZ}
+use mir.Val.{SFits, toZ, ofZ}
+use mir.Facts.{toZ-ofZ}
 use borrow.Author.Needs.{needs}
-use Rattle.whole.proofs.Machine.{field-back}
-use Rattle.geometry.specs.Bound.{Bounded}
+use Rattle.whole.proofs.Difference.{up, dn, lt-nat, le-nat, eq-nat, nat-lt}
+use Rattle.whole.proofs.Machine.{field-back, le-yes, le-no, lt-yes, lt-no}
+use Rattle.whole.proofs.Order.{le-self, le-of, le-trans, lt-le}
+use Rattle.geometry.specs.declared.Point.{Point}
 use Rattle.triangle.specs.declared.Sorted.{Sorted}
-use Rattle.triangle.specs.Order.{sorted}
-use Rattle.triangle.specs.Triangle.{isFlat}
-use Rattle.triangle.proofs.Order.{sorted-all}
+use Rattle.triangle.specs.Order.{sorted, Down}
 use Rattle.triangle.proofs.Refusals.{sorted-bounded}
-use Rattle.edges.specs.Shape.{Fresh, Begun}
+use Rattle.triangle.proofs.Triangle.{upper, lower}
+use Rattle.edges.specs.declared.Row.{Row}
+use Rattle.edges.specs.Edges.{WalkAt, Rowed}
+use Rattle.layout.specs.Figure.{spanFigure}
+use Rattle.framebuffer.specs.Judged.{Ready, brushed}
 use Rattle.drawing.specs.Figure.{triangleFigure}
-use Rattle.drawing.proofs.Fill.{shape, begun-fresh, begun-at, contained-between}
+use Rattle.drawing.proofs.Figures.{brush-sound}
+use Rattle.drawing.proofs.Fill.{solid, none-above, none-below, row-columns, past-fits, row-fits, nearer, still-below}
+use Rattle.drawing.proofs.Rows.{above, rows-start, rows-turn, rows-end}
 use Rattle.drawing.proofs.fill_triangle.Statement.{statement}
 use Rattle.drawing.proofs.fill_triangle.Tie as tie
 
-sorted-yx-requires : tie.Need-sorted-yx-requires
+-- the loop does not have the vertices at hand: whichever triangle the walks are of, at its top
+abbrev Inv-loop : tie.InvT-loop
+Inv-loop buf₀ brush bottom walk₀ y₀ buf walk y =
+    (length buf ≡ length buf₀) × (toZ w32 y₀ ≤ℤ toZ w32 y)
+    × ((v1 v2 v3 : Point) → Ready brush (length buf₀) → toZ w32 y₀ ≡ sorted v1 v2 v3 .p1 .1 → WalkAt (sorted v1 v2 v3) (solid v1 v2 v3) (toZ w32 y₀) walk₀
+    → WalkAt (sorted v1 v2 v3) (solid v1 v2 v3) (toZ w32 y) walk × (buf ≡ brushed brush (above (triangleFigure v1 v2 v3) (toZ w32 y)) buf₀))
+
+abbrev μ-loop : tie.MeasureT-loop
+μ-loop buf₀ brush bottom walk₀ y₀ buf walk y = (up (toZ w32 bottom) + dn (toZ w32 y) + 1) - (up (toZ w32 y) + dn (toZ w32 bottom))
+
+sorted-yx-requires : tie.Need-sorted-yx-requires Inv-loop μ-loop
 sorted-yx-requires c κs = search needs
 
-is-solid-requires : tie.Need-is-solid-requires
-is-solid-requires c κs = c .before .before .before .before .before .pre .2
+is-solid-requires : tie.Need-is-solid-requires Inv-loop μ-loop
+is-solid-requires c κs = c .before .before .before .before .before .pre .1
 
--- from the walks on
-module _ (c : tie.After-new) where
-  abbrev entry : tie.Start
-  entry = c .before .before .before .before .before .before .before
-
-  abbrev vertices : tie.After-sorted-yx
-  vertices = c .before .before .before .before .before
-
-  fresh : (let a = entry .args in Fresh (sorted (a .v1) (a .v2) (a .v3) .p1) (sorted (a .v1) (a .v2) (a .v3) .p2) (sorted (a .v1) (a .v2) (a .v3) .p3) (not (isFlat (a .v1) (a .v2) (a .v3))) (c .new .result))
-  fresh = subst₂ (λ (t : Sorted) (b : Bool). Fresh (t .p1) (t .p2) (t .p3) b (c .new .result)) (vertices .sorted-yx .ensures) (c .before .is-solid .ensures) (c .new .ensures)
-
-  begun : (let a = entry .args in let t = vertices .sorted-yx .result in Begun (shape (a .v1) (a .v2) (a .v3)) (t .p1 .1) (t .p3 .1) (c .new .result))
-  begun =
-      let a = entry .args in
-      begun-at (begun-fresh (a .v1) (a .v2) (a .v3) (sorted-all Bounded (a .v1) (a .v2) (a .v3) (entry .pre .2 .0) (entry .pre .2 .1) (entry .pre .2 .2)) (c .new .result) fresh)
-      (ap (λ (t : Sorted). t .p1 .1) (vertices .sorted-yx .ensures)) (ap (λ (t : Sorted). t .p3 .1) (vertices .sorted-yx .ensures))
-
--- the rows as they are read
-begun-read : (c : tie.After-struct-told2) → (let n = c .before .before .before in let a = entry n .args in let t = vertices n .sorted-yx .result in Begun (shape (a .v1) (a .v2) (a .v3)) (toZ w32 (ofZ w32 (t .p1 .1))) (toZ w32 (ofZ w32 (t .p3 .1))) (n .new .result))
-begun-read c =
-    let n = c .before .before .before in
-    let t = vertices n .sorted-yx .result in
-    begun-at (begun n) (field-back w32 (t .p1 .1) (c .before .struct-told .given .1 .0 .1)) (field-back w32 (t .p3 .1) (c .struct-told2 .given .1 .0 .1))
-
-new-requires : tie.Need-new-requires
+new-requires : tie.Need-new-requires Inv-loop μ-loop
 new-requires c κs =
-    let s = c .before .before .before .before .before .before in
-    let all = sorted-bounded (s .args .v1) (s .args .v2) (s .args .v3) _ (c .before .before .before .before .sorted-yx .ensures) (s .pre .2) in
-    (all .first, all .second, all .third)
+    let told = c .before .before .before .before in
+    let s = told .before .before in
+    let a = s .args in
+    let e = told .sorted-yx .ensures in
+    let all = sorted-bounded (a .v1) (a .v2) (a .v3) _ e (s .pre .1) in
+    ((all .first, all .second, all .third), subst Down (sym e) (record { upper = upper (a .v1) (a .v2) (a .v3); lower = lower (a .v1) (a .v2) (a .v3) }))
 
-fill-rows-requires : tie.Need-fill-rows-requires
-fill-rows-requires c κs =
-    let s = entry (c .before .before .before) in
-    (s .pre .0, s .pre .1, record { t = shape (s .args .v1) (s .args .v2) (s .args .v3); begun = begun-read c })
+-- at the loop: the walks stand at the top
+module _ (c : tie.After-struct-told2 Inv-loop μ-loop) where
+  abbrev entry : tie.Start Inv-loop μ-loop
+  entry = c .before .before .before .before .before .before .before .before
 
-same-length : tie.Need-same-length
-same-length c = search needs
+  abbrev v1 : Point
+  v1 = entry .args .v1
 
-returns : tie.Need-returns
+  abbrev v2 : Point
+  v2 = entry .args .v2
+
+  abbrev v3 : Point
+  v3 = entry .args .v3
+
+  abbrev vertices : tie.After-sorted-yx Inv-loop μ-loop
+  vertices = c .before .before .before .before .before .before
+
+  abbrev top : ℤ
+  top = toZ w32 (ofZ w32 (vertices .sorted-yx .result .p1 .1))
+
+  abbrev bottom : ℤ
+  bottom = toZ w32 (ofZ w32 (vertices .sorted-yx .result .p3 .1))
+
+  top-is : top ≡ sorted v1 v2 v3 .p1 .1
+  top-is = field-back w32 (vertices .sorted-yx .result .p1 .1) (c .struct-told2 .given .1 .0 .1) ∙ ap (λ (t : Sorted). t .p1 .1) (vertices .sorted-yx .ensures)
+
+  bottom-is : bottom ≡ sorted v1 v2 v3 .p3 .1
+  bottom-is = field-back w32 (vertices .sorted-yx .result .p3 .1) (c .before .before .before .struct-told .given .1 .0 .1) ∙ ap (λ (t : Sorted). t .p3 .1) (vertices .sorted-yx .ensures)
+
+  begun : WalkAt (sorted v1 v2 v3) (solid v1 v2 v3) top (c .before .new .result)
+  begun =
+      subst (λ (y : ℤ). WalkAt (sorted v1 v2 v3) (solid v1 v2 v3) y (c .before .new .result)) (sym top-is)
+      (subst₂ (λ (t : Sorted) (b : Bool). WalkAt t b (t .p1 .1) (c .before .new .result)) (vertices .sorted-yx .ensures) (c .before .before .is-solid .ensures) (c .before .new .ensures))
+
+loop-holds : tie.Need-loop-holds Inv-loop μ-loop
+loop-holds c =
+    let a = entry c .args in (
+      refl,
+      le-self _,
+      λ v1 v2 v3 ok first at. (
+        at,
+        sym (rows-start (a .brush) (brush-sound ok) (a .buf .now) (triangleFigure v1 v2 v3) (top c) (λ u v l. none-above v1 v2 v3 u v (subst (λ (z : ℤ). pos v <ℤ z) first l))),
+      ),
+    )
+
+-- what a test of two signed numbers says, taken or left
+ruleset tests = (le-yes, le-no, lt-yes, lt-no, lt-le)
+
+-- in a turn
+module _ (c : tie.In-loop Inv-loop μ-loop) where
+  abbrev start : tie.After-struct-told2 Inv-loop μ-loop
+  start = c .before .before
+
+  abbrev y : ℤ
+  y = toZ w32 (c .before .loop .y)
+
+  here : WalkAt (sorted (v1 start) (v2 start) (v3 start)) (solid (v1 start) (v2 start) (v3 start)) y (c .before .loop .walk)
+  here = c .before .loop .inv .2 (v1 start) (v2 start) (v3 start) (entry start .pre .0) (top-is start) (begun start) .0
+
+  -- all that a turn asks of the test: `<` would do too. That no row is left out is asked after the loop
+  not-past : y ≤ℤ bottom start
+  not-past = search tests
+
+  next-row : SFits w32 (y +ℤ pos 1)
+  next-row =
+      let h = entry start .pre .1 in
+      row-fits (v1 start) (v2 start) (v3 start) (h .0) (h .1) (h .2) y (le-trans (le-of (sym (top-is start))) (c .before .loop .inv .1)) (le-trans not-past (le-of (bottom-is start)))
+
+  next-back : toZ w32 (ofZ w32 (y +ℤ pos 1)) ≡ y +ℤ pos 1
+  next-back = toZ-ofZ next-row
+
+row-requires : tie.Need-row-requires Inv-loop μ-loop
+row-requires c κs = record { t = _; solid = _; y = y c; at = here c }
+
+-- the row, and one past its last column
+module _ (c : tie.After-struct-told3 Inv-loop μ-loop) where
+  abbrev turn : tie.In-loop Inv-loop μ-loop
+  turn = c .before .before .before
+
+  abbrev row : Row
+  row = c .before .before .row .result
+
+  taken : (let s = start turn in Rowed (sorted (v1 s) (v2 s) (v3 s)) (solid (v1 s) (v2 s) (v3 s)) (y turn) row)
+  taken = c .before .before .row .ensures _ _ (here turn)
+
+  high-back : toZ w32 (ofZ w32 (row .high)) ≡ row .high
+  high-back = field-back w32 (row .high) (c .struct-told3 .given .1 .1 .0 .1)
+
+  end-fits : SFits w32 (toZ w32 (ofZ w32 (row .high)) +ℤ pos 1)
+  end-fits =
+      let s = start turn in
+      let h = entry s .pre .1 in
+      subst (λ (z : ℤ). SFits w32 (z +ℤ pos 1)) (sym high-back) (past-fits (v1 s) (v2 s) (v3 s) (h .0) (h .1) (h .2) (y turn) row taken)
+
+  end-is : toZ w32 (ofZ w32 (toZ w32 (ofZ w32 (row .high)) +ℤ pos 1)) ≡ row .high +ℤ pos 1
+  end-is = toZ-ofZ end-fits ∙ ap (λ (z : ℤ). z +ℤ pos 1) high-back
+
+add-end : tie.Need-add-end Inv-loop μ-loop
+add-end c = end-fits c
+
+paint-span-requires : tie.Need-paint-span-requires Inv-loop μ-loop
+paint-span-requires c κs =
+    let h = c .before .before .before .before .before in
+    let s = entry (start h) in
+    subst (Ready (s .args .brush)) (sym (h .before .loop .inv .0)) (s .pre .0)
+
+add-y : tie.Need-add-y Inv-loop μ-loop
+add-y c = next-row (c .before .before .before .before .before .before .before .before .before)
+
+loop-less : tie.Need-loop-less Inv-loop μ-loop
+loop-less c =
+    let h = c .before .before .before .before .before .before .before .before .before in
+    let b = bottom (start h) in
+    subst (λ (v : ℤ). (up b + dn v + 1) - (up v + dn b) < (up b + dn (y h) + 1) - (up (y h) + dn b)) (sym (next-back h)) (nearer (y h) b (not-past h))
+
+loop-again : tie.Need-loop-again Inv-loop μ-loop
+loop-again c =
+    let paint = c .before .before .before in
+    let told = paint .before .before .before in
+    let h = turn told in
+    let a = entry (start h) .args in
+    let r = row told in
+    let l = h .before .loop in
+    let low-back = field-back w32 (r .low) (paint .before .struct-told4 .given .1 .0 .1) in (
+      paint .paint-span .kept .0 ∙ l .inv .0,
+      subst (λ (v : ℤ). top (start h) ≤ℤ v) (sym (next-back h)) (still-below (l .inv .1)),
+      λ v1 v2 v3 ok first at.
+          let on = l .inv .2 v1 v2 v3 ok first at in
+          let done = told .before .before .row .ensures (sorted v1 v2 v3) (solid v1 v2 v3) (on .0) in
+          subst (λ (v : ℤ). WalkAt (sorted v1 v2 v3) (solid v1 v2 v3) v (r .walk) × (paint .paint-span .last .0 ≡ brushed (a .brush) (above (triangleFigure v1 v2 v3) v) (a .buf .now)))
+          (sym (next-back h)) (
+            done .walk,
+            paint .paint-span .ensures
+                ∙ (λ i. brushed (a .brush) (spanFigure (y h) (low-back i) (end-is told i)) (on .1 i))
+                ∙ rows-turn (a .brush) (brush-sound ok) (a .buf .now) (triangleFigure v1 v2 v3) (y h) (r .low) (r .high +ℤ pos 1)
+                (λ u v hu hv e. row-columns v1 v2 v3 (y h) r done u v (omega (arith, ok .drawable .accepted .described .width)) e),
+          ),
+    )
+
+same-length : tie.Need-same-length Inv-loop μ-loop
+same-length c = c .before .loop .inv .0
+
+returns : tie.Need-returns Inv-loop μ-loop
 returns c =
-    let rows = c .before .before in
-    let a = entry (rows .before .before .before .before) .args in
-    rows .fill-rows .ensures (shape (a .v1) (a .v2) (a .v3)) (triangleFigure (a .v1) (a .v2) (a .v3)) (begun-read (rows .before)) (contained-between (a .v1) (a .v2) (a .v3))
+    let d = c .before .before in
+    let a = entry d .args in
+    let l = c .before .loop in
+    let past : bottom d <ℤ toZ w32 (l .y) = search tests in
+    l .inv .2 (v1 d) (v2 d) (v3 d) (entry d .pre .0) (top-is d) (begun d) .1
+    ∙ rows-end (a .brush) (brush-sound (entry d .pre .0)) (a .buf .now) (triangleFigure (v1 d) (v2 d) (v3 d)) (toZ w32 (l .y))
+    (λ u v k. none-below (v1 d) (v2 d) (v3 d) u v (nat-lt (omega (arith, lt-nat past, le-nat k, eq-nat (bottom-is d)))))
 
 pub fill-triangle-spec : {M : Type 1} → statement M
 fill-triangle-spec =
-    tie.close (tie.spec sorted-yx-requires is-solid-requires new-requires fill-rows-requires same-length returns)
+    tie.close
+    (tie.spec
+    Inv-loop
+    μ-loop
+    sorted-yx-requires
+    is-solid-requires
+    new-requires
+    loop-holds
+    row-requires
+    add-end
+    paint-span-requires
+    add-y
+    loop-less
+    loop-again
+    same-length
+    returns)

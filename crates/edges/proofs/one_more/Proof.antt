@@ -6,7 +6,8 @@ use mir.Val.{toZ, ofZ}
 use borrow.Author.Needs.{needs}
 use Rattle.whole.proofs.Machine.{field-back}
 use Rattle.geometry.specs.declared.Point.{Point}
-use Rattle.edges.proofs.Runs.{to-go, one-less, one-on, lesser-at, greater-at}
+use Rattle.geometry.specs.Extreme.{lesser, greater}
+use Rattle.edges.proofs.Runs.{to-go, one-less}
 use Rattle.edges.proofs.one_more.Statement.{statement}
 use Rattle.edges.proofs.one_more.Tie as tie
 
@@ -31,15 +32,15 @@ add-t9 c =
 
 returns : tie.Need-returns
 returns c =
-    let lesser = c .before .before .before .before .before in
-    let told = lesser .before in
+    let least = c .before .before .before .before .before in
+    let told = least .before in
     let st = told .before .before .before .before .before .before in
     let step = told .before .before .before .before .step in
     let low : toZ w32 (ofZ w32 (st .args .r .low)) ≡ st .args .r .low = field-back w32 (st .args .r .low) (told .before .struct-told .given .1 .1 .0 .1) in
     let high : toZ w32 (ofZ w32 (st .args .r .high)) ≡ st .args .r .high = field-back w32 (st .args .r .high) (told .before .struct-told .given .1 .1 .1 .0 .1) in
     let x : toZ w32 (ofZ w32 (step .result .point .0)) ≡ step .result .point .0 = field-back w32 (step .result .point .0) (told .struct-told2 .given .0 .1) in
-    let low′ : lesser .lesser .result ≡ toZ w32 (ofZ w32 (lesser .lesser .result)) = search needs in
-    let high′ : c .before .before .greater .result ≡ toZ w32 (ofZ w32 (c .before .before .greater .result)) = search needs in (
+    let low′ : toZ w32 (ofZ w32 (least .lesser .result)) ≡ least .lesser .result = search needs in
+    let high′ : toZ w32 (ofZ w32 (c .before .before .greater .result)) ≡ c .before .before .greater .result = search needs in (
       omega (arith, st .pre .1),
       refl,
       λ s e n k h.
@@ -47,9 +48,8 @@ returns c =
           let column = x ∙ ap (λ (p : Point). p .0) (g .0) in
           record {
             here = one-less h (st .pre .1) (g .1);
-            low = lesser-at (lesser .lesser .ensures) low column low′;
-            high = greater-at (c .before .before .greater .ensures) high column high′;
-            agrees = λ others e. one-on _ _ _ k refl e;
+            low = low′ ∙ least .lesser .ensures ∙ (λ i. lesser (low i) (column i));
+            high = high′ ∙ c .before .before .greater .ensures ∙ (λ i. greater (high i) (column i));
           },
     )
 

@@ -4,7 +4,7 @@ use Prim.Native.Nat.{ℕ}
 use borrow.Author.Needs.{needs}
 use Rattle.framebuffer.specs.Answer.{sized}
 use Rattle.framebuffer.specs.Description.{size}
-use Rattle.framebuffer.proofs.Refusals.{refused-size}
+use Rattle.framebuffer.proofs.Refusals.{is-described, refused-size}
 use Rattle.framebuffer.proofs.buffer_size_bpp.Statement.{statement}
 use Rattle.framebuffer.proofs.buffer_size_bpp.Tie as tie
 
@@ -15,7 +15,7 @@ returns : tie.Need-returns
 returns c = refused-size (c .before .description-refusal .result) (size (c .before .before .args .frame)) (c .if1 .taken) ∙ ap (λ (n : ℕ). sized n (size (c .before .before .args .frame))) (c .before .description-refusal .ensures)
 
 frame-bytes-requires : tie.Need-frame-bytes-requires
-frame-bytes-requires c κs = sym (c .before .description-refusal .ensures) ∙ c .if1 .left
+frame-bytes-requires c κs = is-described _ (sym (c .before .description-refusal .ensures) ∙ c .if1 .left)
 
 returns-2 : tie.Need-returns-2
 returns-2 c = ap₂ sized (sym (c .before .if1 .left) ∙ c .before .before .description-refusal .ensures) (c .frame-bytes .ensures)

@@ -3,31 +3,34 @@ use mathlib.Core.Path.{ap, _∙_}
 use Prim.Native.Nat.{ℕ, _*_}
 use native.Mathlib.Omega.{arith}
 use borrow.Author.Needs.{needs}
-use Rattle.framebuffer.proofs.Refusals.{is-drawable, frame-passed, description-passed, product, padded}
+use Rattle.framebuffer.proofs.Refusals.{product, row-fits, padded}
 use Rattle.framebuffer.proofs.fill_frame.Statement.{statement}
 use Rattle.framebuffer.proofs.fill_frame.Tie as tie
 
 row-distance-requires : tie.Need-row-distance-requires
-row-distance-requires c κs = let a = c .before .args in description-passed (a .frame) _ (frame-passed (a .frame) _ (a .colour) (c .before .pre))
+row-distance-requires c κs = c .before .pre .accepted .described
 
 mul-if1 : tie.Need-mul-if1
-mul-if1 c = record { fits = let h = c .row-distance .ensures .1 in omega arith }
+mul-if1 c =
+    let s = c .before .before in
+    let e = c .row-distance .ensures in
+    record { fits = omega (arith, row-fits (s .args .frame) (s .pre .accepted .described)) }
 
 mul-if1-2 : tie.Need-mul-if1-2
 mul-if1-2 c =
     let s = c .before .before .before in
-    record { fits = omega (arith, product (s .args .frame) (is-drawable (s .args .frame) _ (s .args .colour) (s .pre) .accepted .described)) }
+    record { fits = omega (arith, product (s .args .frame) (s .pre .accepted .described)) }
 
 fill-run-requires : tie.Need-fill-run-requires
 fill-run-requires c κs =
-    let e = c .before .before .before .row-distance .ensures .0 in
+    let e = c .before .before .before .row-distance .ensures in
     let t = c .before .if1 .taken in
     (c .before .before .before .before .before .pre, omega arith)
 
-fill-rows-requires : tie.Need-fill-rows-requires
-fill-rows-requires c κs =
+fill-each-row-requires : tie.Need-fill-each-row-requires
+fill-each-row-requires c κs =
     let s = c .before .before .before .before .before in
-    (s .pre, padded (s .args .frame) (λ e. c .before .if1 .left (ap (λ (n : ℕ). n * 8) (c .before .before .before .row-distance .ensures .0) ∙ e)))
+    (s .pre, padded (s .args .frame) (λ e. c .before .if1 .left (ap (λ (n : ℕ). n * 8) (c .before .before .before .row-distance .ensures) ∙ e)))
 
 same-length : tie.Need-same-length
 same-length c = search needs
@@ -39,7 +42,7 @@ same-length-2 : tie.Need-same-length-2
 same-length-2 c = search needs
 
 returns-2 : tie.Need-returns-2
-returns-2 c = c .before .before .fill-rows .ensures
+returns-2 c = c .before .before .fill-each-row .ensures
 
 pub fill-frame-spec : {M : Type 1} → statement M
 fill-frame-spec =
@@ -49,7 +52,7 @@ fill-frame-spec =
     mul-if1
     mul-if1-2
     fill-run-requires
-    fill-rows-requires
+    fill-each-row-requires
     same-length
     returns
     same-length-2

@@ -9,23 +9,24 @@ use lib.Seq.{length-take-le}
 use borrow.Author.Needs.{needs}
 use Rattle.layout.specs.Digits.{setRun}
 use Rattle.layout.specs.Figure.{everywhere}
-use Rattle.layout.specs.Raster.{rowBytes, parts, painted, fullByte}
+use Rattle.layout.specs.Layout.{painted}
+use Rattle.layout.specs.Packed.{parts, fullByte}
 use Rattle.layout.proofs.Runs.{run-part}
 use Rattle.layout.proofs.Bytes.{Bytes, one-run}
 use Rattle.framebuffer.specs.declared.Frame.{Frame}
-use Rattle.framebuffer.specs.Description.{raster, size}
-use Rattle.framebuffer.proofs.Refusals.{Drawable, is-drawable, frame-passed, description-passed, sound, one-pixel}
+use Rattle.framebuffer.specs.Description.{packed, raster, size}
+use Rattle.framebuffer.specs.Judged.{Drawable}
+use Rattle.framebuffer.proofs.Refusals.{spaced, one-pixel}
 use Rattle.framebuffer.proofs.fill_run.Statement.{statement}
 use Rattle.framebuffer.proofs.fill_run.Tie as tie
 
 -- what the call may lean on
 ok : (c : tie.Start) → Drawable (c .args .frame) (length (c .args .buf .now)) (c .args .colour)
-ok c = is-drawable (c .args .frame) (length (c .args .buf .now)) (c .args .colour) (c .pre .0)
+ok c = c .pre .0
 
 frame-bytes-requires : tie.Need-frame-bytes-requires
 frame-bytes-requires c κs =
-    let a = c .before .args in
-    description-passed (a .frame) _ (frame-passed (a .frame) _ (a .colour) (c .before .pre .0))
+    ok (c .before) .accepted .described
 
 cast-end : tie.Need-cast-end
 cast-end c = search needs
@@ -43,16 +44,16 @@ fill-part-requires : tie.Need-fill-part-requires
 fill-part-requires c κs =
     let s = c .before .before .before .before in
     let a = s .args in
-    (ok s .accepted .described .depth, ok s .below, subst (λ (n : ℕ). parts (a .frame .depth) ≤ n) (sym (length-take-le (c .before .before .frame-bytes .result) (a .buf .now) (room (c .before .before)))) (subst (λ (n : ℕ). parts (a .frame .depth) ≤ n) (sym (c .before .before .frame-bytes .ensures)) (one-pixel (a .frame) (ok s .accepted .described) (subst (λ (n : ℕ). 0 < n) (c .before .before .frame-bytes .ensures) (c .before .if1 .taken)))))
+    (ok s .accepted .described .depth, ok s .below, subst (λ (n : ℕ). parts (a .frame .depth) ≤ n) (sym (length-take-le (c .before .before .frame-bytes .result) (a .buf .now) (room (c .before .before)))) (subst (λ (n : ℕ). parts (a .frame .depth) ≤ n) (sym (c .before .before .frame-bytes .ensures)) (one-pixel (a .frame) (s .pre .1) (subst (λ (n : ℕ). 0 < n) (c .before .before .frame-bytes .ensures) (c .before .if1 .taken)))))
 
 same-length : tie.Need-same-length
 same-length c = search needs
 
 -- the run is the frame
-run : (f : Frame) (colour : ℕ) (b : List ℕ) (A : Drawable f (length b) colour) → rowBytes (f .width) (f .depth) * 8 ≡ f .width * f .depth → Bytes b
+run : (f : Frame) (colour : ℕ) (b : List ℕ) (A : Drawable f (length b) colour) → packed f .distance * 8 ≡ f .width * f .depth → Bytes b
     → painted (raster f) everywhere colour b ≡ setRun 0 (size f) (fullByte (f .depth) (f .big) colour) b
 unfolding size
-run f colour b A e v = one-run (raster f) (sound f (A .accepted .described)) colour (A .below) b e (A .accepted .room) v
+run f colour b A e v = one-run (packed f) (spaced f (A .accepted .described)) colour (A .below) b e (A .accepted .room) v
 
 returns : tie.Need-returns
 returns c =

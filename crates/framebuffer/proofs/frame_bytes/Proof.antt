@@ -4,7 +4,7 @@ use Prim.Native.Nat.{ℕ, _*_}
 use native.Mathlib.Omega.{arith}
 use borrow.Author.Needs.{needs}
 use Rattle.framebuffer.specs.Description.{size}
-use Rattle.framebuffer.proofs.Refusals.{is-described, size-fits}
+use Rattle.framebuffer.proofs.Refusals.{size-fits}
 use Rattle.framebuffer.proofs.frame_bytes.Statement.{statement}
 use Rattle.framebuffer.proofs.frame_bytes.Tie as tie
 
@@ -14,12 +14,12 @@ row-distance-requires c κs = search needs
 mul-result : tie.Need-mul-result
 unfolding size
 mul-result c =
-    let s = size-fits (c .before .before .args .frame) (is-described (c .before .before .args .frame) (c .before .before .pre)) in
-    rw (c .before .row-distance .ensures .0) (omega arith)
+    let s = size-fits (c .before .before .args .frame) (c .before .before .pre) in
+    rw (c .before .row-distance .ensures) (omega arith)
 
 returns : tie.Need-returns
 unfolding size
-returns c = ap (λ (n : ℕ). n * c .before .before .args .frame .height) (c .before .row-distance .ensures .0)
+returns c = ap (λ (n : ℕ). n * c .before .before .args .frame .height) (c .before .row-distance .ensures)
 
 pub frame-bytes-spec : {M : Type 1} → statement M
 frame-bytes-spec = tie.close (tie.spec row-distance-requires mul-result returns)

@@ -5,15 +5,16 @@ use native.Mathlib.Nat.{le-of-lt}
 use native.Mathlib.Omega.{arith}
 use lib.ListN.{length, length-take, length-drop}
 use borrow.Author.Needs.{needs}
-use Rattle.layout.specs.Raster.{parts}
-use Rattle.framebuffer.proofs.Refusals.{Drawable, is-drawable, place-small, end-room}
+use Rattle.layout.specs.Packed.{parts}
+use Rattle.framebuffer.specs.Judged.{Drawable}
+use Rattle.framebuffer.proofs.Refusals.{place-small, end-room}
 use Rattle.framebuffer.proofs.Edges.{pixels-are, pixels-apart}
 use Rattle.framebuffer.proofs.paint_columns.Statement.{statement}
 use Rattle.framebuffer.proofs.paint_columns.Tie as tie
 
 -- what the call may lean on
 ok : (c : tie.Start) → Drawable (c .args .frame) (length (c .args .buf .now)) (c .args .colour)
-ok c = is-drawable (c .args .frame) (length (c .args .buf .now)) (c .args .colour) (c .pre .0)
+ok c = c .pre .0
 
 paint-fields-requires : tie.Need-paint-fields-requires
 paint-fields-requires c κs = let p = c .before .before .before .before .pre in (p .0, c .before .if1 .taken, p .1, p .2, p .3)
@@ -25,10 +26,10 @@ returns : tie.Need-returns
 returns c = c .before .before .paint-fields .ensures
 
 byte-of-requires : tie.Need-byte-of-requires
-byte-of-requires c κs = let s = c .before .before .before in place-small (s .args .frame) _ (s .args .colour) (s .pre .0) (let f = s .pre .2 in let p = s .pre .3 in omega arith) (s .pre .1)
+byte-of-requires c κs = let s = c .before .before .before in place-small (s .args .frame) (ok s .accepted .described) (let f = s .pre .2 in let p = s .pre .3 in omega arith) (s .pre .1)
 
 byte-of-requires-2 : tie.Need-byte-of-requires-2
-byte-of-requires-2 c κs = let s = c .before .before .before .before in place-small (s .args .frame) _ (s .args .colour) (s .pre .0) (s .pre .3) (s .pre .1)
+byte-of-requires-2 c κs = let s = c .before .before .before .before in place-small (s .args .frame) (ok s .accepted .described) (s .pre .3) (s .pre .1)
 
 -- the part of the buffer is in it, and holds a pixel
 apart : (c : tie.After-byte-of2) → c .before .byte-of .result + parts (c .before .before .before .before .before .args .frame .depth) ≤ c .byte-of2 .result

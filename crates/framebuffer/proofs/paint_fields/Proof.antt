@@ -8,20 +8,22 @@ use lib.Bits.{bitAnd}
 use lib.ListN.{length, take, drop}
 use borrow.Author.Needs.{needs}
 use Rattle.layout.specs.Digits.{setRun}
-use Rattle.layout.specs.Raster.{rowBytes, per, painted}
+use Rattle.layout.specs.Layout.{painted}
+use Rattle.layout.specs.Packed.{per}
 use Rattle.layout.proofs.Places.{parts-pos}
 use Rattle.layout.proofs.Spans.{columns}
 use Rattle.layout.proofs.Painted.{painted-length}
-use Rattle.framebuffer.specs.Description.{raster}
-use Rattle.framebuffer.specs.Words.{mergedAt}
-use Rattle.framebuffer.proofs.Refusals.{Drawable, is-drawable, place-small, pixel-room, end-room}
+use Rattle.framebuffer.specs.Description.{packed, raster}
+use Rattle.packing.specs.Words.{mergedAt}
+use Rattle.framebuffer.specs.Judged.{Drawable}
+use Rattle.framebuffer.proofs.Refusals.{sound, place-small, pixel-room, end-room}
 use Rattle.framebuffer.proofs.Edges.{ends-in, ends-with, bytes-to, head-after, in-order, head-is, tail-is, inner-is, whole-is, joined}
 use Rattle.framebuffer.proofs.paint_fields.Statement.{statement}
 use Rattle.framebuffer.proofs.paint_fields.Tie as tie
 
 -- what the call may lean on
 ok : (c : tie.Start) → Drawable (c .args .frame) (length (c .args .buf .now)) (c .args .colour)
-ok c = is-drawable (c .args .frame) (length (c .args .buf .now)) (c .args .colour) (c .pre .0)
+ok c = c .pre .0
 
 -- its first column is in the frame
 start : (c : tie.Start) → c .args .from < c .args .frame .width
@@ -31,19 +33,19 @@ pattern-requires : tie.Need-pattern-requires
 pattern-requires c κs = let s = c .before in (ok s .accepted .described .depth, le-of-lt (s .pre .1), ok s .below)
 
 byte-of-requires : tie.Need-byte-of-requires
-byte-of-requires c κs = let s = c .before .before in place-small (s .args .frame) _ (s .args .colour) (s .pre .0) (le-of-lt (start s)) (s .pre .2)
+byte-of-requires c κs = let s = c .before .before in place-small (s .args .frame) (ok s .accepted .described) (le-of-lt (start s)) (s .pre .2)
 
 byte-of-requires-2 : tie.Need-byte-of-requires-2
-byte-of-requires-2 c κs = let s = c .before .before .before in place-small (s .args .frame) _ (s .args .colour) (s .pre .0) (s .pre .4) (s .pre .2)
+byte-of-requires-2 c κs = let s = c .before .before .before in place-small (s .args .frame) (ok s .accepted .described) (s .pre .4) (s .pre .2)
 
-onward-requires : tie.Need-onward-requires
-onward-requires c κs = let s = c .before .before .before .before in (ok s .accepted .described .depth, s .pre .1, place-small (s .args .frame) _ (s .args .colour) (s .pre .0) (le-of-lt (start s)) (s .pre .2) .1)
+bits-from-requires : tie.Need-bits-from-requires
+bits-from-requires c κs = let s = c .before .before .before .before in record { good = ok s .accepted .described .depth; small = s .pre .1; near = place-small (s .args .frame) (ok s .accepted .described) (le-of-lt (start s)) (s .pre .2) .1 }
 
-onward-requires-2 : tie.Need-onward-requires-2
-onward-requires-2 c κs = let s = c .before .before .before .before .before in (ok s .accepted .described .depth, s .pre .1, place-small (s .args .frame) _ (s .args .colour) (s .pre .0) (s .pre .4) (s .pre .2) .1)
+bits-from-requires-2 : tie.Need-bits-from-requires-2
+bits-from-requires-2 c κs = let s = c .before .before .before .before .before in record { good = ok s .accepted .described .depth; small = s .pre .1; near = place-small (s .args .frame) (ok s .accepted .described) (s .pre .4) (s .pre .2) .1 }
 
 -- the first column's byte is in the buffer
-room : (c : tie.Start) → c .args .y * rowBytes (c .args .frame .width) (c .args .frame .depth) + c .args .from * c .args .frame .depth / 8 < length (c .args .buf .now)
+room : (c : tie.Start) → c .args .y * packed (c .args .frame) .distance + c .args .from * c .args .frame .depth / 8 < length (c .args .buf .now)
 room c =
     let a = c .args in
     let p = pixel-room (a .frame) _ (a .from) (a .y) (ok c .accepted) (start c) (c .pre .2) refl in
@@ -64,7 +66,7 @@ returns c =
     let last = c .before .before .before .before .before .before .before .byte-of2 .ensures in
     let same = c .before .before .before .before .if1 .taken in
     c .before .before .merge-at .ensures
-    ∙ (λ i. mergedAt (first i) (c .before .before .before .before .before .before .before .before .before .pattern .ensures i) (bitAnd (c .before .before .before .before .before .before .onward .ensures i) (255 - c .before .before .before .before .before .onward2 .ensures i)) (a .buf .now))
+    ∙ (λ i. mergedAt (first i) (c .before .before .before .before .before .before .before .before .before .pattern .ensures i) (bitAnd (c .before .before .before .before .before .before .bits-from .ensures i) (255 - c .before .before .before .before .before .bits-from2 .ensures i)) (a .buf .now))
     ∙ inner-is (a .frame) _ (a .colour) (ok s) (s .pre .1) (a .y) (a .buf .now) (s .pre .2) (λ i. c .before .before .before .before .before .before .before .before .before .before .slice-known .given i .fits) (a .from) (a .past) (room s) (s .pre .3) (s .pre .4) (omega arith)
 
 merge-at-requires-2 : tie.Need-merge-at-requires-2
@@ -75,7 +77,7 @@ order : (c : tie.Else1) → (let a = c .before .before .before .before .before .
 order c =
     let s = c .before .before .before .before .before .before .before in
     let a = s .args in
-    let row = a .y * rowBytes (a .frame .width) (a .frame .depth) in
+    let row = a .y * packed (a .frame) .distance in
     in-order (a .frame) _ (a .colour) (ok s) (s .pre .1) (a .from) (a .past) (s .pre .3) (λ e. c .if1 .left (c .before .before .before .before .byte-of .ensures ∙ ap (λ (i : ℕ). row + i) e ∙ sym (c .before .before .before .byte-of2 .ensures)))
 
 bytes : (c : tie.Else1) → (c .before .before .before .before .byte-of .result + 1 ≤ c .before .before .before .byte-of2 .result) × (c .before .before .before .byte-of2 .result ≤ length (c .before .before .before .before .before .before .before .args .buf .now))
@@ -103,7 +105,7 @@ first c =
     let z = p .1 in
     let w = s .pre .4 in
     c .merge-at2 .ensures
-    ∙ (λ i. mergedAt (c .before .before .before .before .before .before .byte-of .ensures i) (c .before .before .before .before .before .before .before .pattern .ensures i) (c .before .before .before .before .onward .ensures i) (a .buf .now))
+    ∙ (λ i. mergedAt (c .before .before .before .before .before .before .byte-of .ensures i) (c .before .before .before .before .before .before .before .pattern .ensures i) (c .before .before .before .before .bits-from .ensures i) (a .buf .now))
     ∙ head-is (a .frame) _ (a .colour) (ok s) (s .pre .1) (a .y) (a .buf .now) (s .pre .2) (λ i. c .before .before .before .before .before .before .before .before .slice-known .given i .fits) (a .from) (room s) (omega arith)
 
 add-set-all : tie.Need-add-set-all
@@ -152,12 +154,15 @@ begun c =
     (order (c .before .before .before .before .before .before)) (omega arith) (omega arith) (omega arith) (omega arith) refl (c .set-all .ensures ∙ ap (λ (v : ℕ). setRun 0 (length part) (λ j. v) part) (c .before .before .before .before .before .before .before .before .before .before .before .pattern .ensures)))
 
 longer : (c : tie.After-set-all) → length (middle c) ≡ length (c .before .before .before .before .before .before .before .before .before .before .before .before .before .args .buf .now)
-longer c = let a = c .before .before .before .before .before .before .before .before .before .before .before .before .before .args in ap length (begun c) ∙ painted-length (raster (a .frame)) _ (a .colour) (a .buf .now)
+longer c =
+    let s = c .before .before .before .before .before .before .before .before .before .before .before .before .before in
+    let a = s .args in
+    ap length (begun c) ∙ painted-length (raster (a .frame)) (sound (a .frame) (ok s .accepted .described)) _ (a .colour) (a .buf .now)
 
 mul-if2 : tie.Need-mul-if2
 mul-if2 c =
     let s = c .before .before .before .before .before .before .before .before .before .before .before .before .before .before .before in
-    let p = place-small (s .args .frame) _ (s .args .colour) (s .pre .0) (s .pre .4) (s .pre .2) .1 in
+    let p = place-small (s .args .frame) (ok s .accepted .described) (s .pre .4) (s .pre .2) .1 in
     let m : s .args .past * s .args .frame .depth ≤ 2048 * 8 = mul-le-mul p (le-of-lt (s .pre .1)) in
     record { fits = omega arith }
 
@@ -186,7 +191,7 @@ returns-2 c =
     let h = head-after (a .frame) _ (a .colour) (ok s) (s .pre .1) (a .from) in
     joined (a .frame) _ (a .colour) (ok s) (s .pre .1) (a .y) (a .from) _ (a .past) (a .buf .now) (middle m) (c .before .before .merge-at3 .last .0) (omega arith) (p .1) (begun m)
     (c .before .before .merge-at3 .ensures
-    ∙ (λ i. mergedAt (c .before .before .before .before .before .before .before .before .before .before .before .before .before .before .before .before .byte-of2 .ensures i) (c .before .before .before .before .before .before .before .before .before .before .before .before .before .before .before .before .before .before .pattern .ensures i) (255 - c .before .before .before .before .before .before .before .before .before .before .before .before .before .before .onward2 .ensures i) (middle m))
+    ∙ (λ i. mergedAt (c .before .before .before .before .before .before .before .before .before .before .before .before .before .before .before .before .byte-of2 .ensures i) (c .before .before .before .before .before .before .before .before .before .before .before .before .before .before .before .before .before .before .pattern .ensures i) (255 - c .before .before .before .before .before .before .before .before .before .before .before .before .before .before .bits-from2 .ensures i) (middle m))
     ∙ tail-is (a .frame) _ (a .colour) (ok s) (s .pre .1) (a .y) (middle m) (s .pre .2) (λ i. c .before .before .before .before .before .slice-known4 .given i .fits) (a .past) (subst (λ (i : ℕ). i < length (middle m)) (c .before .before .before .before .before .before .before .before .before .before .before .before .before .before .before .before .byte-of2 .ensures) (rest (c .before .before .before .before))) (s .pre .4))
 
 same-length-3 : tie.Need-same-length-3
@@ -205,8 +210,8 @@ paint-fields-spec =
     pattern-requires
     byte-of-requires
     byte-of-requires-2
-    onward-requires
-    onward-requires-2
+    bits-from-requires
+    bits-from-requires-2
     merge-at-requires
     same-length
     returns

@@ -3,96 +3,95 @@ use mathlib.Core.Path.{_≡_, sym, ap, subst, _∙_}
 use mathlib.Core.Bool.{true}
 use Prim.Native.Nat.{ℕ, _≤_, _<_}
 use native.Mathlib.Omega.{arith}
-use lib.IntN.{ℤ, natAbs}
-use lib.ListN.{length}
+use lib.IntN.{ℤ, pos, natAbs}
 use mir.Facts.{toZ-ofZ}
 use borrow.Author.Needs.{needs}
 use borrow.Author.Tests.{not-true, not-false}
-use Rattle.layout.specs.Raster.{painted}
+use Rattle.whole.specs.Interval.{between}
+use Rattle.layout.specs.Layout.{painted}
 use Rattle.layout.proofs.Spans.{columns}
 use Rattle.framebuffer.specs.Description.{raster}
-use Rattle.framebuffer.specs.Rectangle.{isBetween}
-use Rattle.framebuffer.specs.Words.{clipped}
-use Rattle.framebuffer.proofs.Refusals.{Described, is-drawable}
-use Rattle.framebuffer.proofs.Panes.{within-small, cast-fits, between-pos, in-between}
+use Rattle.framebuffer.specs.Window.{clipped}
+use Rattle.framebuffer.specs.Judged.{Described}
+use Rattle.framebuffer.proofs.Windows.{within-small, cast-fits, between-pos, in-between}
 use Rattle.framebuffer.proofs.Clips.{row-off, clip-bounds, span-left, span-gone}
 use Rattle.framebuffer.proofs.paint_span.Statement.{statement}
 use Rattle.framebuffer.proofs.paint_span.Tie as tie
 
 -- what the call may lean on
-ok : (c : tie.Start) → Described (c .args .frame)
-ok c = is-drawable (c .args .frame) (length (c .args .buf .now)) (c .args .colour) (c .pre .0) .accepted .described
+ok : (c : tie.Start) → Described (c .args .brush .frame)
+ok c = c .pre .drawable .accepted .described
 
 -- the rectangle's ends
-small : (c : tie.Start) → (let q = c .args .pane in (q .left ≤ q .right) × (q .right ≤ 2048) × (q .top ≤ q .bottom) × (q .bottom ≤ 2048))
-small c = within-small (c .pre .1) (ok c)
+small : (c : tie.Start) → (let q = c .args .brush .window in (q .left ≤ q .right) × (q .right ≤ 2048) × (q .top ≤ q .bottom) × (q .bottom ≤ 2048))
+small c = within-small (c .pre .within) (ok c)
 
 is-between-requires : tie.Need-is-between-requires
-is-between-requires c κs = let h = small (c .before) in (h .2, h .3)
+is-between-requires c κs = let h = small (c .before .before) in (h .2, h .3)
 
 -- whether it has the row
-row : (c : tie.After-is-between) → (let a = c .before .before .args in isBetween (a .y) (a .pane .top) (a .pane .bottom) ≡ c .is-between .result)
-row c = let a = c .before .before .args in sym (c .is-between .ensures ∙ ap (λ (z : ℤ). isBetween z (a .pane .top) (a .pane .bottom)) (toZ-ofZ (c .before .before .fits .y)))
+row : (c : tie.After-is-between) → (let a = c .before .before .before .args in between (pos (a .brush .window .top)) (pos (a .brush .window .bottom)) (a .y) ≡ c .is-between .result)
+row c = let a = c .before .before .before .args in sym (c .is-between .ensures ∙ ap (λ (z : ℤ). between (pos (a .brush .window .top)) (pos (a .brush .window .bottom)) z) (toZ-ofZ (c .before .before .before .fits .y)))
 
 returns : tie.Need-returns
 returns c =
-    let s = c .before .before .before in
+    let s = c .before .before .before .before in
     let a = s .args in
-    row-off (a .frame) (ok s) (a .colour) (a .buf .now) (a .pane) (a .y) (a .start) (a .end) (s .pre .1) (row (c .before) ∙ not-true _ (c .if1 .taken))
+    row-off (a .brush .frame) (ok s) (a .brush .colour) (a .buf .now) (a .brush .window) (a .y) (a .start) (a .end) (s .pre .within) (row (c .before) ∙ not-true _ (c .if1 .taken))
 
-inner : (c : tie.Else1) → (let a = c .before .before .before .args in isBetween (a .y) (a .pane .top) (a .pane .bottom) ≡ true)
+inner : (c : tie.Else1) → (let a = c .before .before .before .before .args in between (pos (a .brush .window .top)) (pos (a .brush .window .bottom)) (a .y) ≡ true)
 inner c = row (c .before) ∙ not-false _ (c .if1 .left)
 
 clip-requires : tie.Need-clip-requires
-clip-requires c κs = let h = small (c .before .before .before) in (h .0, h .1)
+clip-requires c κs = let h = small (c .before .before .before .before) in (h .0, h .1)
 
 clip-requires-2 : tie.Need-clip-requires-2
-clip-requires-2 c κs = let h = small (c .before .before .before .before) in (h .0, h .1)
+clip-requires-2 c κs = let h = small (c .before .before .before .before .before) in (h .0, h .1)
 
 -- the columns that are left
-from : (c : tie.After-clip) → (let a = c .before .before .before .before .args in c .clip .result ≡ clipped (a .start) (a .pane .left) (a .pane .right))
-from c = let s = c .before .before .before .before in c .clip .ensures ∙ ap (λ (x : ℤ). clipped x (s .args .pane .left) (s .args .pane .right)) (toZ-ofZ (s .fits .start))
+from : (c : tie.After-clip) → (let a = c .before .before .before .before .before .args in c .clip .result ≡ clipped (a .start) (a .brush .window .left) (a .brush .window .right))
+from c = let s = c .before .before .before .before .before in c .clip .ensures ∙ ap (λ (x : ℤ). clipped x (s .args .brush .window .left) (s .args .brush .window .right)) (toZ-ofZ (s .fits .start))
 
-past : (c : tie.After-clip2) → (let a = c .before .before .before .before .before .args in c .clip2 .result ≡ clipped (a .end) (a .pane .left) (a .pane .right))
-past c = let s = c .before .before .before .before .before in c .clip2 .ensures ∙ ap (λ (x : ℤ). clipped x (s .args .pane .left) (s .args .pane .right)) (toZ-ofZ (s .fits .end))
+past : (c : tie.After-clip2) → (let a = c .before .before .before .before .before .before .args in c .clip2 .result ≡ clipped (a .end) (a .brush .window .left) (a .brush .window .right))
+past c = let s = c .before .before .before .before .before .before in c .clip2 .ensures ∙ ap (λ (x : ℤ). clipped x (s .args .brush .window .left) (s .args .brush .window .right)) (toZ-ofZ (s .fits .end))
 
 cast-paint-columns : tie.Need-cast-paint-columns
 cast-paint-columns c =
-    let s = c .before .before .before .before .before .before .before in
+    let s = c .before .before .before .before .before .before .before .before in
     let a = s .args in
-    cast-fits (s .fits .y) (between-pos (a .y) (a .pane .top) (a .pane .bottom) (inner (c .before .before .before .before)))
+    cast-fits (s .fits .y) (between-pos (a .y) (a .brush .window .top) (a .brush .window .bottom) (inner (c .before .before .before .before)))
 
 paint-columns-requires : tie.Need-paint-columns-requires
 paint-columns-requires c κs =
-    let s = c .before .before .before .before .before .before .before in
+    let s = c .before .before .before .before .before .before .before .before in
     let a = s .args in
-    let b = s .pre .1 .bottom in
-    let r = s .pre .1 .right in
+    let b = s .pre .within .bottom in
+    let r = s .pre .within .right in
     let i = inner (c .before .before .before .before) in
-    let l = in-between (natAbs (a .y)) (a .pane .top) (a .pane .bottom) (ap (λ (z : ℤ). isBetween z (a .pane .top) (a .pane .bottom)) (sym (between-pos (a .y) (a .pane .top) (a .pane .bottom) i)) ∙ i) .1 in
+    let l = in-between (natAbs (a .y)) (a .brush .window .top) (a .brush .window .bottom) (ap (λ (z : ℤ). between (pos (a .brush .window .top)) (pos (a .brush .window .bottom)) z) (sym (between-pos (a .y) (a .brush .window .top) (a .brush .window .bottom) i)) ∙ i) .1 in
     let p = past (c .before .before) in
-    let h = clip-bounds (a .end) (a .pane .left) (a .pane .right) (s .pre .1 .columns) .1 in
-    (s .pre .0, subst (λ (z : ℤ). natAbs z < a .frame .height) (sym (toZ-ofZ (s .fits .y))) (omega arith), omega arith, omega arith)
+    let h = clip-bounds (a .end) (a .brush .window .left) (a .brush .window .right) (s .pre .within .across) .1 in
+    (s .pre .drawable, subst (λ (z : ℤ). natAbs z < a .brush .frame .height) (sym (toZ-ofZ (s .fits .y))) (omega arith), omega arith, omega arith)
 
 same-length : tie.Need-same-length
 same-length c = search needs
 
 returns-2 : tie.Need-returns-2
 returns-2 c =
-    let s = c .before .before .before .before .before .before .before .before .before .before in
+    let s = c .before .before .before .before .before .before .before .before .before .before .before in
     let a = s .args in
     c .before .before .paint-columns .ensures
-    ∙ (λ k. painted (raster (a .frame)) (columns (natAbs (toZ-ofZ (s .fits .y) k)) (from (c .before .before .before .before .before .before) k) (past (c .before .before .before .before .before) k)) (a .colour) (a .buf .now))
-    ∙ span-left (a .frame) (ok s) (a .colour) (a .buf .now) (a .pane) (a .y) (a .start) (a .end) (s .pre .1) (inner (c .before .before .before .before .before .before .before))
+    ∙ (λ k. painted (raster (a .brush .frame)) (columns (natAbs (toZ-ofZ (s .fits .y) k)) (from (c .before .before .before .before .before .before) k) (past (c .before .before .before .before .before) k)) (a .brush .colour) (a .buf .now))
+    ∙ span-left (a .brush .frame) (ok s) (a .brush .colour) (a .buf .now) (a .brush .window) (a .y) (a .start) (a .end) (s .pre .within) (inner (c .before .before .before .before .before .before .before))
 
 returns-3 : tie.Need-returns-3
 returns-3 c =
-    let s = c .before .before .before .before .before .before in
+    let s = c .before .before .before .before .before .before .before in
     let a = s .args in
     let f = from (c .before .before) in
     let p = past (c .before) in
-    span-gone (a .frame) (ok s) (a .colour) (a .buf .now) (a .pane) (a .y) (a .start) (a .end) (s .pre .1) (inner (c .before .before .before))
-    (subst (λ (x : ℕ). x ≤ clipped (a .start) (a .pane .left) (a .pane .right)) p (subst (λ (x : ℕ). c .before .clip2 .result ≤ x) f (c .if2 .left)))
+    span-gone (a .brush .frame) (ok s) (a .brush .colour) (a .buf .now) (a .brush .window) (a .y) (a .start) (a .end) (s .pre .within) (inner (c .before .before .before))
+    (subst (λ (x : ℕ). x ≤ clipped (a .start) (a .brush .window .left) (a .brush .window .right)) p (subst (λ (x : ℕ). c .before .clip2 .result ≤ x) f (c .if2 .left)))
 
 pub paint-span-spec : {M : Type 1} → statement M
 paint-span-spec =

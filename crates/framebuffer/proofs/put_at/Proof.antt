@@ -7,17 +7,18 @@ use native.Mathlib.Omega.{arith}
 use lib.ListN.{length, getD, length-take, length-drop, set}
 use borrow.Author.Needs.{needs}
 use Rattle.layout.specs.Digits.{replaced}
-use Rattle.layout.specs.Raster.{goodDepth, field, parts, per, slotOf}
+use Rattle.layout.specs.Packed.{goodDepth, field, parts, per, slotOf}
 use Rattle.layout.proofs.Places.{small, large, depth-pos, depth-le, parts-pos}
 use Rattle.layout.proofs.Bytes.{pixel-set, pixel-stored}
-use Rattle.framebuffer.specs.Description.{raster}
-use Rattle.framebuffer.proofs.Refusals.{Drawable, is-drawable, frame-passed, description-passed, sound, pixel-room, pixel-small}
+use Rattle.framebuffer.specs.Description.{packed}
+use Rattle.framebuffer.specs.Judged.{Drawable}
+use Rattle.framebuffer.proofs.Refusals.{spaced, pixel-room, pixel-small}
 use Rattle.framebuffer.proofs.put_at.Statement.{statement}
 use Rattle.framebuffer.proofs.put_at.Tie as tie
 
 -- what the call may lean on
 ok : (c : tie.Start) → Drawable (c .args .frame) (length (c .args .buf .now)) (c .args .colour)
-ok c = is-drawable (c .args .frame) (length (c .args .buf .now)) (c .args .colour) (c .pre .0)
+ok c = c .pre .0
 
 room : (c : tie.After-byte-of) → c .byte-of .result + parts (c .before .before .args .frame .depth) ≤ length (c .before .before .args .buf .now)
 room c = pixel-room (c .before .before .args .frame) _ (c .before .before .args .x) (c .before .before .args .y) (ok (c .before .before) .accepted) (c .before .before .pre .1) (c .before .before .pre .2) (c .byte-of .ensures)
@@ -27,7 +28,7 @@ byte-of-requires c κs =
     let a = c .before .args in
     let n = length (a .buf .now) in
     let p = pixel-small (a .frame) n (a .x) (a .y) (ok (c .before) .accepted) (c .before .pre .1) (c .before .pre .2) in
-    (description-passed (a .frame) n (frame-passed (a .frame) n (a .colour) (c .before .pre .0)), p .0, p .1)
+    (ok (c .before) .accepted .described, p .0, p .1)
 
 -- a depth below a byte
 thin : (c : tie.Then1) → (goodDepth (c .before .before .before .args .frame .depth) ≡ true) × (field (c .before .before .before .args .frame .depth) ≡ c .before .before .before .args .frame .depth) × (parts (c .before .before .before .args .frame .depth) ≡ 1)
@@ -42,7 +43,7 @@ slice-read-with-field c = let t = thin (c .before) .2 in omega (arith, room (c .
 with-field-requires : tie.Need-with-field-requires
 with-field-requires c κs =
     let s = c .before .before .before .before in
-    (thin (c .before) .0, c .before .if1 .taken, pixel-small (s .args .frame) _ (s .args .x) (s .args .y) (ok s .accepted) (s .pre .1) (s .pre .2) .0, ok s .below)
+    (record { good = thin (c .before) .0; small = c .before .if1 .taken; near = pixel-small (s .args .frame) _ (s .args .x) (s .args .y) (ok s .accepted) (s .pre .1) (s .pre .2) .0 }, ok s .below)
 
 slice-write-buf : tie.Need-slice-write-buf
 slice-write-buf c = let t = thin (c .before .before) .2 in omega (arith, room (c .before .before .before))
@@ -57,7 +58,7 @@ returns c =
     let t = thin (c .before .before) in
     ap (set (a .buf .now) (c .before .before .before .byte-of .result)) (c .with-field .ensures)
     ∙ ap (λ (i : ℕ). set (a .buf .now) i (replaced (2 ^ field (a .frame .depth)) (slotOf (a .frame .depth) (a .x)) (a .colour) (getD (a .buf .now) i 0))) (c .before .before .before .byte-of .ensures)
-    ∙ sym (pixel-set (raster (a .frame)) (sound (a .frame) (ok s .accepted .described)) (a .colour) (t .2)
+    ∙ sym (pixel-set (packed (a .frame)) (spaced (a .frame) (ok s .accepted .described)) (a .colour) (t .2)
     (subst (λ (k : ℕ). a .colour < 2 ^ k) (sym (t .1)) (ok s .below)) (a .x) (a .y) (a .buf .now))
 
 -- a depth from a byte on
@@ -99,7 +100,7 @@ returns-2 c =
     let at = c .before .before .before .before .before .byte-of .result in
     let k = at + a .frame .depth / 8 - at in
     let ek : k ≡ parts (a .frame .depth) = let e = t .1 in omega arith in
-    pixel-stored (raster (a .frame)) (sound (a .frame) (ok s .accepted .described)) (a .colour) (t .0) (a .x) (a .y) (a .buf .now) _ at k
+    pixel-stored (packed (a .frame)) (spaced (a .frame) (ok s .accepted .described)) (a .colour) (t .0) (a .x) (a .y) (a .buf .now) _ at k
     (c .before .before .before .before .before .byte-of .ensures) ek (omega (arith, room (c .before .before .before .before .before))) (λ i. c .before .before .before .before .before .before .slice-known .given i .fits) refl (c .before .before .store .last .0) (c .before .before .store .ensures)
 
 pub put-at-spec : {M : Type 1} → statement M

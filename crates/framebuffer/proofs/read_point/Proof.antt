@@ -7,18 +7,19 @@ use native.Mathlib.Omega.{arith}
 use lib.ListN.{length, getD, length-take}
 use borrow.Author.Needs.{needs}
 use Rattle.layout.specs.Digits.{digit}
-use Rattle.layout.specs.Raster.{goodDepth, field, parts, per, slotOf}
+use Rattle.layout.specs.Packed.{goodDepth, field, parts, per, slotOf}
 use Rattle.layout.proofs.Places.{small, large, depth-pos, depth-le}
 use Rattle.layout.proofs.Bytes.{pixel-get, pixel-loaded}
-use Rattle.framebuffer.specs.Description.{raster}
-use Rattle.framebuffer.proofs.Refusals.{Accepted, is-accepted, description-passed, sound, pixel-room, pixel-small}
+use Rattle.framebuffer.specs.Description.{packed}
+use Rattle.framebuffer.specs.Judged.{Accepted}
+use Rattle.framebuffer.proofs.Refusals.{spaced, pixel-room, pixel-small}
 use lib.Pow.{pow-pos}
 use Rattle.framebuffer.proofs.read_point.Statement.{statement}
 use Rattle.framebuffer.proofs.read_point.Tie as tie
 
 -- what the call may lean on
 ok : (c : tie.Start) → Accepted (c .args .frame) (length (c .args .buf .now))
-ok c = is-accepted (c .args .frame) (length (c .args .buf .now)) (c .pre .0)
+ok c = c .pre .0
 
 room : (c : tie.After-byte-of) → c .byte-of .result + parts (c .before .before .args .frame .depth) ≤ length (c .before .before .args .buf .now)
 room c = pixel-room (c .before .before .args .frame) _ (c .before .before .args .x) (c .before .before .args .y) (ok (c .before .before)) (c .before .before .pre .1) (c .before .before .pre .2) (c .byte-of .ensures)
@@ -27,7 +28,7 @@ byte-of-requires : tie.Need-byte-of-requires
 byte-of-requires c κs =
     let a = c .before .args in
     let p = pixel-small (a .frame) _ (a .x) (a .y) (ok (c .before)) (c .before .pre .1) (c .before .pre .2) in
-    (description-passed (a .frame) (length (a .buf .now)) (c .before .pre .0), p .0, p .1)
+    (ok (c .before) .described, p .0, p .1)
 
 -- a depth below a byte
 thin : (c : tie.Then1) → (goodDepth (c .before .before .before .args .frame .depth) ≡ true) × (field (c .before .before .before .args .frame .depth) ≡ c .before .before .before .args .frame .depth) × (parts (c .before .before .before .args .frame .depth) ≡ 1)
@@ -42,7 +43,7 @@ shared-slice-read-field-of c = let t = thin (c .before) .2 in omega (arith, room
 field-of-requires : tie.Need-field-of-requires
 field-of-requires c κs =
     let s = c .before .before .before .before in
-    (thin (c .before) .0, c .before .if1 .taken, pixel-small (s .args .frame) _ (s .args .x) (s .args .y) (ok s) (s .pre .1) (s .pre .2) .0)
+    record { good = thin (c .before) .0; small = c .before .if1 .taken; near = pixel-small (s .args .frame) _ (s .args .x) (s .args .y) (ok s) (s .pre .1) (s .pre .2) .0 }
 
 returns : tie.Need-returns
 returns c =
@@ -51,7 +52,7 @@ returns c =
     let t = thin (c .before .before) in
     c .field-of .ensures
     ∙ ap (λ (i : ℕ). digit (2 ^ field (a .frame .depth)) (slotOf (a .frame .depth) (a .x)) (getD (a .buf .now) i 0)) (c .before .before .before .byte-of .ensures)
-    ∙ sym (pixel-get (raster (a .frame)) (sound (a .frame) (ok s .described)) 0 (t .2) (pow-pos (field (a .frame .depth))) (a .x) (a .y) (a .buf .now))
+    ∙ sym (pixel-get (packed (a .frame)) (spaced (a .frame) (ok s .described)) 0 (t .2) (pow-pos (field (a .frame .depth))) (a .x) (a .y) (a .buf .now))
 
 -- a depth from a byte on
 thick : (c : tie.Else1) → (per (c .before .before .before .args .frame .depth) ≡ 1) × (parts (c .before .before .before .args .frame .depth) ≡ c .before .before .before .args .frame .depth / 8)
@@ -87,7 +88,7 @@ returns-2 c =
     let k = at + a .frame .depth / 8 - at in
     let ek : k ≡ parts (a .frame .depth) = let e = t .1 in omega arith in
     c .load .ensures
-    ∙ pixel-loaded (raster (a .frame)) (sound (a .frame) (ok s .described)) 0 (t .0) (a .x) (a .y) (a .buf .now) _ at k
+    ∙ pixel-loaded (packed (a .frame)) (spaced (a .frame) (ok s .described)) 0 (t .0) (a .x) (a .y) (a .buf .now) _ at k
     (c .before .before .before .byte-of .ensures) ek (omega (arith, room (c .before .before .before))) (λ i. c .before .before .before .before .shared-slice-known .given i .fits) refl
 
 pub read-point-spec : {M : Type 1} → statement M

@@ -61,7 +61,7 @@ module _ (c : tie.After-moves-at) where
       same-bits
       (omega (arith, m-is, moves-minor (major (entry .args .start) (entry .args .end)) (minor (entry .args .start) (entry .args .end)) (entry .args .step) (entry .pre .1), minor-size (entry .pre .0 .0) (entry .pre .0 .1))) tt
 
-  -- what `placed` asks and gives, along x and along y
+  -- what `coordinate` asks and gives, along x and along y
   module _ {a d e : ℤ} (from : Coord a) (one : Has w32 (toZ w32 (ofZ w32 d)) d 1) (other : Has w32 (toZ w32 (ofZ w32 e)) e 1) where
     asked : Placing (toZ w32 (ofZ w32 a)) (toZ w32 (ofZ w32 d)) (toZ w32 (entry .args .step)) (toZ w32 (ofZ w32 e)) (toZ w32 (c .moves-at .result))
     asked = record { from = subst Coord (sym (back (coord from) .is)) from; one = size-of one; other = size-of other; many = size-of k-read; few = size-of m-read }
@@ -76,14 +76,14 @@ cast-m c = subst (SFits w32) (m-read c .is) (fits (m-read c))
 cast-k : tie.Need-cast-k
 cast-k c = subst (SFits w32) (k-read c .is) (fits (k-read c))
 
-placed-requires : tie.Need-placed-requires
-placed-requires c κs =
+coordinate-requires : tie.Need-coordinate-requires
+coordinate-requires c κs =
     let b = c .before .before .before in
     let h = course b .course-of .ensures in
     asked b (entry b .pre .0 .0 .x) (xmajor-read h) (xminor-read h)
 
-placed-requires-2 : tie.Need-placed-requires-2
-placed-requires-2 c κs =
+coordinate-requires-2 : tie.Need-coordinate-requires-2
+coordinate-requires-2 c κs =
     let b = c .before .before .before .before .before .before .before in
     let h = course b .course-of .ensures in
     asked b (entry b .pre .0 .0 .y) (ymajor-read h) (yminor-read h)
@@ -93,10 +93,10 @@ returns c =
     let p = c .before .before .before .before in
     let b = p .before .before .before .before in
     let h = course b .course-of .ensures in
-    let x-back : toZ w32 (ofZ w32 (p .placed .result)) ≡ p .placed .result = search needs in
-    let y-back : toZ w32 (ofZ w32 (c .placed2 .result)) ≡ c .placed2 .result = search needs in
-    let x = x-back ∙ p .placed .ensures ∙ given b (entry b .pre .0 .0 .x) (xmajor-read h) (xminor-read h) ∙ course-x h (entry b .args .step) in
-    let y = y-back ∙ c .placed2 .ensures ∙ given b (entry b .pre .0 .0 .y) (ymajor-read h) (yminor-read h) ∙ course-y h (entry b .args .step) in
+    let x-back : toZ w32 (ofZ w32 (p .coordinate .result)) ≡ p .coordinate .result = search needs in
+    let y-back : toZ w32 (ofZ w32 (c .coordinate2 .result)) ≡ c .coordinate2 .result = search needs in
+    let x = x-back ∙ p .coordinate .ensures ∙ given b (entry b .pre .0 .0 .x) (xmajor-read h) (xminor-read h) ∙ course-x h (entry b .args .step) in
+    let y = y-back ∙ c .coordinate2 .ensures ∙ given b (entry b .pre .0 .0 .y) (ymajor-read h) (yminor-read h) ∙ course-y h (entry b .args .step) in
     λ i. (x i, y i)
 
 pub point-at-spec : {M : Type 1} → statement M
@@ -109,6 +109,6 @@ point-at-spec =
     moves-at-requires
     cast-m
     cast-k
-    placed-requires
-    placed-requires-2
+    coordinate-requires
+    coordinate-requires-2
     returns)

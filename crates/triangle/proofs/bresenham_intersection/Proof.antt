@@ -1,15 +1,17 @@
 -- `triangle::bresenham_intersection` answers none for a row that the edge has not, and else its run, counted from the start in the direction
 -- of the edge. Assumes nothing.
-use mathlib.Core.Path.{_≡_, sym, ap, _∙_}
+use mathlib.Core.Path.{_≡_, sym, _∙_}
+use mathlib.Core.Bool.{Bool, true, false, cond}
 use Prim.Native.Nat.{ℕ, _≤_}
 use native.Mathlib.Omega.{arith}
-use lib.IntN.{ℤ, pos, natAbs, _-ℤ_}
-use lib.Signed.{_≤ℤ_}
+use lib.Dec.{lit<}
+use lib.IntN.{ℤ, pos, negℤ, natAbs, _+ℤ_, _-ℤ_}
+use lib.Signed.{_≤ℤ_, leZ}
 use mir.Syntax.{w32}
 use mir.Val.{toZ, ofZ}
 use borrow.Author.Needs.{needs}
 use Rattle.whole.proofs.Difference.{le-nat, lt-nat}
-use Rattle.whole.proofs.Machine.{Has, lit, same-bits, plus, minus, fits, back, to-nat, nat-is, size-pos, lt-true, lt-false, le-test}
+use Rattle.whole.proofs.Machine.{Has, lit, plus, minus, fits, back, to-nat, nat-is, neg-size, size-pos, lt-true, lt-false, le-test}
 use Rattle.whole.proofs.Order.{le-sub, le-trans}
 use Rattle.geometry.specs.declared.Point.{Point}
 use Rattle.geometry.specs.Bound.{Coord}
@@ -17,7 +19,7 @@ use Rattle.geometry.proofs.Bound.{coord, coord-fits}
 use Rattle.line.specs.Line.{wide, high}
 use Rattle.line.proofs.Lengths.{wide-of, wide-size}
 use Rattle.triangle.specs.Offsets.{firstOffset, lastOffset}
-use Rattle.triangle.proofs.Edge.{edge-rows, edge-row, edge-offsets, edge-run-right, edge-run-left}
+use Rattle.triangle.proofs.Edge.{edge-rows, edge-row, edge-offsets, edge-run}
 use Rattle.triangle.proofs.Spans.{run-span, no-span}
 use Rattle.triangle.proofs.bresenham_intersection.Statement.{statement}
 use Rattle.triangle.proofs.bresenham_intersection.Tie as tie
@@ -99,10 +101,6 @@ stretch-on-requires c κs =
     let a = c .before in
     omega (arith, nat-is (W c), W c .size, nat-is (H c), H c .size, nat-is (R c), edge-row (s a) (e a) (y a) (from a) (to a))
 
--- ---- the columns
-from-nat : {n m : ℕ} → n ≡ m → m ≤ 262144 → Has w32 (toZ w32 n) (pos m) 262144
-from-nat {n} {m} e h = let b = same-bits {w = w32} {n = n} {b = 262144} (omega arith) tt in record { is = b .is ∙ ap pos e; size = h; room = b .room }
-
 module _ (c : tie.After-stretch-on) where
   abbrev k : tie.Else2
   k = c .before .before
@@ -122,61 +120,62 @@ module _ (c : tie.After-stretch-on) where
   few : (f ≤ 262144) × (l ≤ 262144)
   few = let o = edge-offsets (s k) (e k) (y k) (from k) (to k) in omega (arith, o .some, o .wide, wide-size (k .before .before .before .before .before .before .pre .0 .0) (k .before .before .before .before .before .before .pre .0 .1))
 
+  -- what `offset` asks, and what it gives of two of the numbers
+  asked : (c .stretch-on .result .first ≤ 262144) × (c .stretch-on .result .last ≤ 262144)
+  asked = omega (arith, first-is, last-is, few)
+
   X : Has w32 (toZ w32 (ofZ w32 (s k .0))) (s k .0) 131072
   X = back (coord (k .before .before .before .before .before .before .pre .0 .0 .x))
 
-  F : Has w32 (toZ w32 (c .stretch-on .result .first)) (pos f) 262144
-  F = from-nat first-is (few .0)
+  given : {r : ℤ} {m n p q : ℕ} → r ≡ cond (leZ (toZ w32 (ofZ w32 (s k .0))) (toZ w32 (ofZ w32 (e k .0)))) (pos m) (negℤ (pos n)) → m ≡ p → n ≡ q → p ≤ 262144 → q ≤ 262144
+      → Has w32 r (cond (leZ (s k .0) (e k .0)) (pos p) (negℤ (pos q))) 262144
+  given {p = p} {q = q} h em en hp hq =
+      let a = k .before .before .before .before .before .before in
+      record {
+        is = h ∙ (λ i. cond (le-test (coord-fits (a .pre .0 .0 .x)) (coord-fits (a .pre .0 .1 .x)) i) (pos (em i)) (negℤ (pos (en i))));
+        size = either (leZ (s k .0) (e k .0));
+        room = lit< tt;
+      }
+    where
+      either : (t : Bool) → natAbs (cond t (pos p) (negℤ (pos q))) ≤ 262144
+      either true = hp
+      either false = omega (arith, neg-size (pos q))
 
-  L : Has w32 (toZ w32 (c .stretch-on .result .last)) (pos l) 262144
-  L = from-nat last-is (few .1)
+offset-requires : tie.Need-offset-requires
+offset-requires c κs = asked c
+
+offset-requires-2 : tie.Need-offset-requires-2
+offset-requires-2 c κs = let h = asked (c .before) in (h .1, h .0)
+
+-- the two columns, as the code works them out
+module _ (c : tie.After-offset2) where
+  abbrev d : tie.After-stretch-on
+  d = c .before .before
+
+  first : Has w32 (toZ w32 (ofZ w32 (s (k d) .0)) +ℤ toZ w32 (ofZ w32 (c .before .offset .result))) (s (k d) .0 +ℤ cond (leZ (s (k d) .0) (e (k d) .0)) (pos (f d)) (negℤ (pos (l d)))) 393216
+  first = plus (X d) (back (given d (c .before .offset .ensures) (first-is d) (last-is d) (few d .0) (few d .1))) tt
+
+  last : Has w32 (toZ w32 (ofZ w32 (s (k d) .0)) +ℤ toZ w32 (ofZ w32 (c .offset2 .result))) (s (k d) .0 +ℤ cond (leZ (s (k d) .0) (e (k d) .0)) (pos (l d)) (negℤ (pos (f d)))) 393216
+  last = plus (X d) (back (given d (c .offset2 .ensures) (last-is d) (first-is d) (few d .1) (few d .0))) tt
 
 one : Has w32 (pos 1) (pos 1) 1
 one = lit 1 tt
 
-cast-first : tie.Need-cast-first
-cast-first c = record { sfits = omega (arith, first-is (c .before), few (c .before)) }
-
-cast-last : tie.Need-cast-last
-cast-last c = record { sfits = omega (arith, last-is (c .before .before), few (c .before .before)) }
+add-t15 : tie.Need-add-t15
+add-t15 c = fits (first c)
 
 add-t16 : tie.Need-add-t16
-add-t16 c = fits (plus (X (c .before .before .before)) (F (c .before .before .before)) tt)
+add-t16 c = fits (last c)
 
 add-t17 : tie.Need-add-t17
-add-t17 c = fits (plus (X (c .before .before .before)) (L (c .before .before .before)) tt)
-
-add-t18 : tie.Need-add-t18
-add-t18 c = fits (plus (back (plus (X (c .before .before .before)) (L (c .before .before .before)) tt)) one tt)
+add-t17 c = fits (plus (back (last c)) one tt)
 
 returns-3 : tie.Need-returns-3
 returns-3 c =
-    let d = c .before .before .before in
-    let a = c .before .before .before .before .before in
-    let r = a .before .before .before .before .before .before in
-    let first = back (plus (X d) (F d) tt) .is in
-    let past = back (plus (back (plus (X d) (L d) tt)) one tt) .is in
-    let way = sym (le-test (coord-fits (r .pre .0 .0 .x)) (coord-fits (r .pre .0 .1 .x))) ∙ c .if3 .taken in
-    (λ i. (first i, past i)) ∙ sym (run-span (s a) (e a) (y a) _ _ (edge-run-right (s a) (e a) (y a) (from a) (to a) way))
-
-sub-t15 : tie.Need-sub-t15
-sub-t15 c = fits (minus (X (c .before .before .before)) (L (c .before .before .before)) tt)
-
-sub-t19 : tie.Need-sub-t19
-sub-t19 c = fits (minus (X (c .before .before .before)) (F (c .before .before .before)) tt)
-
-add-t20 : tie.Need-add-t20
-add-t20 c = fits (plus (back (minus (X (c .before .before .before)) (F (c .before .before .before)) tt)) one tt)
-
-returns-4 : tie.Need-returns-4
-returns-4 c =
-    let d = c .before .before .before in
-    let a = c .before .before .before .before .before in
-    let r = a .before .before .before .before .before .before in
-    let first = back (minus (X d) (L d) tt) .is in
-    let past = back (plus (back (minus (X d) (F d) tt)) one tt) .is in
-    let way = sym (le-test (coord-fits (r .pre .0 .0 .x)) (coord-fits (r .pre .0 .1 .x))) ∙ c .if3 .left in
-    (λ i. (first i, past i)) ∙ sym (run-span (s a) (e a) (y a) _ _ (edge-run-left (s a) (e a) (y a) (from a) (to a) way))
+    let a = k (d c) in
+    let low = back (first c) .is in
+    let past = back (plus (back (last c)) one tt) .is in
+    (λ i. (low i, past i)) ∙ sym (run-span (s a) (e a) (y a) _ _ (edge-run (s a) (e a) (y a) (from a) (to a)))
 
 pub bresenham-intersection-spec : {M : Type 1} → statement M
 bresenham-intersection-spec =
@@ -191,13 +190,9 @@ bresenham-intersection-spec =
     sub-row
     cast-row
     stretch-on-requires
-    cast-first
-    cast-last
+    offset-requires
+    offset-requires-2
+    add-t15
     add-t16
     add-t17
-    add-t18
-    returns-3
-    sub-t15
-    sub-t19
-    add-t20
-    returns-4)
+    returns-3)

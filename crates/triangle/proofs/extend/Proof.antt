@@ -8,8 +8,9 @@ use borrow.Author.Needs.{needs, sfits-of}
 use Rattle.whole.specs.Equal.{eqZ}
 use Rattle.whole.proofs.Decides.{decides-eq, decides-yes, decides-no}
 use Rattle.whole.proofs.Machine.{eq-bits}
+use Rattle.geometry.specs.Extreme.{lesser, greater}
 use Rattle.triangle.specs.declared.Columns.{Columns}
-use Rattle.triangle.specs.Row.{lesser, greater, extended}
+use Rattle.triangle.specs.Row.{extended}
 use Rattle.triangle.proofs.extend.Statement.{statement}
 use Rattle.triangle.proofs.extend.Tie as tie
 
@@ -46,25 +47,26 @@ returns-2 c =
     let f = same (g .b) (b0 (c .before)) (b1 (c .before)) (c .if2 .taken) in
     rw (e, f)
 
-choose-requires : tie.Need-choose-requires
-choose-requires c κs = search needs
+lesser-requires : tie.Need-lesser-requires
+lesser-requires c κs = search needs
 
-choose-requires-2 : tie.Need-choose-requires-2
-choose-requires-2 c κs = search needs
+greater-requires : tie.Need-greater-requires
+greater-requires c κs = search needs
 
 returns-3 : tie.Need-returns-3
 unfolding extended
 returns-3 c =
-    let g = c .before .before .before .before .before .before .before .before .before .before .before .before .before .before .before .before .before .before .before .before .args in
-    let e = differs (g .a) (c .before .before .before .before .before .before .before .before .before .before .before .before .before .before .before .before .before .if1 .left) in
-    let f = differs (g .b) (c .before .before .before .before .before .before .before .before .before .before .before .before .before .before .if2 .left) in
-    let a = c .before .before .before .before .before .before .before .before .before .before .before .before .before .before .before .before .before .before in
-    let b = c .before .before .before .before .before .before .before .before .before .before .before .before .before .before .before in
-    let first-back : toZ w32 (ofZ w32 (c .before .before .before .before .before .before .before .choose .result)) ≡ c .before .before .before .before .before .before .before .choose .result = search needs in
-    let past-back : toZ w32 (ofZ w32 (c .choose2 .result)) ≡ c .choose2 .result = search needs in
-    let first = first-back ∙ c .before .before .before .before .before .before .before .choose .ensures ∙ (λ i. lesser (toZ-ofZ (a0 a) i) (toZ-ofZ (b0 b) i)) in
-    let past = past-back ∙ c .choose2 .ensures ∙ (λ i. greater (toZ-ofZ (a1 a) i) (toZ-ofZ (b1 b) i)) in
+    let low = c .before .before .before in
+    let b = low .before .before .before .before in
+    let a = b .before .before .before in
+    let g = a .before .before .args in
+    let e = differs (g .a) (b .before .before .if1 .left) in
+    let f = differs (g .b) (low .before .before .before .if2 .left) in
+    let first-back : toZ w32 (ofZ w32 (low .lesser .result)) ≡ low .lesser .result = search needs in
+    let past-back : toZ w32 (ofZ w32 (c .greater .result)) ≡ c .greater .result = search needs in
+    let first = first-back ∙ low .lesser .ensures ∙ (λ i. lesser (toZ-ofZ (a0 a) i) (toZ-ofZ (b0 b) i)) in
+    let past = past-back ∙ c .greater .ensures ∙ (λ i. greater (toZ-ofZ (a1 a) i) (toZ-ofZ (b1 b) i)) in
     rw (e, f) (λ i. (first i, past i))
 
 pub extend-spec : {M : Type 1} → statement M
-extend-spec = tie.close (tie.spec returns returns-2 choose-requires choose-requires-2 returns-3)
+extend-spec = tie.close (tie.spec returns returns-2 lesser-requires greater-requires returns-3)

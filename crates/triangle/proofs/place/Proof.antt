@@ -2,7 +2,8 @@
 use mathlib.Core.Path.{_≡_, sym, _∙_}
 use mathlib.Core.Bool.{true, false, cond}
 use borrow.Author.Needs.{needs}
-use Rattle.triangle.specs.Order.{before, three}
+use Rattle.geometry.specs.Place.{before}
+use Rattle.triangle.specs.Order.{three}
 use Rattle.triangle.proofs.place.Statement.{statement}
 use Rattle.triangle.proofs.place.Tie as tie
 

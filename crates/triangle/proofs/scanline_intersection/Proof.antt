@@ -10,7 +10,7 @@ use borrow.Author.Needs.{needs}
 use Rattle.whole.proofs.Decides.{decides-yes, decides-no}
 use Rattle.whole.proofs.Order.{le-trans}
 use Rattle.triangle.specs.Triangle.{isFlat}
-use Rattle.triangle.specs.Row.{extended, hull, columns, edgeColumns}
+use Rattle.triangle.specs.Row.{extended, hull, lineColumns, edgeColumns}
 use Rattle.triangle.proofs.Sides.{Flat, flat-decides}
 use Rattle.triangle.proofs.Spans.{span-append}
 use Rattle.triangle.proofs.scanline_intersection.Statement.{statement}
@@ -31,7 +31,7 @@ returns c =
     let back : toZ w64 (ofZ w64 (a .result)) ≡ a .result = search needs in
     let none : Flat (t .p1) (t .p2) (t .p3) = sym (a .ensures) ∙ sym back ∙ ap (toZ w64) (c .before .if1 .taken) ∙ toZ-ofZ (sfits-lit {w = w64} {z = pos 0} tt) in
     let flat : isFlat (t .p1) (t .p2) (t .p3) ≡ true = decides-yes (flat-decides (t .p1) (t .p2) (t .p3)) none in
-    c .bresenham-intersection .ensures ∙ ap (λ (y : ℤ). hull (columns (t .p1) (t .p3) y)) (toZ-ofZ (s .fits .y)) ∙ sym (ap (λ (b : Bool). hull (edgeColumns b t (s .args .y))) flat)
+    c .bresenham-intersection .ensures ∙ ap (λ (y : ℤ). hull (lineColumns (t .p1) (t .p3) y)) (toZ-ofZ (s .fits .y)) ∙ sym (ap (λ (b : Bool). hull (edgeColumns b t (s .args .y))) flat)
 
 bresenham-intersection-requires-2 : tie.Need-bresenham-intersection-requires-2
 bresenham-intersection-requires-2 c κs = search needs
@@ -56,11 +56,11 @@ returns-2 c =
     let here = toZ-ofZ (s .fits .y) in
     let some : Flat (t .p1) (t .p2) (t .p3) → ⊥ = λ e. c .before .before .before .before .before .if1 .left (ap (ofZ w64) (c .before .before .before .before .before .before .area-doubled .ensures ∙ e)) in
     let solid : isFlat (t .p1) (t .p2) (t .p3) ≡ false = decides-no (flat-decides (t .p1) (t .p2) (t .p3)) some in
-    let upper = c .before .before .before .before .bresenham-intersection2 .ensures ∙ ap (λ (z : ℤ). hull (columns (t .p1) (t .p2) z)) here in
-    let long = c .before .before .before .bresenham-intersection3 .ensures ∙ ap (λ (z : ℤ). hull (columns (t .p1) (t .p3) z)) here in
-    let lower = c .before .before .bresenham-intersection4 .ensures ∙ ap (λ (z : ℤ). hull (columns (t .p2) (t .p3) z)) here in
-    let inner = c .before .extend .ensures ∙ (λ i. extended (long i) (lower i)) ∙ span-append (columns (t .p1) (t .p3) y) (columns (t .p2) (t .p3) y) in
-    c .extend2 .ensures ∙ (λ i. extended (upper i) (inner i)) ∙ span-append (columns (t .p1) (t .p2) y) (columns (t .p1) (t .p3) y ++ columns (t .p2) (t .p3) y)
+    let upper = c .before .before .before .before .bresenham-intersection2 .ensures ∙ ap (λ (z : ℤ). hull (lineColumns (t .p1) (t .p2) z)) here in
+    let long = c .before .before .before .bresenham-intersection3 .ensures ∙ ap (λ (z : ℤ). hull (lineColumns (t .p1) (t .p3) z)) here in
+    let lower = c .before .before .bresenham-intersection4 .ensures ∙ ap (λ (z : ℤ). hull (lineColumns (t .p2) (t .p3) z)) here in
+    let inner = c .before .extend .ensures ∙ (λ i. extended (long i) (lower i)) ∙ span-append (lineColumns (t .p1) (t .p3) y) (lineColumns (t .p2) (t .p3) y) in
+    c .extend2 .ensures ∙ (λ i. extended (upper i) (inner i)) ∙ span-append (lineColumns (t .p1) (t .p2) y) (lineColumns (t .p1) (t .p3) y ++ lineColumns (t .p2) (t .p3) y)
     ∙ sym (ap (λ (b : Bool). hull (edgeColumns b t y)) solid)
 
 pub scanline-intersection-spec : {M : Type 1} → statement M

@@ -2,7 +2,8 @@
 use mathlib.Core.Path.{sym, ap, _∙_}
 use mathlib.Core.Bool.{Bool, cond}
 use borrow.Author.Needs.{needs}
-use Rattle.triangle.specs.Order.{before, placed, sorted}
+use Rattle.geometry.specs.Place.{before}
+use Rattle.triangle.specs.Order.{placed, sorted}
 use Rattle.triangle.proofs.sorted_yx.Statement.{statement}
 use Rattle.triangle.proofs.sorted_yx.Tie as tie
 

@@ -1,0 +1,22 @@
+-- What the drawing calls draw: figure, colour and tests of their own (01, "Numbers an operation may answer").
+use Prim.Native.Nat.{ℕ}
+use Rattle.geometry.specs.declared.Point.{Point}
+use Rattle.line.specs.Answer.{endTests}
+use Rattle.triangle.specs.Answer.{vertexTests}
+use Rattle.circle.specs.Refusal.{circleTests}
+use Rattle.framebuffer.specs.Drawing.{Drawing}
+use Rattle.drawing.specs.Figure.{lineFigure, triangleFigure, outlineFigure, circleFigure}
+
+-- "Drawing a line, a triangle, an outline: 1 to 5"
+abbrev pub lineDrawing : Point → Point → ℕ → Drawing
+lineDrawing s e colour = record { figure = lineFigure s e; colour = colour; own = endTests s e }
+
+abbrev pub triangleDrawing : Point → Point → Point → ℕ → Drawing
+triangleDrawing v1 v2 v3 colour = record { figure = triangleFigure v1 v2 v3; colour = colour; own = vertexTests v1 v2 v3 }
+
+abbrev pub outlineDrawing : Point → Point → Point → ℕ → Drawing
+outlineDrawing v1 v2 v3 colour = record { figure = outlineFigure v1 v2 v3; colour = colour; own = vertexTests v1 v2 v3 }
+
+-- "a circle: 1 to 6"
+abbrev pub circleDrawing : Point → ℕ → ℕ → Drawing
+circleDrawing c d colour = record { figure = circleFigure c d; colour = colour; own = circleTests c d }

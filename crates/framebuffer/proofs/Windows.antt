@@ -1,0 +1,100 @@
+-- Ranges and rectangles, and a pixel of a rectangle as a figure. Assumes nothing.
+use mathlib.Core.Path.{_≡_, refl, sym, ap, ap₂, subst, _∙_}
+use mathlib.Core.Bool.{Bool, true, false, _&&_, true≢false}
+use mathlib.Core.List.{List}
+use Prim.Native.Nat.{ℕ, _≤_, _<_}
+use native.Mathlib.Nat.{le-refl}
+use native.Mathlib.Omega.{arith}
+use lib.Dec.{T, leb, ltb, le→leb}
+use lib.IntN.{ℤ, pos, negsuc, natAbs}
+use lib.Signed.{_≤ℤ_, nonNeg}
+use mir.Syntax.{w32}
+use mir.Val.{SFits, Fits, toZ, ofZ}
+use borrow.Author.Tests.{ltb-true, leb-true, lt-ltb, le-leb}
+use Rattle.whole.specs.Equal.{eqZ}
+use Rattle.whole.specs.Interval.{between}
+use Rattle.whole.proofs.Machine.{index-fits}
+use Rattle.layout.specs.Figure.{single}
+use Rattle.layout.specs.Layout.{putPixel, painted}
+use Rattle.whole.proofs.Tests.{same-test, fails, and-true, true-and, eqZ-true}
+use Rattle.layout.proofs.Painted.{painted-cong, painted-none, put-single}
+use Rattle.framebuffer.specs.declared.Frame.{Frame}
+use Rattle.framebuffer.specs.declared.Window.{Window}
+use Rattle.framebuffer.specs.Description.{raster}
+use Rattle.framebuffer.specs.Window.{inWindow, heldBy, wholeWindow}
+use Rattle.framebuffer.specs.Judged.{Described, Within}
+use Rattle.framebuffer.proofs.Refusals.{sound}
+
+-- ---- what a range and a rectangle say
+-- a number of a range is not negative
+pub between-pos : (x : ℤ) (low high : ℕ) → between (pos low) (pos high) x ≡ true → x ≡ pos (natAbs x)
+between-pos (pos a) low high e = refl
+between-pos (negsuc a) low high e = absurd (true≢false (sym e))
+
+-- and so it can be cast
+pub cast-fits : {x : ℤ} → SFits w32 x → x ≡ pos (natAbs x) → T (nonNeg (toZ w32 (ofZ w32 x))) × Fits w32 (natAbs (toZ w32 (ofZ w32 x)))
+cast-fits {x} f e = index-fits w32 f (subst (λ (z : ℤ). pos 0 ≤ℤ z) (sym e) (record { le = le→leb 0 (natAbs x) (omega arith) })) tt
+
+pub in-between : (u low high : ℕ) → between (pos low) (pos high) (pos u) ≡ true → (low ≤ u) × (u < high)
+in-between u low high e = let p = and-true (leb low u) (ltb u high) e in (leb-true _ _ (p .0), ltb-true _ _ (p .1))
+
+pub between-in : (u low high : ℕ) → low ≤ u → u < high → between (pos low) (pos high) (pos u) ≡ true
+between-in u low high a b = true-and (le-leb _ _ a) (lt-ltb _ _ b)
+
+pub window-in : (q : Window) (x y : ℕ) → inWindow q (pos x) (pos y) ≡ true → ((q .left ≤ x) × (x < q .right)) × ((q .top ≤ y) × (y < q .bottom))
+window-in q x y e =
+    let p = and-true (between (pos (q .left)) (pos (q .right)) (pos x)) (between (pos (q .top)) (pos (q .bottom)) (pos y)) e in
+    (in-between x (q .left) (q .right) (p .0), in-between y (q .top) (q .bottom) (p .1))
+
+pub in-window : (q : Window) (x y : ℕ) → q .left ≤ x → x < q .right → q .top ≤ y → y < q .bottom → inWindow q (pos x) (pos y) ≡ true
+in-window q x y a b c d = true-and (between-in x (q .left) (q .right) a b) (between-in y (q .top) (q .bottom) c d)
+
+-- the coordinates of a place in a rectangle are not negative
+pub window-pos : (q : Window) (x y : ℤ) → inWindow q x y ≡ true → (x ≡ pos (natAbs x)) × (y ≡ pos (natAbs y))
+window-pos q x y e =
+    let p = and-true (between (pos (q .left)) (pos (q .right)) x) (between (pos (q .top)) (pos (q .bottom)) y) e in
+    (between-pos x (q .left) (q .right) (p .0), between-pos y (q .top) (q .bottom) (p .1))
+
+pub whole-within : (f : Frame) → Within (wholeWindow f) f
+whole-within f = record { across = omega arith; down = omega arith; right = le-refl (f .width); bottom = le-refl (f .height) }
+
+-- its ends are few enough for a signed number
+pub within-small : {q : Window} {f : Frame} → Within q f → Described f → (q .left ≤ q .right) × (q .right ≤ 2048) × (q .top ≤ q .bottom) × (q .bottom ≤ 2048)
+within-small W D = let r = W .right in let b = W .bottom in let w = D .width in let h = D .height in (W .across, omega arith, W .down, omega arith)
+
+module _ (f : Frame) (D : Described f) (colour : ℕ) (b : List ℕ) where
+  -- the rectangle of the whole frame takes nothing away
+  pub painted-whole : (s : ℤ → ℤ → Bool) → painted (raster f) (heldBy (wholeWindow f) s) colour b ≡ painted (raster f) s colour b
+  painted-whole s =
+      painted-cong (raster f) (sound f D) colour b _ _
+      (λ x y hx hy. ap (λ (t : Bool). t && s (pos x) (pos y)) (in-window (wholeWindow f) x y (omega arith) hx (omega arith) hy))
+
+  -- one pixel, in the rectangle or not
+  module _ (q : Window) (x y : ℤ) where
+    pub point-in : Within q f → inWindow q x y ≡ true → (natAbs x < f .width) × (natAbs y < f .height)
+    point-in W e =
+        let z = window-pos q x y e in
+        let p = window-in q (natAbs x) (natAbs y) (ap₂ (inWindow q) (sym (z .0)) (sym (z .1)) ∙ e) in
+        let r = p .0 .1 in
+        let s = p .1 .1 in
+        let a = W .right in
+        let c = W .bottom in
+        (omega arith, omega arith)
+
+    -- where the figure of one pixel has a place, that is the pixel
+    single-is : (u v : ℕ) → single x y (pos u) (pos v) ≡ true → inWindow q (pos u) (pos v) ≡ inWindow q x y
+    single-is u v h = let p = and-true (eqZ (pos u) x) (eqZ (pos v) y) h in ap₂ (inWindow q) (eqZ-true (pos u) x (p .0)) (eqZ-true (pos v) y (p .1))
+
+    pub point-put : Within q f → inWindow q x y ≡ true → putPixel (raster f) (natAbs x) (natAbs y) colour b ≡ painted (raster f) (heldBy q (single x y)) colour b
+    point-put W e =
+        let p = point-in W e in
+        let z = window-pos q x y e in
+        put-single (raster f) (sound f D) colour b (natAbs x) (natAbs y) (p .0) (p .1)
+        ∙ ap₂ (λ (i j : ℤ). painted (raster f) (single i j) colour b) (sym (z .0)) (sym (z .1))
+        ∙ painted-cong (raster f) (sound f D) colour b _ _ (λ u v hu hv. same-test _ _ (λ h. true-and (single-is u v h ∙ e) h) (λ h. and-true (inWindow q (pos u) (pos v)) _ h .1))
+
+    pub point-off : inWindow q x y ≡ false → b ≡ painted (raster f) (heldBy q (single x y)) colour b
+    point-off e =
+        sym (painted-none (raster f) (sound f D) colour b _ (λ u v hu hv. fails _ (λ h.
+        let p = and-true (inWindow q (pos u) (pos v)) (single x y (pos u) (pos v)) h in
+        true≢false (sym (p .0) ∙ single-is u v (p .1) ∙ e))))

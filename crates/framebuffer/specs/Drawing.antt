@@ -1,0 +1,40 @@
+-- What a call that draws answers and leaves: one value, for every call.
+use mathlib.Core.Bool.{Bool, cond}
+use mathlib.Core.List.{List, [], _++_}
+use Prim.Native.Nat.{ℕ}
+use lib.Dec.{eqb}
+use lib.IntN.{ℤ}
+use lib.ListN.{length}
+use Rattle.refusals.specs.First.{Tests, first}
+use Rattle.geometry.specs.declared.Point.{Point}
+use Rattle.layout.specs.Figure.{single, everywhere}
+use Rattle.layout.specs.Layout.{painted}
+use Rattle.framebuffer.specs.declared.Frame.{Frame}
+use Rattle.framebuffer.specs.declared.Window.{Window}
+use Rattle.framebuffer.specs.declared.Drawn.{Drawn}
+use Rattle.framebuffer.specs.Answer.{drawn}
+use Rattle.framebuffer.specs.Description.{raster, drawTests}
+use Rattle.framebuffer.specs.Window.{heldBy}
+
+-- what a call draws: its figure, its colour, and the tests of its own, which come behind those of its frame and its colour
+pub record Drawing : Type 0 where
+  pub figure : ℤ → ℤ → Bool
+  pub colour : ℕ
+  pub own : Tests
+
+-- setting a pixel; filling the frame
+abbrev pub pixelDrawing : Point → ℕ → Drawing
+pixelDrawing p colour = record { figure = single (p .0) (p .1); colour = colour; own = [] }
+
+abbrev pub fillDrawing : ℕ → Drawing
+fillDrawing colour = record { figure = everywhere; colour = colour; own = [] }
+
+-- its tests, on a frame over len bytes
+abbrev pub callTests : Frame → ℕ → Drawing → Tests
+callTests f len d = drawTests f len (d .colour) ++ d .own
+
+-- the answer, and the bytes: with a refusal those before it, else every pixel of the rectangle that the figure contains gets the colour
+unfoldable pub outcome : Frame → Window → Drawing → List ℕ → Drawn × List ℕ
+outcome f q d b =
+    let n = first (callTests f (length b) d) in
+    (drawn n, cond (eqb n 0) (painted (raster f) (heldBy q (d .figure)) (d .colour) b) b)

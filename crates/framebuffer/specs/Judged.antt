@@ -1,0 +1,49 @@
+-- What is known of a description, a buffer and a colour that were accepted, and of a brush that is made of them.
+use mathlib.Core.Path.{_≡_}
+use mathlib.Core.Bool.{Bool, true}
+use mathlib.Core.List.{List}
+use Prim.Native.Nat.{ℕ, _^_, _≤_, _<_}
+use lib.IntN.{ℤ}
+use Rattle.layout.specs.Layout.{painted}
+use Rattle.layout.specs.Packed.{goodDepth}
+use Rattle.framebuffer.specs.declared.Frame.{Frame}
+use Rattle.framebuffer.specs.declared.Window.{Window}
+use Rattle.framebuffer.specs.declared.Brush.{Brush}
+use Rattle.framebuffer.specs.Description.{raster, size}
+use Rattle.framebuffer.specs.Window.{heldBy, wholeWindow}
+
+-- a description that is not refused
+pub record Described (f : Frame) : Type 0 where
+  pub depth : goodDepth (f .depth) ≡ true
+  pub width : f .width ≤ 2048
+  pub height : f .height ≤ 2048
+
+-- over a buffer of len bytes
+pub record Accepted (f : Frame) (len : ℕ) : Type 0 where
+  pub described : Described f
+  pub room : size f ≤ len
+
+-- that the colour may be drawn on
+pub record Drawable (f : Frame) (len colour : ℕ) : Type 0 where
+  pub accepted : Accepted f len
+  pub below : colour < 2 ^ (f .depth)
+
+-- a rectangle that ends within the frame
+pub record Within (q : Window) (f : Frame) : Type 0 where
+  pub across : q .left ≤ q .right
+  pub down : q .top ≤ q .bottom
+  pub right : q .right ≤ f .width
+  pub bottom : q .bottom ≤ f .height
+
+-- a brush that may paint on a buffer of len bytes
+pub record Ready (q : Brush) (len : ℕ) : Type 0 where
+  pub drawable : Drawable (q .frame) len (q .colour)
+  pub within : Within (q .window) (q .frame)
+
+-- the brush for the whole frame
+abbrev pub wholeBrush : Frame → ℕ → Brush
+wholeBrush f colour = record { frame = f; window = wholeWindow f; colour = colour }
+
+-- what it leaves of a buffer: the figure painted, as far as its rectangle holds it
+abbrev pub brushed : Brush → (ℤ → ℤ → Bool) → List ℕ → List ℕ
+brushed q figure b = painted (raster (q .frame)) (heldBy (q .window) figure) (q .colour) b

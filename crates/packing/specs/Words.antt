@@ -1,0 +1,29 @@
+-- The numbers that the code works out on its way to the bytes: masks of pixels in a byte, and a byte changed where a mask has ones.
+use mathlib.Core.Path.{_≡_}
+use mathlib.Core.Bool.{true}
+use mathlib.Core.List.{List}
+use Prim.Native.Nat.{ℕ, _+_, _-_, _*_, _^_, _≤_, _<_}
+use lib.Bits.{bitAnd, bitOr}
+use lib.ListN.{getD, set}
+use Rattle.layout.specs.Packed.{goodDepth, field, slotOf}
+
+-- pixel x is a part of a byte: at depths 1, 2 and 4, in a row or at its end
+pub record Part (depth x : ℕ) : Type 0 where
+  pub good : goodDepth depth ≡ true
+  pub small : depth < 8
+  pub near : x ≤ 2048
+
+-- the bits of pixel x in its byte; and its bits with those of the pixels after it
+abbrev pub pixelMask : ℕ → ℕ → ℕ
+pixelMask depth x = (2 ^ field depth - 1) * 2 ^ (field depth * slotOf depth x)
+
+abbrev pub bitsFrom : ℕ → ℕ → ℕ
+bitsFrom depth x = 2 ^ (field depth * (slotOf depth x + 1)) - 1
+
+-- the byte p where the mask m has ones, and else v
+abbrev pub merged : ℕ → ℕ → ℕ → ℕ
+merged v p m = bitOr (bitAnd v (255 - m)) (bitAnd p m)
+
+-- the byte at a place so changed
+abbrev pub mergedAt : ℕ → ℕ → ℕ → List ℕ → List ℕ
+mergedAt at p m b = set b at (merged (getD b at 0) p m)

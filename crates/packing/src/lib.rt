@@ -1,0 +1,211 @@
+// A pixel's bits and bytes, wherever its frame keeps them: masks and fields of a byte at depths 1, 2 and 4, the bytes of a colour from depth 8 on, and
+// runs of bytes that hold pixels of one colour.
+ghost use mathlib.Core.Path.{_≡_};
+ghost use mathlib.Core.Bool.{true};
+ghost use Prim.Native.Nat.{ℕ, _+_, _*_, _%_, _^_, _≤_, _<_, min};
+ghost use lib.ListN.{length, getD};
+ghost use Rattle.layout.specs.Digits.{digit, value, replaced, setRun};
+ghost use Rattle.layout.specs.Packed.{goodDepth, field, parts, per, turned, slotOf, fullByte};
+ghost use Rattle.packing.specs.Words.{Part, pixelMask, bitsFrom, merged, mergedAt};
+
+// ---- a pixel's field of its byte, at depths 1, 2 and 4
+
+// The bits below pixel x's field. The first pixel is in the high bits.
+fn shift(depth: u32, x: u32) -> u32
+    requires { ⌜ Part depth x ⌝ }
+    ensures { λ r. ⌜ r ≡ field depth * slotOf depth x ⌝ }
+{
+    8 - depth - x * depth % 8
+}
+
+// Pixel x's bits.
+fn mask(depth: u32, x: u32) -> u8
+    requires { ⌜ Part depth x ⌝ }
+    ensures { λ r. ⌜ r ≡ pixelMask depth x ⌝ }
+{
+    (((1u32 << depth) - 1) << shift(depth, x)) as u8
+}
+
+// Inside the library: the bits of pixel x and of those after it in its byte.
+pub fn bits_from(depth: u32, x: u32) -> u8
+    requires { ⌜ Part depth x ⌝ }
+    ensures { λ r. ⌜ r ≡ bitsFrom depth x ⌝ }
+{
+    255u8 >> (x * depth % 8)
+}
+
+// The byte p where m has ones, and else v.
+fn merge(v: u8, p: u8, m: u8) -> u8
+    ensures { λ r. ⌜ r ≡ merged v p m ⌝ }
+{
+    (v & !m) | (p & m)
+}
+
+// Inside the library: the byte v with pixel x in the colour.
+pub fn with_field(v: u8, depth: u32, x: u32, colour: u32) -> u8
+    requires { ⌜ Part depth x × (colour < 2 ^ depth) ⌝ }
+    ensures { λ r. ⌜ r ≡ replaced (2 ^ field depth) (slotOf depth x) colour v ⌝ }
+{
+    merge(v, (colour << shift(depth, x)) as u8, mask(depth, x))
+}
+
+// Inside the library: the colour of pixel x in the byte v.
+pub fn field_of(v: u8, depth: u32, x: u32) -> u32
+    requires { ⌜ Part depth x ⌝ }
+    ensures { λ r. ⌜ r ≡ digit (2 ^ field depth) (slotOf depth x) v ⌝ }
+{
+    ((v & mask(depth, x)) as u32) >> shift(depth, x)
+}
+
+// Inside the library: a byte all of whose pixels have the colour, at depths up to 8.
+pub fn pattern(depth: u32, colour: u32) -> u8
+    requires { ⌜ (goodDepth depth ≡ true) × (depth ≤ 8) × (colour < 2 ^ depth) ⌝ }
+    ensures { λ r. ⌜ r ≡ value (2 ^ field depth) (per depth) (λ k. colour) ⌝ }
+{
+    if depth == 1 {
+        return (colour * 255) as u8;
+    }
+    if depth == 2 {
+        return (colour * 85) as u8;
+    }
+    if depth == 4 {
+        return (colour * 17) as u8;
+    }
+    colour as u8
+}
+
+// Inside the library: the byte at a place takes p where m has ones.
+pub fn merge_at(buf: &mut [u8], at: usize, p: u8, m: u8)
+    requires { ⌜ at < length (now buf) ⌝ }
+    ensures { λ r. ⌜ now (buf .exit) ≡ mergedAt at p m (now (buf .entry)) ⌝ }
+{
+    buf[at] = merge(buf[at], p, m);
+}
+
+// ---- a pixel's bytes, at depths 8 to 32
+
+// Digit k of a colour is in byte k of its pixel, or with the big end first in the one that is k from the last.
+fn turn(big: bool, parts: usize, k: usize) -> usize
+    requires { ⌜ k < parts ⌝ }
+    ensures { λ r. ⌜ r ≡ turned big parts k ⌝ }
+{
+    if big {
+        return parts - 1 - k;
+    }
+    k
+}
+
+// Byte k of a pixel.
+fn byte_of_pixel(big: bool, parts: usize, k: usize, colour: u32) -> u8
+    requires { ⌜ (k < parts) × (parts ≤ 4) ⌝ }
+    ensures { λ r. ⌜ r ≡ digit 256 (turned big parts k) colour ⌝ }
+{
+    (colour >> (8 * turn(big, parts, k) as u32) & 255) as u8
+}
+
+// Inside the library: the colour, written over all of a part of the buffer, a digit a byte.
+pub fn store(part: &mut [u8], big: bool, colour: u32)
+    requires { ⌜ (0 < length (now part)) × (length (now part) ≤ 4) ⌝ }
+    ensures { λ r. ⌜ now (part .exit) ≡
+        (let n = length (now (part .entry)) in setRun 0 n (λ j. digit 256 (turned big n j) colour) (now (part .entry))) ⌝ }
+{
+    let n = part.len();
+    part[0] = byte_of_pixel(big, n, 0, colour);
+    if n == 1 {
+        return;
+    }
+    part[1] = byte_of_pixel(big, n, 1, colour);
+    if n == 2 {
+        return;
+    }
+    part[2] = byte_of_pixel(big, n, 2, colour);
+    if n == 3 {
+        return;
+    }
+    part[3] = byte_of_pixel(big, n, 3, colour);
+}
+
+// Inside the library: the colour that all of a part of the buffer holds.
+pub fn load(part: &[u8], big: bool) -> u32
+    requires { ⌜ length (now part) ≤ 4 ⌝ }
+    ensures { λ r. ⌜ r ≡
+        (let n = length (now (part .entry)) in value 256 n (λ k. getD (now (part .entry)) (turned big n k) 0)) ⌝ }
+{
+    let n = part.len();
+    let mut sum = 0u32;
+    let mut k = n;
+    while 0 < k {
+        k -= 1;
+        let i = turn(big, n, k);
+        sum = (sum << 8) | part[i] as u32;
+    }
+    sum
+}
+
+// ---- runs of bytes
+
+// Inside the library: every byte of a part of a buffer set to v, by one plain store a turn.
+pub fn set_all(part: &mut [u8], v: u8)
+    ensures { λ r. ⌜ now (part .exit) ≡ setRun 0 (length (now (part .entry))) (λ j. v) (now (part .entry)) ⌝ }
+{
+    let mut i = 0usize;
+    while i < part.len() {
+        part[i] = v;
+        i += 1;
+    }
+}
+
+// From byte `lag` on, each byte takes what stands `lag` bytes before it.
+fn repeat(part: &mut [u8], lag: usize)
+    requires { ⌜ 0 < lag ⌝ }
+    ensures { λ r. ⌜ ((j : ℕ) → j < length (now (part .entry)) → getD (now (part .exit)) j 0 ≡ getD (now (part .entry)) (j % lag) 0) ⌝ }
+{
+    let mut i = lag;
+    while i < part.len() {
+        part[i] = part[i - lag];
+        i += 1;
+    }
+}
+
+fn least(a: usize, b: usize) -> usize
+    ensures { λ r. ⌜ r ≡ min a b ⌝ }
+{
+    if a < b {
+        return a;
+    }
+    b
+}
+
+// From byte 48 on, each byte takes what stands 48 bytes before it. Past the first 768 bytes it takes what stands 768 before, which is the same; the
+// larger distance measured faster (docs/BENCHMARKS.md).
+fn repeat_on(part: &mut [u8])
+    ensures { λ r. ⌜ ((j : ℕ) → j < length (now (part .entry)) → getD (now (part .exit)) j 0 ≡ getD (now (part .entry)) (j % 48) 0) ⌝ }
+{
+    let head = least(part.len(), 768);
+    repeat(&mut part[..head], 48);
+    repeat(part, 768);
+}
+
+// A part of the buffer filled with the bytes of a pixel, again and again. The first pixel is written, then repeated within the first 48 bytes, which
+// hold whole pixels at every depth; these are repeated to the end.
+fn repeat_pixel(part: &mut [u8], parts: usize, big: bool, colour: u32)
+    requires { ⌜ (0 < parts) × (parts ≤ 4) × (parts ≤ length (now part)) ⌝ }
+    ensures { λ r. ⌜ ((j : ℕ) → j < length (now (part .entry)) → getD (now (part .exit)) j 0 ≡ digit 256 (turned big parts (j % parts)) colour) ⌝ }
+{
+    let head = least(part.len(), 48);
+    store(&mut part[..parts], big, colour);
+    repeat(&mut part[..head], parts);
+    repeat_on(part);
+}
+
+// Inside the library: a part of the buffer that holds whole pixels, all of them in the colour.
+pub fn fill_part(part: &mut [u8], depth: u32, big: bool, colour: u32)
+    requires { ⌜ (goodDepth depth ≡ true) × (colour < 2 ^ depth) × (parts depth ≤ length (now part)) ⌝ }
+    ensures { λ r. ⌜ now (part .exit) ≡ setRun 0 (length (now (part .entry))) (fullByte depth big colour) (now (part .entry)) ⌝ }
+{
+    if depth <= 8 {
+        set_all(part, pattern(depth, colour));
+        return;
+    }
+    repeat_pixel(part, (depth / 8) as usize, big, colour);
+}

@@ -1,0 +1,53 @@
+-- "Its colour is that of the last accepted call whose figure contains it, or 0 if none." Assumes nothing.
+use mathlib.Core.Path.{_≡_, refl, ap, subst, sym, _∙_}
+use mathlib.Core.Bool.{Bool, true, false, cond}
+use mathlib.Core.List.{List, [], _∷_, _++_}
+use Prim.Native.Nat.{ℕ}
+use lib.Dec.{eqb}
+use lib.IntN.{pos}
+use borrow.Author.Tests.{eq-eqb, eqb-true}
+use Rattle.layout.specs.Layout.{Picture}
+use Rattle.framebuffer.specs.declared.Frame.{Frame}
+use Rattle.framebuffer.specs.Drawing.{Drawing}
+use Rattle.picture.specs.Calls.{Call, Change, draws, changeOf, numberOf, blank, shownAfter, pictureAfter}
+
+module _ (f : Frame) (n x y : ℕ) where
+  -- whatever the picture was, the call leaves the pixel as it is
+  abbrev pub Leaves : Call → Type 0
+  Leaves o = (g : Picture) → changeOf o .changes f g x y ≡ g x y
+
+  -- so does each accepted call of a list
+  abbrev pub AllLeave : List Call → Type 0
+  AllLeave [] = Unit {0}
+  AllLeave (o ∷ os) = (numberOf f n o ≡ 0 → Leaves o) × AllLeave os
+
+  -- a call whose figure does not contain the pixel
+  pub outside-leaves : (o : Call) (d : Drawing) → changeOf o ≡ draws d → d .figure (pos x) (pos y) ≡ false → Leaves o
+  outside-leaves o d e h g = ap (λ (c : Change). c .changes f g x y) e ∙ ap (λ (t : Bool). cond t (d .colour) (g x y)) h
+
+  calls-leave : (os : List Call) (g : Picture) → AllLeave os → pictureAfter f n os g x y ≡ g x y
+  calls-leave [] g a = refl
+  calls-leave (o ∷ os) g a = calls-leave os (shownAfter f n o g) (a .1) ∙ by (eqb (numberOf f n o) 0) refl
+    where
+      by : (t : Bool) → eqb (numberOf f n o) 0 ≡ t → cond t (changeOf o .changes f g x y) (g x y) ≡ g x y
+      by true e = a .0 (eqb-true (numberOf f n o) 0 e) g
+      by false e = refl
+
+  after-both : (xs ys : List Call) (g : Picture) → pictureAfter f n (xs ++ ys) g ≡ pictureAfter f n ys (pictureAfter f n xs g)
+  after-both [] ys g = refl
+  after-both (o ∷ xs) ys g = after-both xs ys (shownAfter f n o g)
+
+  -- the last accepted call whose figure contains the pixel gives it its colour
+  pub last-colour : (xs ys : List Call) (o : Call) (d : Drawing) → changeOf o ≡ draws d → numberOf f n o ≡ 0 → d .figure (pos x) (pos y) ≡ true → AllLeave ys
+      → (g : Picture) → pictureAfter f n (xs ++ (o ∷ ys)) g x y ≡ d .colour
+  last-colour xs ys o d e z h a g =
+      let before = pictureAfter f n xs g in
+      ap (λ (k : Picture). k x y) (after-both xs (o ∷ ys) g)
+      ∙ calls-leave ys (shownAfter f n o before) a
+      ∙ ap (λ (t : Bool). cond t (changeOf o .changes f before x y) (before x y)) (eq-eqb (numberOf f n o) 0 z)
+      ∙ ap (λ (c : Change). c .changes f before x y) e
+      ∙ ap (λ (t : Bool). cond t (d .colour) (before x y)) h
+
+  -- where no accepted call contains it, it has 0
+  pub no-colour : (os : List Call) → AllLeave os → pictureAfter f n os blank x y ≡ 0
+  no-colour os a = calls-leave os blank a

@@ -1,22 +1,33 @@
-// Standard input and output, for every program: what is read goes behind what was kept, and what is written is gathered into large writes.
-// No contract can say which bytes are read or written, so these say how many there is room for.
+// Standard input, output and error, for every program: what is read goes behind what was kept. No contract can say which bytes are read or written, so
+// these say how many there is room for, what stays, and whether the call failed.
 ghost use mathlib.Core.Path.{_≡_};
+ghost use mathlib.Core.Bool.{true};
 ghost use Prim.Native.Nat.{_+_, _≤_};
-ghost use lib.ListN.{length};
+ghost use lib.ListN.{length, take};
 ghost use Rattle.console.specs.Gathered.{flushed};
+use libc::STDERR_FILENO;
 use libc::STDIN_FILENO;
 use libc::STDOUT_FILENO;
 
-// Inside the library: reads once behind the bytes that are kept, and answers how many came: none at the end of the input, or if the read failed.
-pub fn read_more(input: &mut [u8], kept: usize) -> usize
+// What a read brought: how many bytes, or that it failed. Neither is the end of the input.
+pub struct Came {
+    pub count: usize,
+    pub failed: bool,
+}
+
+// Inside the library: reads once behind the bytes that are kept, which stay.
+pub fn read_more(input: &mut [u8], kept: usize) -> Came
     requires { ⌜ kept ≤ length (now input) ⌝ }
-    ensures { λ r. ⌜ kept + r ≤ length (now (input .entry)) ⌝ }
+    ensures { λ r. ⌜ (kept + r .count ≤ length (now (input .entry))) × (take kept (now (input .exit)) ≡ take kept (now (input .entry))) × (r .failed ≡ true → r .count ≡ 0) ⌝ }
 {
     let space = &mut input[kept..];
     let got = libc::read(STDIN_FILENO, space);
-    io::count(got, space)
+    let count = io::count(got, space);
+    Came {
+        count,
+        failed: got < 0,
+    }
 }
-
 // Inside the library: reads until the input ends or `input` is full, and answers how many bytes came.
 pub fn read_all(input: &mut [u8]) -> usize
     ensures { λ r. ⌜ r ≤ length (now (input .entry)) ⌝ }
@@ -24,10 +35,10 @@ pub fn read_all(input: &mut [u8]) -> usize
     let mut end = 0;
     loop {
         let got = read_more(input, end);
-        if got == 0 {
+        if got.count == 0 {
             return end;
         }
-        end += got;
+        end += got.count;
     }
 }
 
@@ -43,9 +54,14 @@ pub fn flush(out: &[u8], at: usize) -> usize
     0
 }
 
-// Inside the library: writes the first `at` bytes of an output.
-pub fn write(out: &[u8], at: usize)
+// Inside the library: writes the first `at` bytes of an output, and answers whether they were taken.
+pub fn write(out: &[u8], at: usize) -> bool
     requires { ⌜ at ≤ length (now out) ⌝ }
 {
-    io::write_all(STDOUT_FILENO, &out[..at]);
+    io::write_all(STDOUT_FILENO, &out[..at])
+}
+
+// Inside the library: writes a line to standard error.
+pub fn complain(line: &[u8]) {
+    io::write_all(STDERR_FILENO, line);
 }

@@ -1,4 +1,4 @@
--- Laws of the program's answers: which one a line gets, and that each is at most 72 bytes long. Assumes nothing.
+-- Laws of the program's answers: which one a line gets, that each is at most 72 bytes long, and that the parts of the input do not matter. Assumes nothing.
 use mathlib.Core.Path.{_≡_}
 use mathlib.Core.Bool.{Bool, true, false, cond}
 use mathlib.Core.List.{List, [], _∷_, _++_}
@@ -7,17 +7,17 @@ use native.Mathlib.Omega.{arith}
 use lib.Dec.{leb, eqb}
 use lib.IntN.{ℤ, pos}
 use lib.ListN.{length, length-append}
-use lib.Seq.{length-sets}
-use borrow.Author.Tests.{le-leb, lt-leb, eq-eqb, ne-eqb, leb-true}
+use borrow.Author.Tests.{le-leb, lt-leb, eq-eqb, ne-eqb}
 use mir.Syntax.{w32}
 use mir.Val.{Fits, SFits}
 use Rattle.text.specs.Fields.{fields, fieldAt, nextU32, number, exactly, readPlace, readVertices}
-use Rattle.text.specs.Lines.{handled}
+use Rattle.text.specs.Lines.{whole, streamed}
 use Rattle.text.specs.Show.{shown, numberField, triple}
 use Rattle.text.proofs.Reading.{i32-fits, u32-fits}
 use Rattle.text.proofs.Showing.{shown-ten, zero-fits, field-short, triple-short}
-use Rattle.text.proofs.Streaming.{handled-keeps}
-use Rattle.numbers.specs.Answer.{badLine, verticesLine, placeLine, countLine, answer, answered, room}
+use Rattle.streams.specs.Answers.{said, output}
+use Rattle.streams.proofs.Answers.{blind, any-parts}
+use Rattle.numbers.specs.Answer.{badLine, verticesLine, placeLine, countLine, answer}
 
 -- ---- which answer a line gets
 pub answer-long : (line : List ℕ) → 128 < length line → badLine ≡ answer line
@@ -86,9 +86,6 @@ answer-short line = by (leb (length line) 128) (readVertices (fields line) .ok) 
     by true false false true = omega (arith, count-short (nextU32 line 0 .value) (next-fits line 0))
     by true false false false = omega arith
 
--- ---- so answers stay within their buffer
-pub answered-within : (o : ℕ × List ℕ) (line : List ℕ) → room o ≡ true → answered o line .0 ≤ length (answered o line .1)
-answered-within o line r = rw (length-sets (o .1) (o .0) (answer line)) (omega (arith, leb-true (o .0 + 72) (length (o .1)) r, answer-short line))
-
-pub lines-within : (s : List ℕ) (turns at : ℕ) (o : ℕ × List ℕ) → o .0 ≤ length (o .1) → handled room answered s turns at o .1 .0 ≤ length (handled room answered s turns at o .1 .1)
-lines-within s turns at o h = handled-keeps answered room (λ (p : ℕ × List ℕ). p .0 ≤ length (p .1)) (λ p l r q. answered-within p l r) s turns at o h
+-- ---- in which parts the input comes does not matter: 129 bytes of a line are enough
+pub parts : (parts : List (List ℕ)) → streamed (said answer) 129 [] [] parts ≡ output answer (whole parts)
+parts = any-parts answer (blind answer badLine answer-long)

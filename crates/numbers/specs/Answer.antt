@@ -1,14 +1,12 @@
--- What the program writes for a line, and for the lines of a part of its input.
-use mathlib.Core.Bool.{Bool, cond}
+-- What the program writes for a line.
+use mathlib.Core.Bool.{cond}
 use mathlib.Core.List.{List, [], _∷_, _++_}
 use Prim.Native.Nat.{ℕ, _+_}
 use lib.Dec.{leb, eqb}
 use lib.ListN.{length}
-use lib.Seq.{sets}
 use Rattle.text.specs.declared.Place.{Place}
 use Rattle.text.specs.declared.Vertices.{Vertices}
 use Rattle.text.specs.Fields.{fields, nextU32, readPlace, readVertices}
-use Rattle.text.specs.Lines.{over}
 use Rattle.text.specs.Show.{shown, numberField, triple}
 
 -- `bad line`, LF
@@ -33,18 +31,3 @@ understood line =
 
 unfoldable pub answer : List ℕ → List ℕ
 answer line = cond (leb (length line) 128) (understood line) badLine
-
--- ---- the answers of lines, one behind the other in a buffer: how far it is filled, and its bytes
-abbrev pub answered : ℕ × List ℕ → List ℕ → ℕ × List ℕ
-answered o line = (o .0 + length (answer line), sets (o .1) (o .0) (answer line))
-
--- the longest answer has six numbers of eleven bytes, and a byte behind each
-abbrev pub room : ℕ × List ℕ → Bool
-room o = leb (o .0 + 72) (length (o .1))
-
--- ---- what the program writes for an input: the answers to its lines
-abbrev pub said : List ℕ → List ℕ → List ℕ
-said out line = out ++ answer line
-
-abbrev pub output : List ℕ → List ℕ
-output input = over said [] input

@@ -3,7 +3,8 @@ ghost use mathlib.Core.Path.{_≡_};
 ghost use Prim.Native.Nat.{_≤_};
 ghost use lib.ListN.{length};
 ghost use Rattle.text.specs.Lines.{handled};
-ghost use Rattle.numbers.specs.Answer.{answered, room};
+ghost use Rattle.streams.specs.Answers.{answered, room};
+ghost use Rattle.numbers.specs.Answer.{answer};
 use crate::answer::answer_line;
 
 // How far the input is read and the output filled.
@@ -15,7 +16,7 @@ pub struct Progress {
 // Inside the library: answers the lines of `input` that an LF ends, from `from` on, as long as there is room for the longest answer; `out` is filled up to `at`.
 pub fn answer_lines(input: &[u8], from: usize, out: &mut [u8], at: usize) -> Progress
     requires { ⌜ from ≤ length (now input) ⌝ }
-    ensures { λ r. ⌜ (r .next, (r .at, now (out .exit))) ≡ handled room answered (now (input .entry)) (length (now (input .entry))) from (at, now (out .entry)) ⌝ }
+    ensures { λ r. ⌜ (r .next, (r .at, now (out .exit))) ≡ handled (room 72) (answered answer) (now (input .entry)) (length (now (input .entry))) from (at, now (out .entry)) ⌝ }
 {
     let mut next = from;
     let mut filled = at;

@@ -5,91 +5,56 @@ mod lines;
 
 ghost use mathlib.Core.Path.{_≡_};
 ghost use lib.ListN.{length};
-ghost use Rattle.numbers.specs.Standing.{Standing, afterLines, afterLast};
+ghost use Rattle.streams.specs.State.{Standing};
+ghost use Rattle.streams.specs.Answers.{afterLines, afterLast};
+ghost use Rattle.streams.specs.Run.{Ended};
+ghost use Rattle.numbers.specs.Answer.{answer};
 use answer::answer_line;
 use lines::answer_lines;
-
-// The bytes of the input from `next` up to `end` are still to be looked at, the output is filled up to `at`, and whether there may be more input.
-pub struct State {
-    pub next: usize,
-    pub end: usize,
-    pub at: usize,
-    pub more: bool,
-}
+use streams::State;
 
 // Answers the lines that are there and that LF ends, as far as the output has room.
 fn answer_some(input: &[u8], out: &mut [u8], st: State) -> State
-    requires { ⌜ Standing st × (length (now input) ≡ 65536) × (length (now out) ≡ 65536) ⌝ }
-    ensures { λ r. ⌜ (r, now (out .exit)) ≡ afterLines (now (input .entry)) st (now (out .entry)) ⌝ }
+    requires { ⌜ Standing st (now input) (now out) ⌝ }
+    ensures { λ r. ⌜ (r, now (out .exit)) ≡ afterLines answer 72 (now (input .entry)) st (now (out .entry)) ⌝ }
 {
     let end = st.end;
     let done = answer_lines(&input[..end], st.next, out, st.at);
-    let at = console::flush(out, done.at);
-    State {
-        next: done.next,
-        end,
-        at,
-        more: st.more,
-    }
+    streams::stands_at(st, done.next, done.at)
 }
 
-// Once no line is left that LF ends: keeps what is behind the last of them, of which 129 bytes are enough, and reads on. What comes, no contract can say.
-fn refill(input: &mut [u8], st: State) -> State
-    requires { ⌜ Standing st × (length (now input) ≡ 65536) ⌝ }
-    ensures { λ r. ⌜ Standing r ⌝ }
+// Answers a last line that lacks its LF.
+fn last_line(input: &[u8], out: &mut [u8], st: State) -> State
+    requires { ⌜ Standing st (now input) (now out) ⌝ }
+    ensures { λ r. ⌜ (r, now (out .exit)) ≡ afterLast answer (now (input .entry)) st (now (out .entry)) ⌝ }
 {
-    let end = st.end;
-    let next = st.next;
-    if text::part_end(&input[..end], next, b'\n') < end {
+    if !streams::has_last(st) {
         return st;
     }
-    let kept = text::keep(input, next, end, 129);
-    let got = console::read_more(input, kept);
-    State {
-        next: 0,
-        end: kept + got,
-        at: st.at,
-        more: got > 0,
-    }
-}
-
-// Answers a last line that lacks its LF, and answers how far the output is filled then.
-fn last_line(input: &[u8], out: &mut [u8], st: State) -> usize
-    requires { ⌜ Standing st × (length (now input) ≡ 65536) × (length (now out) ≡ 65536) ⌝ }
-    ensures { λ r. ⌜ (r, now (out .exit)) ≡ afterLast (now (input .entry)) st (now (out .entry)) ⌝ }
-{
     let next = st.next;
     let end = st.end;
-    let at = st.at;
-    if next == end {
-        return at;
-    }
-    answer_line(&input[next..end], out, at)
+    let at = answer_line(&input[next..end], out, st.at);
+    streams::stands_at(st, end, at)
 }
 
-// Turn after turn, until the input ends. A proved loop has to end, and nothing says that an input does: so the turns are counted down, from a number
-// that no run uses up.
-fn run(input: &mut [u8], out: &mut [u8])
+// Turn after turn, until the input ends.
+fn run(input: &mut [u8], out: &mut [u8]) -> State
     requires { ⌜ (length (now input) ≡ 65536) × (length (now out) ≡ 65536) ⌝ }
+    ensures { λ r. ⌜ Ended (afterLines answer 72) (afterLast answer) (now (out .entry)) r ⌝ }
 {
-    let mut st = State {
-        next: 0,
-        end: 0,
-        at: 0,
-        more: true,
-    };
-    let mut turns = u64::MAX;
-    while turns > 0 && st.more {
-        turns -= 1;
+    let mut st = streams::start();
+    while streams::goes_on(st) {
         st = answer_some(input, out, st);
-        st = refill(input, st);
+        st = streams::flush(out, st);
+        st = streams::refill(input, st);
     }
-    let at = last_line(input, out, st);
-    console::write(out, at);
+    st = last_line(input, out, st);
+    streams::empty(out, st)
 }
 
 fn main() {
     let mut input = [0u8; 65536];
     let mut out = [0u8; 65536];
-    run(&mut input, &mut out);
+    let st = run(&mut input, &mut out);
+    streams::complain(st);
 }

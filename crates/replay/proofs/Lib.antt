@@ -1,11 +1,2 @@
-pub mod Replies
-pub mod Questions
-pub mod Calls
-pub mod Turns
-pub mod Writes
-pub mod Letters
-pub mod Hexadecimal
-pub mod Lent
-pub mod Answers
-pub mod Standing
 pub mod Parts
+pub mod Work

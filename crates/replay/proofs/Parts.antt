@@ -10,8 +10,10 @@ use lib.Seq.{take-all}
 use borrow.Author.Tests.{leb-true, leb-false}
 use Rattle.text.specs.Lines.{whole, streamed}
 use Rattle.text.proofs.Streaming.{streamed-is}
-use Rattle.replay.specs.Lines.{Left, answer, told, start, output}
-use Rattle.replay.proofs.Answers.{answer-long}
+use Rattle.calls.specs.Lines.{Left, answer}
+use Rattle.calls.specs.Screen.{start}
+use Rattle.calls.proofs.Answers.{answer-long}
+use Rattle.replay.specs.Session.{told, output}
 
 -- 129 bytes of a line are enough
 enough : (said : List ℕ) (l : Left) → answer said l ≡ answer (take 129 said) l

@@ -1,9 +1,1 @@
-pub mod Words
-pub mod Fields
-pub mod Reply
-pub mod Ask
-pub mod Draw
-pub mod Screen
-pub mod Dump
-pub mod Lines
-pub mod Standing
+pub mod Session

@@ -1,116 +1,79 @@
 // Puts any question or call to the library: reads lines of a word and tab-parted numbers and answers each by a line. A line ends at LF or at
 // the end of the input, of whatever length that is and in whatever parts it comes.
-mod ask;
-mod draw;
-mod dump;
-mod fields;
-mod lines;
-mod reply;
-mod screen;
-mod words;
-
 ghost use mathlib.Core.Path.{_≡_};
 ghost use Prim.Native.Nat.{_≤_};
 ghost use lib.ListN.{length};
-ghost use Rattle.replay.specs.Standing.{Standing, Buffers, afterLines, afterLast};
-use framebuffer::Frame;
-use lines::answer_line;
-use lines::answer_lines;
-use screen::Screen;
+ghost use Rattle.streams.specs.State.{Standing};
+ghost use Rattle.streams.specs.Run.{Ended};
+ghost use Rattle.replay.specs.Session.{Sound, first, afterLines, afterLast};
+use calls::Screen;
+use streams::State;
 
-// The bytes of the input from `next` up to `end` are still to be looked at, the output is filled up to `at`, and whether there may be more input.
-pub struct State {
-    pub next: usize,
-    pub end: usize,
-    pub at: usize,
-    pub more: bool,
+// Where the program stands, and the screen that the lines left.
+pub struct Reached {
+    pub st: State,
     pub screen: Screen,
 }
 
 // Answers the lines that are there and that LF ends, as far as the output has room.
-fn answer_some(input: &[u8], memory: &mut [u8], out: &mut [u8], st: State) -> State
-    requires { ⌜ Standing st × Buffers (now input) (now memory) (now out) ⌝ }
-    ensures { λ r. ⌜ (r, (now (out .exit), now (memory .exit))) ≡ afterLines (now (input .entry)) st (now (out .entry)) (now (memory .entry)) ⌝ }
+fn answer_some(
+    input: &[u8],
+    memory: &mut [u8],
+    out: &mut [u8],
+    st: State,
+    screen: Screen,
+) -> Reached
+    requires { ⌜ Standing st (now input) (now out) × Sound (now out, (screen, now memory)) ⌝ }
+    ensures { λ r. ⌜ ((r .st, (now (out .exit), (r .screen, now (memory .exit)))) ≡ afterLines (now (input .entry)) st (now (out .entry), (screen, now (memory .entry)))) × (r .st .at ≤ 65536) ⌝ }
 {
     let end = st.end;
-    let done = answer_lines(&input[..end], st.next, memory, st.screen, out, st.at);
-    let at = console::flush(out, done.at);
-    let screen = done.screen;
-    State {
-        next: done.next,
-        end,
-        at,
-        more: st.more,
-        screen,
+    let done = calls::answer_lines(&input[..end], st.next, memory, screen, out, st.at);
+    let left = done.screen;
+    Reached {
+        st: streams::stands_at(st, done.next, done.at),
+        screen: left,
     }
 }
 
-// Once no line is left that LF ends: keeps what is behind the last of them, of which 129 bytes are enough, and reads on. What comes, no contract can say.
-fn refill(input: &mut [u8], st: State) -> State
-    requires { ⌜ Standing st × (length (now input) ≡ 65536) ⌝ }
-    ensures { λ r. ⌜ Standing r ⌝ }
+// Answers a last line that lacks its LF.
+fn last_line(input: &[u8], memory: &mut [u8], out: &mut [u8], st: State, screen: Screen) -> Reached
+    requires { ⌜ Standing st (now input) (now out) × Sound (now out, (screen, now memory)) ⌝ }
+    ensures { λ r. ⌜ ((r .st, (now (out .exit), (r .screen, now (memory .exit)))) ≡ afterLast (now (input .entry)) st (now (out .entry), (screen, now (memory .entry)))) × (r .st .at ≤ 65536) ⌝ }
 {
-    let end = st.end;
-    let next = st.next;
-    if text::part_end(&input[..end], next, b'\n') < end {
-        return st;
+    if !streams::has_last(st) {
+        return Reached { st, screen };
     }
-    let kept = text::keep(input, next, end, 129);
-    let got = console::read_more(input, kept);
-    let screen = st.screen;
-    State {
-        next: 0,
-        end: kept + got,
-        at: st.at,
-        more: got > 0,
-        screen,
-    }
-}
-
-// Answers a last line that lacks its LF, and answers how far the output is filled then.
-fn last_line(input: &[u8], memory: &mut [u8], out: &mut [u8], st: State) -> usize
-    requires { ⌜ Standing st × Buffers (now input) (now memory) (now out) ⌝ }
-    ensures { λ r. ⌜ ((r, now (out .exit)) ≡ afterLast (now (input .entry)) st (now (out .entry)) (now (memory .entry))) × (r ≤ 65536) ⌝ }
-{
     let next = st.next;
     let end = st.end;
-    let at = st.at;
-    if next == end {
-        return at;
+    let last = calls::answer_line(&input[next..end], memory, screen, out, st.at);
+    let left = last.screen;
+    Reached {
+        st: streams::stands_at(st, end, last.at),
+        screen: left,
     }
-    let last = answer_line(&input[next..end], memory, st.screen, out, at);
-    last.at
 }
 
-// Turn after turn, until the input ends. A proved loop has to end, and nothing says that an input does: so the turns are counted down, from a number
-// that no run uses up.
-fn run(input: &mut [u8], memory: &mut [u8], out: &mut [u8])
-    requires { ⌜ Buffers (now input) (now memory) (now out) ⌝ }
+// Turn after turn, until the input ends.
+fn run(input: &mut [u8], memory: &mut [u8], out: &mut [u8]) -> State
+    requires { ⌜ (length (now input) ≡ 65536) × (length (now memory) ≡ 65536) × (length (now out) ≡ 65536) ⌝ }
+    ensures { λ r. ⌜ Ended afterLines afterLast (first (now (out .entry)) (now (memory .entry))) r ⌝ }
 {
-    let screen = Screen {
-        frame: Frame::new(0, 0, 1, false),
-        lent: 0,
-    };
-    let mut st = State {
-        next: 0,
-        end: 0,
-        at: 0,
-        more: true,
-        screen,
-    };
-    let mut turns = u64::MAX;
-    while turns > 0 && st.more {
-        turns -= 1;
-        st = answer_some(input, memory, out, st);
-        st = refill(input, st);
+    let mut st = streams::start();
+    let mut screen = calls::first_screen();
+    while streams::goes_on(st) {
+        let reached = answer_some(input, memory, out, st, screen);
+        screen = reached.screen;
+        st = streams::flush(out, reached.st);
+        st = streams::refill(input, st);
     }
-    let at = last_line(input, memory, out, st);
-    console::write(out, at);
+    let reached = last_line(input, memory, out, st, screen);
+    streams::empty(out, reached.st)
 }
 
 fn main() {
     let mut input = [0u8; 65536];
     let mut memory = [0u8; 65536];
     let mut out = [0u8; 65536];
-    run(&mut input, &mut memory, &mut out);
+    let st = run(&mut input, &mut memory, &mut out);
+    streams::complain(st);
 }

@@ -20,19 +20,19 @@ read-more-requires : tie.Need-read-more-requires Inv-loop μ-loop
 read-more-requires c κs = omega (arith, c .before .loop .inv .0, c .before .loop .inv .1)
 
 same-length : tie.Need-same-length Inv-loop μ-loop
-same-length c = c .before .before .before .read-more .kept .0 ∙ c .before .before .before .before .before .loop .inv .0
+same-length c = c .before .before .before .before .read-more .kept .0 ∙ c .before .before .before .before .before .before .loop .inv .0
 
 returns : tie.Need-returns Inv-loop μ-loop
-returns c = c .before .before .before .before .before .loop .inv .1
+returns c = c .before .before .before .before .before .before .loop .inv .1
 
 add-end : tie.Need-add-end Inv-loop μ-loop
-add-end c = omega (arith, c .before .before .before .read-more .ensures)
+add-end c = omega (arith, c .before .before .before .before .before .read-more .ensures .0)
 
 loop-less : tie.Need-loop-less Inv-loop μ-loop
-loop-less c = omega (arith, c .if1 .left, c .before .before .before .read-more .ensures, c .before .before .before .before .before .loop .inv .0)
+loop-less c = omega (arith, c .before .if1 .left, c .before .before .before .before .before .read-more .ensures .0, c .before .before .before .before .before .before .before .loop .inv .0)
 
 loop-again : tie.Need-loop-again Inv-loop μ-loop
-loop-again c = (c .before .before .before .read-more .kept .0 ∙ c .before .before .before .before .before .loop .inv .0, omega (arith, c .before .before .before .read-more .ensures, c .before .before .before .before .before .loop .inv .0))
+loop-again c = (c .before .before .before .before .before .read-more .kept .0 ∙ c .before .before .before .before .before .before .before .loop .inv .0, omega (arith, c .before .before .before .before .before .read-more .ensures .0, c .before .before .before .before .before .before .before .loop .inv .0))
 
 pub read-all-spec : {M : Type 1} → statement M
 read-all-spec =

@@ -1,32 +1,27 @@
--- `replay::answer_some` hands on what `answer_lines` and `flush` answer. Assumes nothing.
+-- `replay::answer_some` hands on what `answer_lines` answers. Assumes nothing.
 use mathlib.Core.Path.{sym, ap, _∙_}
-use mathlib.Core.List.{List}
 use Prim.Native.Nat.{ℕ}
 use native.Mathlib.Omega.{arith}
 use borrow.Author.Needs.{needs}
-use Rattle.replay.specs.declared.State.{State}
-use Rattle.replay.specs.Standing.{standsAt}
-use Rattle.replay.proofs.Standing.{there-is}
+use Rattle.streams.specs.declared.State.{State}
+use Rattle.streams.specs.State.{standsAt}
+use Rattle.streams.proofs.Answers.{there-is}
+use Rattle.calls.specs.Lines.{Session}
+use Rattle.replay.specs.Session.{Work}
 use Rattle.replay.proofs.answer_some.Statement.{statement}
 use Rattle.replay.proofs.answer_some.Tie as tie
 
 slice-aggregate-answer-lines : tie.Need-slice-aggregate-answer-lines
-slice-aggregate-answer-lines c =
-    let s = c .before .before .before .before in
-    sym (there-is (s .args .input .now) (s .args .st) (s .args .out .now) (s .args .memory .now) (s .pre .0) (s .pre .1 .reads))
+slice-aggregate-answer-lines c = sym (there-is (c .before .before .before .before .args .input .now) (c .before .before .before .before .args .st) (c .before .before .before .before .args .out .now) (c .before .before .before .before .pre .0))
 
 answer-lines-requires : tie.Need-answer-lines-requires
 answer-lines-requires c κs =
     let s = c .before .before .before .before .before .before in
-    let p = s .pre in (
-      omega (arith, p .0 .ahead, there-is (s .args .input .now) (s .args .st) (s .args .out .now) (s .args .memory .now) (p .0) (p .1 .reads)),
-      p .0 .lent,
-      p .1 .draws,
-      omega (arith, p .0 .filled, p .1 .writes),
-    )
+    let p = s .pre in
+    (omega (arith, p .0 .within .ahead, there-is (s .args .input .now) (s .args .st) (s .args .out .now) (p .0)), p .1 .0, p .1 .1, omega (arith, p .0 .filled, p .0 .out-size))
 
-flush-requires : tie.Need-flush-requires
-flush-requires c κs = omega (arith, c .before .before .before .before .before .answer-lines .ensures .1, c .before .before .before .before .before .answer-lines .kept .1 .1 .1 .1 .0)
+stands-at-requires : tie.Need-stands-at-requires
+stands-at-requires c κs = search needs
 
 same-length : tie.Need-same-length
 same-length c = search needs
@@ -36,11 +31,13 @@ same-length-2 c = search needs
 
 returns : tie.Need-returns
 returns c =
-    let st = c .before .before .before .before .before .before .before .before .before .before .before .before .before .before .args .st in
-    let d = c .before .before .before .before .before .before .before .answer-lines in
-    ap {B = State × (List ℕ × List ℕ)}
-    (λ (k : ℕ). (record { next = d .result .next; end = st .end; at = k; more = st .more; screen = d .result .screen }, (d .last .1 .1 .1 .1 .0, d .last .1 .1 .0))) (c .before .flush .ensures)
-    ∙ ap (standsAt st) (d .ensures .0)
+    let s = c .before .before .before .before .before .before .before .before .before .before .before .before .before in
+    let d = c .before .before .before .before .before .before .answer-lines in
+    let e = c .stands-at .ensures in (
+      ap {B = State × Work} (λ (q : State). (q, (d .last .1 .1 .1 .1 .0, (d .result .screen, d .last .1 .1 .0)))) e
+          ∙ ap {B = State × Work} (λ (h : ℕ × Session). (standsAt (s .args .st) (h .0) (h .1 .0 .0), (h .1 .0 .1, h .1 .1))) (d .ensures .0),
+      omega (arith, ap (λ (q : State). q .at) e, d .ensures .1, s .pre .0 .out-size),
+    )
 
 pub answer-some-spec : {M : Type 1} → statement M
 answer-some-spec =
@@ -48,7 +45,7 @@ answer-some-spec =
     (tie.spec
     slice-aggregate-answer-lines
     answer-lines-requires
-    flush-requires
+    stands-at-requires
     same-length
     same-length-2
     returns)

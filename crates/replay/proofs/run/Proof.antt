@@ -1,72 +1,104 @@
--- `replay::run` keeps its buffers and where it stands in them from turn to turn; the turns that are left get fewer. Assumes nothing.
-use mathlib.Core.Path.{sym, subst, _∙_}
-use mathlib.Core.List.{List}
-use Prim.Native.Nat.{ℕ}
+-- `replay::run` stands within its buffers from turn to turn, and the turns that are left get fewer. Assumes nothing.
+use mathlib.Core.Path.{_≡_, sym, _∙_}
+use mathlib.Core.Bool.{true, false}
 use native.Mathlib.Omega.{arith}
 use borrow.Author.Needs.{needs}
-use Rattle.replay.specs.declared.State.{State}
-use Rattle.replay.specs.Standing.{Standing, Buffers}
-use Rattle.replay.proofs.Standing.{after-standing}
+use Rattle.streams.specs.declared.State.{State}
+use Rattle.streams.specs.State.{goesOn}
+use Rattle.streams.proofs.Turns.{may-read, turns-fewer, going-on, over}
+use Rattle.replay.specs.Session.{Work, Sound, first, afterLines, afterLast}
+use Rattle.replay.proofs.Work.{bytes, Runs, begins, lines-keep}
 use Rattle.replay.proofs.run.Statement.{statement}
 use Rattle.replay.proofs.run.Tie as tie
 
 abbrev Inv-loop : tie.InvT-loop
-Inv-loop input₀ memory₀ out₀ st₀ turns₀ input memory out st turns = Standing st × Buffers input memory out
+Inv-loop input₀ memory₀ out₀ st₀ screen₀ input memory out st screen = Runs out₀ memory₀ st input (out, (screen, memory))
 
 abbrev μ-loop : tie.MeasureT-loop
-μ-loop input₀ memory₀ out₀ st₀ turns₀ input memory out st turns = turns
+μ-loop input₀ memory₀ out₀ st₀ screen₀ input memory out st screen = st .turns
 
-new-requires : tie.Need-new-requires Inv-loop μ-loop
-new-requires c κs = search needs
+start-requires : tie.Need-start-requires Inv-loop μ-loop
+start-requires c κs = search needs
+
+first-screen-requires : tie.Need-first-screen-requires Inv-loop μ-loop
+first-screen-requires c κs = search needs
 
 loop-holds : tie.Need-loop-holds Inv-loop μ-loop
-loop-holds c = (record { ahead = omega arith; within = omega arith; filled = omega arith; lent = omega arith }, c .before .before .before .before .pre)
+loop-holds c =
+    let s = c .before .before .before .before .before in
+    begins (s .args .input .now) (s .args .memory .now) (s .args .out .now) (c .before .start .result) (c .first-screen .result) (c .before .start .ensures) (c .first-screen .ensures) (s .pre .0) (s .pre .1) (s .pre .2)
 
-sub-turns : tie.Need-sub-turns Inv-loop μ-loop
-sub-turns c = search needs
+goes-on-requires : tie.Need-goes-on-requires Inv-loop μ-loop
+goes-on-requires c κs = search needs
 
 answer-some-requires : tie.Need-answer-some-requires Inv-loop μ-loop
-answer-some-requires c κs = c .before .before .before .before .before .loop .inv
+answer-some-requires c κs = (c .before .before .before .before .before .loop .inv .stands, c .before .before .before .before .before .loop .inv .sound)
+
+-- a turn
+on : (c : tie.Then1 Inv-loop μ-loop) → goesOn (c .before .before .loop .st) ≡ true
+on c = sym (c .before .goes-on .ensures) ∙ c .if1 .taken
+
+flush-requires : tie.Need-flush-requires Inv-loop μ-loop
+flush-requires c κs =
+    let l = c .before .before .before .before .before .before .before .before .before .before .before .before .loop in
+    let a = c .before .before .before .before .before .before .answer-some in
+    let o : Work = (l .out, (l .screen, l .memory)) in
+    let p : State × Work = (a .result .st, (a .last .1 .1 .0, (a .result .screen, a .last .1 .0))) in
+    let k = lines-keep (l .input) (l .st) o (l .inv .stands) (l .inv .sound) p (a .ensures .0) (a .ensures .1) (a .kept .1 .1 .0) (a .kept .1 .0) in
+    k .filled
 
 refill-requires : tie.Need-refill-requires Inv-loop μ-loop
 refill-requires c κs =
-    let l = c .before .before .before .before .before .before .before .before .before .before .before .loop in (
-      subst (λ (p : State × (List ℕ × List ℕ)). Standing (p .0)) (sym (c .before .before .before .before .before .answer-some .ensures)) (after-standing (l .input) (l .st) (l .out) (l .memory) (l .inv .0) (l .inv .1 .reads)),
-      l .inv .1 .reads,
-    )
+    let s = c .before .before .before .before .before .before .before .before .before .before .before .before .before .before .before .before .before .before .before .before .args in
+    let l = c .before .before .before .before .before .before .before .before .before .before .before .before .before .before .loop in
+    let a = c .before .before .before .before .before .before .before .before .answer-some in
+    let o : Work = (l .out, (l .screen, l .memory)) in
+    let p : State × Work = (a .result .st, (a .last .1 .1 .0, (a .result .screen, a .last .1 .0))) in
+    let k = lines-keep (l .input) (l .st) o (l .inv .stands) (l .inv .sound) p (a .ensures .0) (a .ensures .1) (a .kept .1 .1 .0) (a .kept .1 .0) in
+    may-read bytes Sound afterLines (first (s .out .now) (s .memory .now)) (l .st) (l .input) o (l .inv) (on (c .before .before .before .before .before .before .before .before .before .before .before .before)) p (a .ensures .0) k (c .before .flush .result) (c .before .flush .ensures)
 
 loop-less : tie.Need-loop-less Inv-loop μ-loop
-loop-less c = omega arith
+loop-less c =
+    let s = c .before .before .before .before .before .before .before .before .before .before .before .before .before .before .before .before .before .before .before .before .before .before .before .args in
+    let l = c .before .before .before .before .before .before .before .before .before .before .before .before .before .before .before .before .before .loop in
+    let a = c .before .before .before .before .before .before .before .before .before .before .before .answer-some in
+    let o : Work = (l .out, (l .screen, l .memory)) in
+    let p : State × Work = (a .result .st, (a .last .1 .1 .0, (a .result .screen, a .last .1 .0))) in
+    let k = lines-keep (l .input) (l .st) o (l .inv .stands) (l .inv .sound) p (a .ensures .0) (a .ensures .1) (a .kept .1 .1 .0) (a .kept .1 .0) in
+    turns-fewer bytes Sound afterLines (first (s .out .now) (s .memory .now)) (l .st) (l .input) o (l .inv) (on (c .before .before .before .before .before .before .before .before .before .before .before .before .before .before .before)) p (a .ensures .0) k (c .before .before .before .before .flush .result) (c .before .before .before .before .flush .ensures) (c .before .before .refill .result) (c .before .before .refill .last .0) (c .before .before .refill .ensures)
 
 loop-again : tie.Need-loop-again Inv-loop μ-loop
 loop-again c =
-    let l = c .before .before .before .before .before .before .before .before .before .before .before .before .before .before .loop in
-    let d = c .before .before .before .before .before .before .before .before .answer-some in (
-      c .before .before .refill .ensures,
-      record {
-        reads = c .before .before .refill .kept .0 ∙ l .inv .1 .reads;
-        draws = d .kept .1 .0 ∙ l .inv .1 .draws;
-        writes = d .kept .1 .1 .0 ∙ l .inv .1 .writes;
-      },
-    )
+    let s = c .before .before .before .before .before .before .before .before .before .before .before .before .before .before .before .before .before .before .before .before .before .before .before .args in
+    let l = c .before .before .before .before .before .before .before .before .before .before .before .before .before .before .before .before .before .loop in
+    let a = c .before .before .before .before .before .before .before .before .before .before .before .answer-some in
+    let o : Work = (l .out, (l .screen, l .memory)) in
+    let p : State × Work = (a .result .st, (a .last .1 .1 .0, (a .result .screen, a .last .1 .0))) in
+    let k = lines-keep (l .input) (l .st) o (l .inv .stands) (l .inv .sound) p (a .ensures .0) (a .ensures .1) (a .kept .1 .1 .0) (a .kept .1 .0) in
+    going-on bytes Sound afterLines (first (s .out .now) (s .memory .now)) (l .st) (l .input) o (l .inv) (on (c .before .before .before .before .before .before .before .before .before .before .before .before .before .before .before)) p (a .ensures .0) k (c .before .before .before .before .flush .result) (c .before .before .before .before .flush .ensures) (c .before .before .refill .result) (c .before .before .refill .last .0) (c .before .before .refill .ensures) (c .before .before .refill .kept .0)
 
 last-line-requires : tie.Need-last-line-requires Inv-loop μ-loop
-last-line-requires c κs = c .before .before .before .before .loop .inv
+last-line-requires c κs = (c .before .before .before .before .before .loop .inv .stands, c .before .before .before .before .before .loop .inv .sound)
 
-write-requires : tie.Need-write-requires Inv-loop μ-loop
-write-requires c κs = omega (arith, c .before .before .before .before .before .last-line .ensures .1, c .before .before .before .before .before .last-line .kept .1 .1 .0, c .before .before .before .before .before .before .before .before .before .before .loop .inv .1 .writes)
+empty-requires : tie.Need-empty-requires Inv-loop μ-loop
+empty-requires c κs = omega (arith, c .before .before .before .before .before .last-line .ensures .1, c .before .before .before .before .before .last-line .kept .1 .1 .0, c .before .before .before .before .before .before .before .before .before .before .before .loop .inv .stands .out-size)
 
 same-length : tie.Need-same-length Inv-loop μ-loop
-same-length c = c .before .before .before .before .before .before .before .before .before .before .before .loop .inv .1 .reads ∙ sym (c .before .before .before .before .before .before .before .before .before .before .before .before .before .before .before .before .pre .reads)
+same-length c = c .before .before .before .before .before .before .before .before .before .before .before .before .loop .inv .stands .input-size ∙ sym (c .before .before .before .before .before .before .before .before .before .before .before .before .before .before .before .before .before .before .pre .0)
 
 same-length-2 : tie.Need-same-length-2 Inv-loop μ-loop
-same-length-2 c = c .before .before .before .before .before .before .last-line .kept .1 .0 ∙ c .before .before .before .before .before .before .before .before .before .before .before .loop .inv .1 .draws ∙ sym (c .before .before .before .before .before .before .before .before .before .before .before .before .before .before .before .before .pre .draws)
+same-length-2 c = c .before .before .before .before .before .before .last-line .kept .1 .0 ∙ c .before .before .before .before .before .before .before .before .before .before .before .before .loop .inv .sound .1 ∙ sym (c .before .before .before .before .before .before .before .before .before .before .before .before .before .before .before .before .before .before .pre .1)
 
 same-length-3 : tie.Need-same-length-3 Inv-loop μ-loop
-same-length-3 c = c .before .before .before .before .before .before .last-line .kept .1 .1 .0 ∙ c .before .before .before .before .before .before .before .before .before .before .before .loop .inv .1 .writes ∙ sym (c .before .before .before .before .before .before .before .before .before .before .before .before .before .before .before .before .pre .writes)
+same-length-3 c = c .before .before .before .before .before .before .last-line .kept .1 .1 .0 ∙ c .before .before .before .before .before .before .before .before .before .before .before .before .loop .inv .stands .out-size ∙ sym (c .before .before .before .before .before .before .before .before .before .before .before .before .before .before .before .before .before .before .pre .2)
 
 returns : tie.Need-returns Inv-loop μ-loop
-returns c = search needs
+returns c =
+    let s = c .before .before .before .before .before .before .before .before .before .before .before .before .before .before .before .before .before .before .args in
+    let l = c .before .before .before .before .before .before .before .before .before .before .before .before .loop in
+    let w = c .before .before .before .before .before .before .last-line in
+    over bytes Sound afterLines (first (s .out .now) (s .memory .now)) afterLast (l .st) (l .input) (l .out, (l .screen, l .memory)) (l .inv) (sym (c .before .before .before .before .before .before .before .before .before .before .before .goes-on .ensures) ∙ c .before .before .before .before .before .before .before .before .before .before .if1 .left)
+    (w .result .st, (w .last .1 .1 .0, (w .result .screen, w .last .1 .0))) (w .ensures .0) (c .empty .result) (c .empty .ensures)
 
 pub run-spec : {M : Type 1} → statement M
 run-spec =
@@ -74,15 +106,17 @@ run-spec =
     (tie.spec
     Inv-loop
     μ-loop
-    new-requires
+    start-requires
+    first-screen-requires
     loop-holds
-    sub-turns
+    goes-on-requires
     answer-some-requires
+    flush-requires
     refill-requires
     loop-less
     loop-again
     last-line-requires
-    write-requires
+    empty-requires
     same-length
     same-length-2
     same-length-3

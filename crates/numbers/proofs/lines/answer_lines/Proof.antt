@@ -1,24 +1,19 @@
--- `numbers::lines::answer_lines` answers a line a turn; what is still to be handled is at each turn what was at the start. Assumes nothing.
-use mathlib.Core.Path.{_≡_, sym, ap, ap₂, _∙_}
+-- `numbers::lines::answer_lines` answers a line a turn, and passes its LF. Assumes nothing.
+use mathlib.Core.Path.{_≡_, sym, _∙_}
 use mathlib.Core.Bool.{true}
-use mathlib.Core.List.{List}
-use Prim.Native.Nat.{ℕ, _+_, _-_, _≤_, _<_}
+use Prim.Native.Nat.{_-_, _<_}
 use native.Mathlib.Omega.{arith}
 use lib.ListN.{length}
 use borrow.Author.Needs.{needs}
 use borrow.Author.Tests.{leb-true, not-true, not-false}
-use Rattle.text.specs.Lines.{lineEnd, handled}
-use Rattle.text.proofs.Parting.{part-end-within}
-use Rattle.text.proofs.Streaming.{line-is, handled-turn, handled-none, handled-full}
-use Rattle.text.proofs.Writing.{wrote-as}
-use Rattle.numbers.specs.Answer.{answer, answered, room}
+use Rattle.streams.specs.Answers.{room}
+use Rattle.streams.proofs.Lines.{Going, starts, end-within, no-line, no-room, goes}
+use Rattle.numbers.specs.Answer.{answer}
 use Rattle.numbers.proofs.lines.answer_lines.Statement.{statement}
 use Rattle.numbers.proofs.lines.answer_lines.Tie as tie
 
 abbrev Inv-loop : tie.InvT-loop
-Inv-loop input from out₀ at next₀ filled₀ out next filled =
-    (next ≤ length input) × (length out ≡ length out₀)
-    × (handled room answered input (length input) next (filled, out) ≡ handled room answered input (length input) from (at, out₀))
+Inv-loop input from out₀ at next₀ filled₀ out next filled = Going answer 72 input from (at, out₀) next filled out
 
 abbrev μ-loop : tie.MeasureT-loop
 μ-loop input from out₀ at next₀ filled₀ out next filled = length input - next
@@ -27,39 +22,36 @@ abbrev μ-loop : tie.MeasureT-loop
 ended : (c : tie.Else1 Inv-loop μ-loop) → c .before .part-end .result < length (c .before .before .before .before .before .args .input .now)
 ended c =
     let l = c .before .before .loop in
-    let s = c .before .before .before .before .before .args .input .now in
-    omega (arith, c .before .part-end .ensures, part-end-within 10 s (l .next) (l .inv .0), c .if1 .left)
+    omega (arith, c .if1 .left, end-within answer 72 (c .before .before .before .before .before .args .input .now) (c .before .before .before .before .before .args .from) (c .before .before .before .before .before .args .at, c .before .before .before .before .before .args .out .now) (l .next) (l .filled) (l .out) (l .inv) (c .before .part-end .result) (c .before .part-end .ensures))
 
 -- the room that is left
-has : (c : tie.Else2 Inv-loop μ-loop) → room (c .before .before .before .before .loop .filled, c .before .before .before .before .loop .out) ≡ true
+has : (c : tie.Else2 Inv-loop μ-loop) → room 72 (c .before .before .before .before .loop .filled, c .before .before .before .before .loop .out) ≡ true
 has c = sym (c .before .has-room .ensures) ∙ not-false _ (c .if2 .left)
 
 loop-holds : tie.Need-loop-holds Inv-loop μ-loop
-loop-holds c = search needs
+loop-holds c = starts answer 72 (c .before .before .args .input .now) (c .before .before .args .from) (c .before .before .args .at, c .before .before .args .out .now) (c .before .before .pre)
 
 part-end-requires : tie.Need-part-end-requires Inv-loop μ-loop
-part-end-requires c κs = search needs
+part-end-requires c κs = c .loop .inv .ahead
 
 same-length : tie.Need-same-length Inv-loop μ-loop
-same-length c = search needs
+same-length c = c .before .before .loop .inv .size
 
 returns : tie.Need-returns Inv-loop μ-loop
 returns c =
     let l = c .before .before .loop in
-    let s = c .before .before .before .before .before .args .input .now in
-    sym (handled-none answered room s (length s) (l .next) (l .filled, l .out) (omega (arith, c .if1 .taken, c .before .part-end .ensures))) ∙ l .inv .2
+    no-line answer 72 (c .before .before .before .before .before .args .input .now) (c .before .before .before .before .before .args .from) (c .before .before .before .before .before .args .at, c .before .before .before .before .before .args .out .now) (l .next) (l .filled) (l .out) (l .inv) (c .before .part-end .result) (c .before .part-end .ensures) (c .if1 .taken)
 
 has-room-requires : tie.Need-has-room-requires Inv-loop μ-loop
 has-room-requires c κs = search needs
 
 same-length-2 : tie.Need-same-length-2 Inv-loop μ-loop
-same-length-2 c = search needs
+same-length-2 c = c .before .before .before .before .loop .inv .size
 
 returns-2 : tie.Need-returns-2 Inv-loop μ-loop
 returns-2 c =
     let l = c .before .before .before .before .loop in
-    let s = c .before .before .before .before .before .before .before .args .input .now in
-    sym (handled-full answered room s (length s) (l .next) (l .filled, l .out) (sym (c .before .has-room .ensures) ∙ not-true _ (c .if2 .taken))) ∙ l .inv .2
+    no-room answer 72 (c .before .before .before .before .before .before .before .args .input .now) (c .before .before .before .before .before .before .before .args .from) (c .before .before .before .before .before .before .before .args .at, c .before .before .before .before .before .before .before .args .out .now) (l .next) (l .filled) (l .out) (l .inv) (c .before .before .before .part-end .result) (c .before .before .before .part-end .ensures) (sym (c .before .has-room .ensures) ∙ not-true _ (c .if2 .taken))
 
 sub-answer-line : tie.Need-sub-answer-line Inv-loop μ-loop
 sub-answer-line c = omega (arith, c .before .before .before .part-end .ensures)
@@ -82,16 +74,8 @@ loop-less c = omega (arith, ended (c .before .before .before .before .before .be
 loop-again : tie.Need-loop-again Inv-loop μ-loop
 loop-again c =
     let l = c .before .before .before .before .before .before .before .before .before .loop in
-    let s = c .before .before .before .before .before .before .before .before .before .before .before .before .args .input .now in
-    let e = c .before .before .before .before .before .before .before .before .part-end .ensures in
-    let inside : lineEnd s (l .next) < length s = omega (arith, ended (c .before .before .before .before .before .before .before), e) in
-    let w = wrote-as (l .out) (l .filled) (ap answer (line-is s (l .next) (c .before .before .before .before .before .before .before .before .part-end .result) e)) (c .before .before .answer-line .ensures) in (
-      omega (arith, ended (c .before .before .before .before .before .before .before)),
-      c .before .before .answer-line .kept .1 .0 ∙ l .inv .1,
-      ap₂ (λ (k : ℕ) (o : ℕ × List ℕ). handled room answered s (length s) k o) (ap (λ (k : ℕ). k + 1) e) (ap₂ (λ (k : ℕ) (o : List ℕ). (k, o)) (w .0) (w .1))
-          ∙ sym (handled-turn answered room s (l .next) (l .filled, l .out) inside (has (c .before .before .before .before .before)))
-          ∙ l .inv .2,
-    )
+    let w = c .before .before .answer-line in
+    goes answer 72 (c .before .before .before .before .before .before .before .before .before .before .before .before .args .input .now) (c .before .before .before .before .before .before .before .before .before .before .before .before .args .from) (c .before .before .before .before .before .before .before .before .before .before .before .before .args .at, c .before .before .before .before .before .before .before .before .before .before .before .before .args .out .now) (l .next) (l .filled) (l .out) (l .inv) (c .before .before .before .before .before .before .before .before .part-end .result) (c .before .before .before .before .before .before .before .before .part-end .ensures) (ended (c .before .before .before .before .before .before .before)) (has (c .before .before .before .before .before)) (w .result) (w .last .1 .0) (w .ensures) (w .kept .1 .0)
 
 pub answer-lines-spec : {M : Type 1} → statement M
 answer-lines-spec =

@@ -1,0 +1,23 @@
+-- What a drawing call answers and leaves, put into a reply, and what answers the needs of a call. Assumes nothing.
+use mathlib.Core.Path.{_≡_, ap}
+use mathlib.Core.List.{List}
+use Prim.Native.Nat.{ℕ}
+use Rattle.framebuffer.specs.declared.Drawn.{Drawn}
+use Rattle.protocol.specs.declared.reply.Reply.{Reply}
+use Rattle.protocol.specs.declared.reply.Reply.the-variants.{Number}
+use Rattle.protocol.proofs.Letters.{choices}
+use Rattle.protocol.proofs.Replies.{readings}
+use Rattle.calls.specs.Draw.{drawnSaid}
+
+pub is-drawn : {d : Drawn} {left : List ℕ} {c : Drawn × List ℕ} → _≡_ {A = Drawn × List ℕ} (d, left) c → _≡_ {A = Reply × List ℕ} (Number (d .number), left) (drawnSaid c)
+is-drawn e = ap drawnSaid e
+
+-- what answers the needs of a call
+pub ruleset calls = (readings, is-drawn)
+
+-- a reply beside bytes that stay
+pub said-beside : {r found : Reply} (b : List ℕ) → r ≡ found → _≡_ {A = Reply × List ℕ} (r, b) (found, b)
+said-beside b e = ap {B = Reply × List ℕ} (λ x. (x, b)) e
+
+-- what answers the needs of the choice between them
+pub ruleset call-words = (choices, said-beside)

@@ -1,0 +1,4 @@
+pub mod Calls
+pub mod Turns
+pub mod Lent
+pub mod Answers

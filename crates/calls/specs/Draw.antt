@@ -1,0 +1,65 @@
+-- What each drawing call is answered and which bytes it leaves, by the definitions of the library. The numbers of the line start at a place.
+use mathlib.Core.Bool.{cond}
+use mathlib.Core.List.{List, [], _∷_}
+use Prim.Native.Nat.{ℕ}
+use Rattle.framebuffer.specs.declared.Drawn.{Drawn}
+use Rattle.framebuffer.specs.declared.Frame.{Frame}
+use Rattle.framebuffer.specs.Drawing.{Drawing, pixelDrawing, fillDrawing, outcome}
+use Rattle.framebuffer.specs.Window.{wholeWindow}
+use Rattle.drawing.specs.Drawing.{lineDrawing, triangleDrawing, outlineDrawing, circleDrawing}
+use Rattle.text.specs.Fields.{nextU32}
+use Rattle.protocol.specs.declared.reply.Reply.{Reply}
+use Rattle.protocol.specs.declared.reply.Reply.the-variants.{Bad, Number}
+use Rattle.protocol.specs.Fields.{isLast, ofOne, ofTwo, nextPoint, nextEnds, nextVertices, nextCircle}
+use Rattle.protocol.specs.Words.{meant}
+use Rattle.questions.specs.Ask.{askReply}
+use Rattle.calls.specs.Words.{pixelWord, fillWord, lineWord, triangleWord, outlineWord, circleWord}
+
+-- what a call answers and leaves, with its answer put into a reply
+abbrev pub drawnSaid : Drawn × List ℕ → Reply × List ℕ
+drawnSaid c = (Number (c .0 .number), c .1)
+
+-- the call on the whole frame, if the line ends there; else `bad line`, and the bytes as they were
+abbrev pub called : List ℕ → ℕ → Frame → Drawing → List ℕ → Reply × List ℕ
+called said next f d b = cond (isLast said next) (drawnSaid (outcome f (wholeWindow f) d b)) (Bad, b)
+
+-- `pixel X Y C`
+unfoldable pub pixelCall : List ℕ → ℕ → Frame → List ℕ → Reply × List ℕ
+pixelCall said at f b = ofTwo (λ p c. called said (c .next) f (pixelDrawing (p .point) (c .value)) b) (nextPoint said at) (λ p. nextU32 said (p .next))
+
+-- `fill C`
+unfoldable pub fillCall : List ℕ → ℕ → Frame → List ℕ → Reply × List ℕ
+fillCall said at f b = ofOne (λ c. called said (c .next) f (fillDrawing (c .value)) b) (nextU32 said at)
+
+-- `line X1 Y1 X2 Y2 C`
+unfoldable pub lineCall : List ℕ → ℕ → Frame → List ℕ → Reply × List ℕ
+lineCall said at f b = ofTwo (λ l c. called said (c .next) f (lineDrawing (l .start) (l .end) (c .value)) b) (nextEnds said at) (λ l. nextU32 said (l .next))
+
+-- `triangle X1 Y1 X2 Y2 X3 Y3 C`
+unfoldable pub triangleCall : List ℕ → ℕ → Frame → List ℕ → Reply × List ℕ
+triangleCall said at f b =
+    ofTwo (λ t c. called said (c .next) f (triangleDrawing (t .v1) (t .v2) (t .v3) (c .value)) b) (nextVertices said at) (λ t. nextU32 said (t .next))
+
+-- `outline X1 Y1 X2 Y2 X3 Y3 C`
+unfoldable pub outlineCall : List ℕ → ℕ → Frame → List ℕ → Reply × List ℕ
+outlineCall said at f b =
+    ofTwo (λ t c. called said (c .next) f (outlineDrawing (t .v1) (t .v2) (t .v3) (c .value)) b) (nextVertices said at) (λ t. nextU32 said (t .next))
+
+-- `circle L T D C`
+unfoldable pub circleCall : List ℕ → ℕ → Frame → List ℕ → Reply × List ℕ
+circleCall said at f b =
+    ofTwo (λ o c. called said (c .next) f (circleDrawing (o .topleft) (o .diameter) (c .value)) b) (nextCircle said at) (λ o. nextU32 said (o .next))
+
+-- ---- a call by its word; a line that starts with another word may be a question, and leaves the bytes as they were
+abbrev pub callTable : List ℕ → ℕ → Frame → List ℕ → List (List ℕ × (Reply × List ℕ))
+callTable said at f b =
+    (pixelWord, pixelCall said at f b)
+    ∷ (fillWord, fillCall said at f b)
+    ∷ (lineWord, lineCall said at f b)
+    ∷ (triangleWord, triangleCall said at f b)
+    ∷ (outlineWord, outlineCall said at f b)
+    ∷ (circleWord, circleCall said at f b)
+    ∷ []
+
+abbrev pub drawCall : List ℕ → List ℕ → ℕ → Frame → List ℕ → Reply × List ℕ
+drawCall word said at f b = meant word (callTable said at f b) (askReply word said at, b)

@@ -1,0 +1,4 @@
+pub mod Words
+pub mod Draw
+pub mod Screen
+pub mod Lines

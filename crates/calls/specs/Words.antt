@@ -1,0 +1,43 @@
+-- The words of the lines on the buffer and its frame.
+use mathlib.Core.List.{List, [], _∷_}
+use Prim.Native.Nat.{ℕ}
+
+-- `frame`
+abbrev pub frameWord : List ℕ
+frameWord = 102 ∷ 114 ∷ 97 ∷ 109 ∷ 101 ∷ []
+
+-- `preset`
+abbrev pub presetWord : List ℕ
+presetWord = 112 ∷ 114 ∷ 101 ∷ 115 ∷ 101 ∷ 116 ∷ []
+
+-- `read`
+abbrev pub readWord : List ℕ
+readWord = 114 ∷ 101 ∷ 97 ∷ 100 ∷ []
+
+-- `dump`
+abbrev pub dumpWord : List ℕ
+dumpWord = 100 ∷ 117 ∷ 109 ∷ 112 ∷ []
+
+-- `pixel`
+abbrev pub pixelWord : List ℕ
+pixelWord = 112 ∷ 105 ∷ 120 ∷ 101 ∷ 108 ∷ []
+
+-- `fill`
+abbrev pub fillWord : List ℕ
+fillWord = 102 ∷ 105 ∷ 108 ∷ 108 ∷ []
+
+-- `line`
+abbrev pub lineWord : List ℕ
+lineWord = 108 ∷ 105 ∷ 110 ∷ 101 ∷ []
+
+-- `triangle`
+abbrev pub triangleWord : List ℕ
+triangleWord = 116 ∷ 114 ∷ 105 ∷ 97 ∷ 110 ∷ 103 ∷ 108 ∷ 101 ∷ []
+
+-- `outline`
+abbrev pub outlineWord : List ℕ
+outlineWord = 111 ∷ 117 ∷ 116 ∷ 108 ∷ 105 ∷ 110 ∷ 101 ∷ []
+
+-- `circle`
+abbrev pub circleWord : List ℕ
+circleWord = 99 ∷ 105 ∷ 114 ∷ 99 ∷ 108 ∷ 101 ∷ []

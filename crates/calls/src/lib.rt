@@ -1,0 +1,11 @@
+// The lines on the buffer and its frame, and answering a line: any that is none of these may be a question.
+mod draw;
+mod lines;
+mod screen;
+
+pub use lines::Answered;
+pub use lines::Progress;
+pub use lines::answer_line;
+pub use lines::answer_lines;
+pub use screen::Screen;
+pub use screen::first_screen;

@@ -1,0 +1,4 @@
+pub mod Letters
+pub mod Replies
+pub mod Writes
+pub mod Hexadecimal

@@ -1,0 +1,19 @@
+-- `protocol::fields::next_ends` reads two places, one behind the other. Assumes nothing.
+use borrow.Author.Needs.{needs}
+use Rattle.protocol.specs.Fields.{nextEnds}
+use Rattle.protocol.proofs.Replies.{two-read}
+use Rattle.protocol.proofs.fields.next_ends.Statement.{statement}
+use Rattle.protocol.proofs.fields.next_ends.Tie as tie
+
+next-point-requires : tie.Need-next-point-requires
+next-point-requires c κs = search needs
+
+next-point-requires-2 : tie.Need-next-point-requires-2
+next-point-requires-2 c κs = search needs
+
+returns : tie.Need-returns
+unfolding nextEnds
+returns c = search two-read
+
+pub next-ends-spec : {M : Type 1} → statement M
+next-ends-spec = tie.close (tie.spec next-point-requires next-point-requires-2 returns)

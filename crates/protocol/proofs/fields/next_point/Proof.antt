@@ -1,0 +1,20 @@
+-- `protocol::fields::next_point` reads two coordinates, one behind the other. Assumes nothing.
+use borrow.Author.Needs.{needs}
+use Rattle.whole.proofs.Machine.{field-back}
+use Rattle.protocol.specs.Fields.{nextPoint}
+use Rattle.protocol.proofs.Replies.{two-read}
+use Rattle.protocol.proofs.fields.next_point.Statement.{statement}
+use Rattle.protocol.proofs.fields.next_point.Tie as tie
+
+next-i32-requires : tie.Need-next-i32-requires
+next-i32-requires c κs = search needs
+
+next-i32-requires-2 : tie.Need-next-i32-requires-2
+next-i32-requires-2 c κs = search needs
+
+returns : tie.Need-returns
+unfolding nextPoint
+returns c = search (two-read, field-back)
+
+pub next-point-spec : {M : Type 1} → statement M
+next-point-spec = tie.close (tie.spec next-i32-requires next-i32-requires-2 returns)

@@ -1,0 +1,42 @@
+-- The library's answers to questions, put into a reply, and what answers the needs of a question. Assumes nothing.
+use mathlib.Core.Path.{_≡_, ap, _∙_}
+use lib.IntN.{ℤ}
+use Rattle.whole.proofs.Machine.{field-back}
+use Rattle.geometry.specs.declared.Span.{Span}
+use Rattle.geometry.specs.declared.Verdict.{Verdict}
+use Rattle.line.specs.declared.Length.{Length}
+use Rattle.line.specs.declared.Step.{Step}
+use Rattle.triangle.specs.declared.RowRange.{RowRange}
+use Rattle.protocol.specs.declared.fields.NextVertices.{NextVertices}
+use Rattle.protocol.specs.declared.fields.NextCircle.{NextCircle}
+use Rattle.protocol.specs.declared.reply.Reply.{Reply}
+use Rattle.protocol.specs.declared.reply.Reply.the-variants.{One, Two}
+use Rattle.protocol.specs.declared.reply.Value.the-variants.{Natural, Whole}
+use Rattle.protocol.specs.Reply.{verdictReply}
+use Rattle.protocol.proofs.Replies.{readings}
+use Rattle.questions.specs.Ask.{lengthSaid, stepSaid, spanSaid, rowsSaid, spanOf, discspanOf}
+
+pub length-said : {a found : Length} → a ≡ found → One (a .number) (Natural (a .points)) ≡ lengthSaid found
+length-said e = ap lengthSaid e
+
+pub step-said : {a found : Step} {x y : ℤ} → a ≡ found → x ≡ a .point .0 → y ≡ a .point .1 → Two (a .number) (Whole x) (Whole y) ≡ stepSaid found
+step-said e p q = rw (p, q) (ap stepSaid e)
+
+pub rows-said : {a found : RowRange} {y : ℤ} → a ≡ found → y ≡ a .first → Two (a .number) (Whole y) (Natural (a .count)) ≡ rowsSaid found
+rows-said e p = rw p (ap rowsSaid e)
+
+pub verdict-said : {v found : Verdict} {r : Reply} → r ≡ verdictReply v → v ≡ found → r ≡ verdictReply found
+verdict-said e q = e ∙ ap verdictReply q
+
+pub span-said : {a found : Span} {x z : ℤ} → a ≡ found → x ≡ a .start → z ≡ a .end → Two (a .number) (Whole x) (Whole z) ≡ spanSaid found
+span-said e p q = rw (p, q) (ap spanSaid e)
+
+-- at a row that the code reads back
+pub row-span : (t : NextVertices) {a : Span} {row y : ℤ} → a ≡ spanOf t row → row ≡ y → a ≡ spanOf t y
+row-span t e h = e ∙ ap (spanOf t) h
+
+pub row-discspan : (c : NextCircle) {a : Span} {row y : ℤ} → a ≡ discspanOf c row → row ≡ y → a ≡ discspanOf c y
+row-discspan c e h = e ∙ ap (discspanOf c) h
+
+-- what answers the needs of a question
+pub ruleset questions = (readings, length-said, step-said, rows-said, verdict-said, span-said, row-span, row-discspan, field-back)

@@ -1,0 +1,108 @@
+-- What each question is answered, by the definitions of the library. The numbers of the line start at a place.
+use mathlib.Core.List.{List, [], _∷_}
+use Prim.Native.Nat.{ℕ}
+use lib.IntN.{ℤ}
+use Rattle.refusals.specs.First.{first}
+use Rattle.geometry.specs.declared.Span.{Span}
+use Rattle.geometry.specs.Answer.{verdict, span}
+use Rattle.line.specs.declared.Length.{Length}
+use Rattle.line.specs.declared.Step.{Step}
+use Rattle.line.specs.Line.{points, pointAt, hasPoint}
+use Rattle.line.specs.Answer.{endTests, stepTests, lengthAnswer, stepAnswer}
+use Rattle.triangle.specs.declared.RowRange.{RowRange}
+use Rattle.triangle.specs.Answer.{vertexTests, rowsAnswer}
+use Rattle.triangle.specs.Triangle as triangle
+use Rattle.triangle.specs.Row.{rowSpan, firstRow, rowCount}
+use Rattle.circle.specs.Refusal.{circleTests}
+use Rattle.circle.specs.Circle as circle
+use Rattle.text.specs.Fields.{nextU32, nextI32}
+use Rattle.protocol.specs.declared.fields.NextVertices.{NextVertices}
+use Rattle.protocol.specs.declared.fields.NextCircle.{NextCircle}
+use Rattle.protocol.specs.declared.reply.Reply.{Reply}
+use Rattle.protocol.specs.declared.reply.Reply.the-variants.{Bad, One, Two}
+use Rattle.protocol.specs.declared.reply.Value.the-variants.{Natural, Whole}
+use Rattle.protocol.specs.Fields.{ofOne, ofTwo, nextPoint, nextEnds, nextVertices, nextCircle}
+use Rattle.protocol.specs.Reply.{ifLast, verdictReply}
+use Rattle.protocol.specs.Words.{meant}
+use Rattle.questions.specs.Words.{lengthWord, pointWord, onlineWord, insideWord, spanWord, rowsWord, discWord, discspanWord}
+
+-- ---- answers, put into a reply
+abbrev pub lengthSaid : Length → Reply
+lengthSaid a = One (a .number) (Natural (a .points))
+
+abbrev pub stepSaid : Step → Reply
+stepSaid a = Two (a .number) (Whole (a .point .0)) (Whole (a .point .1))
+
+abbrev pub spanSaid : Span → Reply
+spanSaid a = Two (a .number) (Whole (a .start)) (Whole (a .end))
+
+abbrev pub rowsSaid : RowRange → Reply
+rowsSaid a = Two (a .number) (Whole (a .first)) (Natural (a .count))
+
+-- ---- of a line
+-- `length X1 Y1 X2 Y2`: number, points of the line
+unfoldable pub lengthReply : List ℕ → ℕ → Reply
+lengthReply said at = ofOne (λ l. ifLast said (l .next) (lengthSaid (lengthAnswer (first (endTests (l .start) (l .end))) (points (l .start) (l .end))))) (nextEnds said at)
+
+-- `point X1 Y1 X2 Y2 K`: number, x, y
+unfoldable pub pointReply : List ℕ → ℕ → Reply
+pointReply said at =
+    ofTwo (λ l k. ifLast said (k .next) (stepSaid (stepAnswer (first (stepTests (l .start) (l .end) (k .value))) (pointAt (l .start) (l .end) (k .value)))))
+    (nextEnds said at) (λ l. nextU32 said (l .next))
+
+-- `online X1 Y1 X2 Y2 X Y`: number, whether the pixel is a point of the line
+unfoldable pub onlineReply : List ℕ → ℕ → Reply
+onlineReply said at =
+    ofTwo (λ l p. ifLast said (p .next) (verdictReply (verdict (first (endTests (l .start) (l .end))) (hasPoint (l .start) (l .end) (p .point)))))
+    (nextEnds said at) (λ l. nextPoint said (l .next))
+
+-- ---- of a triangle
+-- `inside X1 Y1 X2 Y2 X3 Y3 X Y`: number, whether the triangle contains the pixel
+unfoldable pub insideReply : List ℕ → ℕ → Reply
+insideReply said at =
+    ofTwo (λ t p. ifLast said (p .next) (verdictReply (verdict (first (vertexTests (t .v1) (t .v2) (t .v3))) (triangle.contained (t .v1) (t .v2) (t .v3) (p .point)))))
+    (nextVertices said at) (λ t. nextPoint said (t .next))
+
+-- `span X1 Y1 X2 Y2 X3 Y3 Y`: number, first x, one past the last
+abbrev pub spanOf : NextVertices → ℤ → Span
+spanOf t y = span (first (vertexTests (t .v1) (t .v2) (t .v3))) (rowSpan (t .v1) (t .v2) (t .v3) y .0) (rowSpan (t .v1) (t .v2) (t .v3) y .1)
+
+unfoldable pub spanReply : List ℕ → ℕ → Reply
+spanReply said at = ofTwo (λ t y. ifLast said (y .next) (spanSaid (spanOf t (y .value)))) (nextVertices said at) (λ t. nextI32 said (t .next))
+
+-- `rows X1 Y1 X2 Y2 X3 Y3`: number, first row, number of rows
+abbrev pub rowsOf : NextVertices → RowRange
+rowsOf t = rowsAnswer (first (vertexTests (t .v1) (t .v2) (t .v3))) (firstRow (t .v1) (t .v2) (t .v3)) (rowCount (t .v1) (t .v2) (t .v3))
+
+unfoldable pub rowsReply : List ℕ → ℕ → Reply
+rowsReply said at = ofOne (λ t. ifLast said (t .next) (rowsSaid (rowsOf t))) (nextVertices said at)
+
+-- ---- of a circle
+-- `disc L T D X Y`: number, whether the circle contains the pixel
+unfoldable pub discReply : List ℕ → ℕ → Reply
+discReply said at =
+    ofTwo (λ c p. ifLast said (p .next) (verdictReply (verdict (first (circleTests (c .topleft) (c .diameter))) (circle.contained (c .topleft) (c .diameter) (p .point)))))
+    (nextCircle said at) (λ c. nextPoint said (c .next))
+
+-- `discspan L T D Y`: number, first x, one past the last
+abbrev pub discspanOf : NextCircle → ℤ → Span
+discspanOf c y = span (first (circleTests (c .topleft) (c .diameter))) (circle.spanStart (c .topleft) (c .diameter) y) (circle.spanEnd (c .topleft) (c .diameter) y)
+
+unfoldable pub discspanReply : List ℕ → ℕ → Reply
+discspanReply said at = ofTwo (λ c y. ifLast said (y .next) (spanSaid (discspanOf c (y .value)))) (nextCircle said at) (λ c. nextI32 said (c .next))
+
+-- ---- a question by its word; another word makes a bad line
+abbrev pub questionTable : List ℕ → ℕ → List (List ℕ × Reply)
+questionTable said at =
+    (lengthWord, lengthReply said at)
+    ∷ (pointWord, pointReply said at)
+    ∷ (onlineWord, onlineReply said at)
+    ∷ (insideWord, insideReply said at)
+    ∷ (spanWord, spanReply said at)
+    ∷ (rowsWord, rowsReply said at)
+    ∷ (discWord, discReply said at)
+    ∷ (discspanWord, discspanReply said at)
+    ∷ []
+
+abbrev pub askReply : List ℕ → List ℕ → ℕ → Reply
+askReply word said at = meant word (questionTable said at) Bad

@@ -1,0 +1,136 @@
+// The questions on figures, each asked of the library. The numbers of a line start at `at`.
+ghost use mathlib.Core.Path.{_≡_};
+ghost use Rattle.questions.specs.Ask.{lengthReply, pointReply, onlineReply, insideReply, spanReply, rowsReply, discReply, discspanReply, askReply};
+use protocol::Reply;
+use protocol::Value;
+use protocol::ends_at;
+use protocol::next_circle;
+use protocol::next_ends;
+use protocol::next_point;
+use protocol::next_vertices;
+use protocol::place_in;
+use protocol::verdict_reply;
+
+fn length(said: &[u8], at: usize) -> Reply
+    ensures { λ r. ⌜ r ≡ lengthReply (now (said .entry)) at ⌝ }
+{
+    let ends = next_ends(said, at);
+    if !ends_at(said, ends.next) {
+        return Reply::Bad;
+    }
+    let found = line::major_length(ends.start, ends.end);
+    Reply::One(found.number, Value::Natural(found.points))
+}
+
+fn point(said: &[u8], at: usize) -> Reply
+    ensures { λ r. ⌜ r ≡ pointReply (now (said .entry)) at ⌝ }
+{
+    let ends = next_ends(said, at);
+    let step = text::next_u32(said, ends.next);
+    if !ends_at(said, step.next) {
+        return Reply::Bad;
+    }
+    let found = line::point(ends.start, ends.end, step.value);
+    let p = found.point;
+    Reply::Two(found.number, Value::Whole(p.0), Value::Whole(p.1))
+}
+
+fn online(said: &[u8], at: usize) -> Reply
+    ensures { λ r. ⌜ r ≡ onlineReply (now (said .entry)) at ⌝ }
+{
+    let ends = next_ends(said, at);
+    let asked = next_point(said, ends.next);
+    if !ends_at(said, asked.next) {
+        return Reply::Bad;
+    }
+    verdict_reply(line::has_point(ends.start, ends.end, asked.point))
+}
+
+fn inside(said: &[u8], at: usize) -> Reply
+    ensures { λ r. ⌜ r ≡ insideReply (now (said .entry)) at ⌝ }
+{
+    let t = next_vertices(said, at);
+    let asked = next_point(said, t.next);
+    if !ends_at(said, asked.next) {
+        return Reply::Bad;
+    }
+    verdict_reply(triangle::contains(t.v1, t.v2, t.v3, asked.point))
+}
+
+fn span(said: &[u8], at: usize) -> Reply
+    ensures { λ r. ⌜ r ≡ spanReply (now (said .entry)) at ⌝ }
+{
+    let t = next_vertices(said, at);
+    let row = text::next_i32(said, t.next);
+    if !ends_at(said, row.next) {
+        return Reply::Bad;
+    }
+    let found = triangle::row_span(t.v1, t.v2, t.v3, row.value);
+    Reply::Two(
+        found.number,
+        Value::Whole(found.start),
+        Value::Whole(found.end),
+    )
+}
+
+fn rows(said: &[u8], at: usize) -> Reply
+    ensures { λ r. ⌜ r ≡ rowsReply (now (said .entry)) at ⌝ }
+{
+    let t = next_vertices(said, at);
+    if !ends_at(said, t.next) {
+        return Reply::Bad;
+    }
+    let found = triangle::rows(t.v1, t.v2, t.v3);
+    Reply::Two(
+        found.number,
+        Value::Whole(found.first),
+        Value::Natural(found.count),
+    )
+}
+
+fn disc(said: &[u8], at: usize) -> Reply
+    ensures { λ r. ⌜ r ≡ discReply (now (said .entry)) at ⌝ }
+{
+    let round = next_circle(said, at);
+    let asked = next_point(said, round.next);
+    if !ends_at(said, asked.next) {
+        return Reply::Bad;
+    }
+    verdict_reply(circle::contains(round.topleft, round.diameter, asked.point))
+}
+
+fn discspan(said: &[u8], at: usize) -> Reply
+    ensures { λ r. ⌜ r ≡ discspanReply (now (said .entry)) at ⌝ }
+{
+    let round = next_circle(said, at);
+    let row = text::next_i32(said, round.next);
+    if !ends_at(said, row.next) {
+        return Reply::Bad;
+    }
+    let found = circle::row_span(round.topleft, round.diameter, row.value);
+    Reply::Two(
+        found.number,
+        Value::Whole(found.start),
+        Value::Whole(found.end),
+    )
+}
+
+// The answer to the question that starts with the word.
+pub fn ask(word: &[u8], said: &[u8], at: usize) -> Reply
+    ensures { λ r. ⌜ r ≡ askReply (now (word .entry)) (now (said .entry)) at ⌝ }
+{
+    match place_in(
+        b"length\tpoint\tonline\tinside\tspan\trows\tdisc\tdiscspan",
+        word,
+    ) {
+        0 => length(said, at),
+        1 => point(said, at),
+        2 => online(said, at),
+        3 => inside(said, at),
+        4 => span(said, at),
+        5 => rows(said, at),
+        6 => disc(said, at),
+        7 => discspan(said, at),
+        _ => Reply::Bad,
+    }
+}

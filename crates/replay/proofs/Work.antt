@@ -1,0 +1,51 @@
+-- After the lines that are there the program stands within its buffers, and lends no more than there is. Assumes nothing.
+use mathlib.Core.Path.{_≡_, sym, ap, subst, _∙_}
+use mathlib.Core.List.{List}
+use Prim.Native.Nat.{ℕ, _≤_}
+use native.Mathlib.Omega.{arith}
+use lib.ListN.{length, take}
+use Rattle.text.proofs.Streaming.{handled-within}
+use Rattle.streams.specs.declared.State.{State}
+use Rattle.streams.specs.State.{Within, Standing, started}
+use Rattle.streams.proofs.Answers.{there-is}
+use Rattle.streams.proofs.Turns.{Kept, Going, going-first}
+use Rattle.calls.specs.declared.screen.Screen.{Screen}
+use Rattle.calls.specs.Lines.{Session, answered, room}
+use Rattle.calls.specs.Screen.{start}
+use Rattle.calls.proofs.Lent.{lines-lent}
+use Rattle.replay.specs.Session.{Work, Sound, first, afterLines}
+
+abbrev pub bytes : Work → List ℕ
+bytes o = o .0
+
+-- the program came turn by turn to where it stands
+abbrev pub Runs : List ℕ → List ℕ → State → List ℕ → Work → Type 0
+Runs out memory st input o = Going bytes Sound afterLines (first out memory) st input o
+
+pub begins : (input memory out : List ℕ) (st : State) (s : Screen) → st ≡ started → s ≡ start
+    → length input ≡ 65536 → length memory ≡ 65536 → length out ≡ 65536 → Runs out memory st input (out, (s, memory))
+begins input memory out st s e q i m o =
+    subst (λ (x : Screen). Runs out memory st input (out, (x, memory))) (sym q) (going-first bytes Sound afterLines (first out memory) st input e i o (omega arith, m))
+
+module _ (input : List ℕ) (st : State) (o : Work) (s : Standing st input (o .0)) (h : Sound o) where
+  lines-within : Within (afterLines input st o .0)
+  lines-within =
+      let p : List ℕ = take (st .end) input in
+      let x : Session = ((st .at, o .0), o .1) in
+      record {
+        ahead = omega (arith, there-is input st (o .0) s, handled-within answered room p (length p) (st .next) x (omega (arith, there-is input st (o .0) s, s .within .ahead)));
+        most = s .within .most;
+      }
+
+  lines-sound : afterLines input st o .1 .1 .0 .lent ≤ 65536
+  lines-sound = lines-lent (take (st .end) input) (length (take (st .end) input)) (st .next) ((st .at, o .0), o .1) (h .0)
+
+  pub lines-keep : (p : State × Work) → p ≡ afterLines input st o → p .0 .at ≤ 65536 → length (p .1 .0) ≡ length (o .0) → length (p .1 .1 .1) ≡ length (o .1 .1) → Kept bytes Sound st p
+  lines-keep p e few b m =
+      record {
+        within = subst (λ (x : State × Work). Within (x .0)) (sym e) lines-within;
+        filled = omega (arith, b, s .out-size);
+        size = b ∙ s .out-size;
+        turns = ap (λ (x : State × Work). x .0 .turns) e;
+        sound = (subst (λ (x : State × Work). x .1 .1 .0 .lent ≤ 65536) (sym e) lines-sound, m ∙ h .1);
+      }

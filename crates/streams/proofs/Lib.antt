@@ -1,0 +1,5 @@
+pub mod Refilling
+pub mod Answers
+pub mod Run
+pub mod Lines
+pub mod Turns

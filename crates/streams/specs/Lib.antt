@@ -1,0 +1,4 @@
+pub mod State
+pub mod Refill
+pub mod Answers
+pub mod Run

@@ -6,6 +6,7 @@ use lib.Dec.{leb}
 use lib.ListN.{length, take}
 use lib.Seq.{sets}
 use Rattle.text.specs.Fields.{until}
+use Rattle.text.specs.Lines.{handled}
 use Rattle.calls.specs.declared.screen.Screen.{Screen}
 use Rattle.calls.specs.declared.screen.Turn.{Turn}
 use Rattle.protocol.specs.Dump.{dumpLine}
@@ -46,3 +47,7 @@ answered s said = ((s .0 .0 + length (answer said (s .1) .0), sets (s .0 .1) (s 
 -- the longest answer has two digits for each of 4,096 bytes, and LF
 abbrev pub room : Session → Bool
 room s = leb (s .0 .0 + 8193) (length (s .0 .1))
+
+-- after the lines of an input that LF ends, from a place on, as long as there is room: the next place, and what they left
+abbrev pub afterAll : List ℕ → ℕ → Session → ℕ × Session
+afterAll input from s = handled room answered input (length input) from s

@@ -2,8 +2,7 @@
 ghost use mathlib.Core.Path.{_≡_};
 ghost use Prim.Native.Nat.{_+_, _≤_};
 ghost use lib.ListN.{length};
-ghost use Rattle.text.specs.Lines.{handled};
-ghost use Rattle.calls.specs.Lines.{answered, room};
+ghost use Rattle.calls.specs.Lines.{answered, afterAll};
 use crate::screen::Screen;
 use crate::screen::respond;
 use protocol::dump;
@@ -33,7 +32,8 @@ pub fn answer_line(
     at: usize,
 ) -> Answered
     requires { ⌜ (screen .lent ≤ length (now memory)) × (at + 8193 ≤ length (now out)) ⌝ }
-    ensures { λ r. ⌜ (((r .at, now (out .exit)), (r .screen, now (memory .exit))) ≡ answered ((at, now (out .entry)), (screen, now (memory .entry))) (now (said .entry))) × (r .at ≤ at + 8193) ⌝ }
+    ensures { λ r. ⌜ (((r .at, now (out .exit)), (r .screen, now (memory .exit))) ≡ answered ((at, now (out .entry)), (screen, now (memory .entry))) (now (said .entry)))
+        × (r .at ≤ at + 8193) ⌝ }
 {
     if said.len() > 128 {
         let filled = write_bad(out, at);
@@ -69,7 +69,8 @@ pub fn answer_lines(
     at: usize,
 ) -> Progress
     requires { ⌜ (from ≤ length (now input)) × (screen .lent ≤ 65536) × (length (now memory) ≡ 65536) × (at ≤ length (now out)) ⌝ }
-    ensures { λ r. ⌜ ((r .next, ((r .at, now (out .exit)), (r .screen, now (memory .exit)))) ≡ handled room answered (now (input .entry)) (length (now (input .entry))) from ((at, now (out .entry)), (screen, now (memory .entry)))) × (r .at ≤ length (now (out .entry))) ⌝ }
+    ensures { λ r. ⌜ ((r .next, ((r .at, now (out .exit)), (r .screen, now (memory .exit))))
+        ≡ afterAll (now (input .entry)) from ((at, now (out .entry)), (screen, now (memory .entry)))) × (r .at ≤ length (now (out .entry))) ⌝ }
 {
     let mut next = from;
     let mut filled = at;

@@ -37,7 +37,8 @@ fn write_hex(out: &mut [u8], at: usize, bytes: &[u8]) -> usize
 // Inside the library: the line that `dump` is answered, of at most 8,193 bytes.
 pub fn dump(said: &[u8], at: usize, memory: &[u8], out: &mut [u8], to: usize) -> usize
     requires { ⌜ to + 8193 ≤ length (now out) ⌝ }
-    ensures { λ r. ⌜ (r ≡ to + length (dumpLine (now (said .entry)) at (now (memory .entry)))) × (now (out .exit) ≡ sets (now (out .entry)) to (dumpLine (now (said .entry)) at (now (memory .entry)))) × (r ≤ to + 8193) ⌝ }
+    ensures { λ r. ⌜ (r ≡ to + length (dumpLine (now (said .entry)) at (now (memory .entry))))
+        × (now (out .exit) ≡ sets (now (out .entry)) to (dumpLine (now (said .entry)) at (now (memory .entry)))) × (r ≤ to + 8193) ⌝ }
 {
     let from = text::next_u32(said, at);
     let count = text::next_u32(said, from.next);

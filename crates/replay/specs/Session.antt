@@ -4,10 +4,10 @@ use mathlib.Core.Bool.{cond}
 use mathlib.Core.List.{List, [], _++_}
 use Prim.Native.Nat.{ℕ, _-_, _≤_}
 use lib.ListN.{length, take, drop}
-use Rattle.text.specs.Lines.{over, handled}
+use Rattle.text.specs.Lines.{over}
 use Rattle.streams.specs.declared.State.{State}
 use Rattle.streams.specs.State.{standsAt, lastIs}
-use Rattle.calls.specs.Lines.{Left, Session, answer, answered, room}
+use Rattle.calls.specs.Lines.{Left, Session, answer, answered, afterAll}
 use Rattle.calls.specs.Screen.{start}
 
 -- the answers to the lines, from the first screen on
@@ -31,7 +31,7 @@ Sound o = (o .1 .0 .lent ≤ 65536) × (length (o .1 .1) ≡ 65536)
 -- after the lines that LF ends and that there was room for
 abbrev pub afterLines : List ℕ → State → Work → State × Work
 afterLines input st o =
-    let h : ℕ × Session = handled room answered (take (st .end) input) (length (take (st .end) input)) (st .next) ((st .at, o .0), o .1) in
+    let h : ℕ × Session = afterAll (take (st .end) input) (st .next) ((st .at, o .0), o .1) in
     (standsAt st (h .0) (h .1 .0 .0), (h .1 .0 .1, h .1 .1))
 
 -- after a last line, which lacks its LF

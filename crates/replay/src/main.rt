@@ -24,7 +24,8 @@ fn answer_some(
     screen: Screen,
 ) -> Reached
     requires { ⌜ Standing st (now input) (now out) × Sound (now out, (screen, now memory)) ⌝ }
-    ensures { λ r. ⌜ ((r .st, (now (out .exit), (r .screen, now (memory .exit)))) ≡ afterLines (now (input .entry)) st (now (out .entry), (screen, now (memory .entry)))) × (r .st .at ≤ 65536) ⌝ }
+    ensures { λ r. ⌜ ((r .st, (now (out .exit), (r .screen, now (memory .exit)))) ≡ afterLines (now (input .entry)) st (now (out .entry), (screen, now (memory .entry))))
+        × (r .st .at ≤ 65536) ⌝ }
 {
     let end = st.end;
     let done = calls::answer_lines(&input[..end], st.next, memory, screen, out, st.at);
@@ -38,7 +39,8 @@ fn answer_some(
 // Answers a last line that lacks its LF.
 fn last_line(input: &[u8], memory: &mut [u8], out: &mut [u8], st: State, screen: Screen) -> Reached
     requires { ⌜ Standing st (now input) (now out) × Sound (now out, (screen, now memory)) ⌝ }
-    ensures { λ r. ⌜ ((r .st, (now (out .exit), (r .screen, now (memory .exit)))) ≡ afterLast (now (input .entry)) st (now (out .entry), (screen, now (memory .entry)))) × (r .st .at ≤ 65536) ⌝ }
+    ensures { λ r. ⌜ ((r .st, (now (out .exit), (r .screen, now (memory .exit)))) ≡ afterLast (now (input .entry)) st (now (out .entry), (screen, now (memory .entry))))
+        × (r .st .at ≤ 65536) ⌝ }
 {
     if !streams::has_last(st) {
         return Reached { st, screen };

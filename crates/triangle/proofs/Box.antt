@@ -22,7 +22,7 @@ use Rattle.triangle.specs.declared.Sorted.{Sorted}
 use Rattle.triangle.specs.Order.{sorted}
 use Rattle.triangle.specs.Triangle.{areaDoubled, isFlat, contained}
 use Rattle.triangle.specs.EdgePoint.{EdgePoint}
-use Rattle.triangle.specs.Box.{isBeyond, isOutside}
+use Rattle.triangle.specs.Box.{isBeyond, outsideBox}
 use Rattle.triangle.proofs.Enclosed.{InRow}
 use Rattle.triangle.proofs.Edge.{edge-left, edge-right, edge-top, edge-bottom}
 use Rattle.triangle.proofs.Order.{All, sorted-all}
@@ -105,7 +105,7 @@ le-last {x} {y} h = nat-le (omega (arith, lt-nat h, sum-nat x (x -ℤ pos 1) 1 (
     back : (x : ℤ) → x ≡ (x -ℤ pos 1) +ℤ pos 1
     back x = rw (as-mk x) (simp mks (mk-eq _ _ _ _ (omega arith)))
 
-pub outside-not : (v1 v2 v3 p : Point) → isOutside v1 v2 v3 p ≡ true → contained v1 v2 v3 p ≡ false
+pub outside-not : (v1 v2 v3 p : Point) → outsideBox v1 v2 v3 p ≡ true → contained v1 v2 v3 p ≡ false
 outside-not v1 v2 v3 p h =
     fails (contained v1 v2 v3 p)
     (λ c.
@@ -131,7 +131,7 @@ not-beyond x a b c h ha hb hc =
       high = le-unless (λ k. n (inr (le-lt-lt (ha .high) k, (le-lt-lt (hb .high) k, le-lt-lt (hc .high) k))));
     }
 
-pub not-outside : (v1 v2 v3 p : Point) → isOutside v1 v2 v3 p ≡ false → Bounded v1 → Bounded v2 → Bounded v3 → Bounded p
+pub not-outside : (v1 v2 v3 p : Point) → outsideBox v1 v2 v3 p ≡ false → Bounded v1 → Bounded v2 → Bounded v3 → Bounded p
 not-outside v1 v2 v3 p h h1 h2 h3 =
     let n = or-false (isBeyond (p .0) (v1 .0) (v2 .0) (v3 .0)) (isBeyond (p .1) (v1 .1) (v2 .1) (v3 .1)) h in
     record { x = not-beyond (p .0) (v1 .0) (v2 .0) (v3 .0) (n .0) (h1 .x) (h2 .x) (h3 .x); y = not-beyond (p .1) (v1 .1) (v2 .1) (v3 .1) (n .1) (h1 .y) (h2 .y) (h3 .y) }

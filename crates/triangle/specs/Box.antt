@@ -9,5 +9,5 @@ use Rattle.geometry.specs.declared.Point.{Point}
 unfoldable pub isBeyond : ℤ → ℤ → ℤ → ℤ → Bool
 isBeyond x a b c = (ltZ x a && (ltZ x b && ltZ x c)) || (ltZ a x && (ltZ b x && ltZ c x))
 
-abbrev pub isOutside : Point → Point → Point → Point → Bool
-isOutside v1 v2 v3 p = isBeyond (p .0) (v1 .0) (v2 .0) (v3 .0) || isBeyond (p .1) (v1 .1) (v2 .1) (v3 .1)
+abbrev pub outsideBox : Point → Point → Point → Point → Bool
+outsideBox v1 v2 v3 p = isBeyond (p .0) (v1 .0) (v2 .0) (v3 .0) || isBeyond (p .1) (v1 .1) (v2 .1) (v3 .1)

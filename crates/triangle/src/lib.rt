@@ -12,7 +12,7 @@ ghost use Rattle.triangle.specs.Order.{placed, sorted, Down};
 ghost use Rattle.triangle.specs.Triangle.{areaDoubled, noneBelow, noneAbove, onEdge, isFlat, contained};
 ghost use Rattle.triangle.specs.Offsets.{reach, reachFrom, firstOffset, lastOffset};
 ghost use Rattle.triangle.specs.Row.{extended, hull, lineColumns, edgeColumns, rowSpan, firstRow, rowCount};
-ghost use Rattle.triangle.specs.Box.{isBeyond, isOutside};
+ghost use Rattle.triangle.specs.Box.{isBeyond, outsideBox};
 ghost use Rattle.triangle.specs.Answer.{vertexTests, rowsAnswer};
 use geometry::Point;
 use geometry::Span;
@@ -123,7 +123,7 @@ fn beyond(x: i32, a: i32, b: i32, c: i32) -> bool
 
 // Whether p lies outside the bounding box of the vertices.
 fn outside(v1: Point, v2: Point, v3: Point, p: Point) -> bool
-    ensures { λ r. ⌜ r ≡ isOutside v1 v2 v3 p ⌝ }
+    ensures { λ r. ⌜ r ≡ outsideBox v1 v2 v3 p ⌝ }
 {
     beyond(p.0, v1.0, v2.0, v3.0) || beyond(p.1, v1.1, v2.1, v3.1)
 }

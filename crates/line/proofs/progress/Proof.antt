@@ -1,5 +1,5 @@
 -- `line::progress` is the difference, turned round where the way leads down. Assumes nothing.
-use mathlib.Core.Path.{_≡_, sym, ap, _∙_}
+use mathlib.Core.Path.{_≡_, ap, _∙_}
 use mathlib.Core.Bool.{Bool, true, false, cond}
 use Prim.Native.Nat.{ℕ, suc, _*_}
 use native.Mathlib.Omega.{arith}
@@ -7,7 +7,8 @@ use lib.IntN.{ℤ, pos, negsuc, negℤ, _-ℤ_, _*ℤ_}
 use lib.Signed.{leZ}
 use mir.Syntax.{w32, w64}
 use mir.Val.{toZ, ofZ}
-use Rattle.whole.proofs.Machine.{Has, wide, minus, minus-of, fits, back, le-test}
+use Rattle.whole.proofs.Machine.{Has, wide, minus, minus-of, fits, back}
+use Rattle.geometry.proofs.Extreme.{chosen}
 use Rattle.line.specs.Line.{toward}
 use Rattle.line.proofs.progress.Statement.{statement}
 use Rattle.line.proofs.progress.Tie as tie
@@ -31,7 +32,7 @@ module _ (s : tie.Start) where
       → cond t (s .args .p -ℤ s .args .a) (negℤ (s .args .p -ℤ s .args .a)) ≡ toward (s .args .a) (s .args .b) *ℤ (s .args .p -ℤ s .args .a)
   by t e =
       turned t (s .args .p -ℤ s .args .a)
-      ∙ ap (λ (u : Bool). cond u (pos 1) (negsuc 0) *ℤ (s .args .p -ℤ s .args .a)) (sym e ∙ le-test (s .fits .a) (s .fits .b))
+      ∙ ap (λ (z : ℤ). z *ℤ (s .args .p -ℤ s .args .a)) (chosen (pos 1) (negsuc 0) (s .fits .a) (s .fits .b) e)
 
 cast-d : tie.Need-cast-d
 cast-d c = fits (wide (c .fits .p))

@@ -30,11 +30,11 @@ use Rattle.triangle.proofs.Spans.{Spans}
 use Rattle.triangle.proofs.Triangle.{p1, p2, p3, flat, contained-decides, row-spans, last-row}
 use Rattle.triangle.proofs.Box.{box-left, box-right}
 use Rattle.text.specs.declared.Vertices.{Vertices}
-use Rattle.text.proofs.Showing.{zero-fits, triple-short}
-use Rattle.reports.specs.Words.{badLine, refused, rows, counted}
+use Rattle.text.proofs.Showing.{zero-fits, triple-short, counted-short}
+use Rattle.text.specs.Words.{badLine, counted}
+use Rattle.reports.specs.Words.{refused, rows}
 use Rattle.reports.specs.Corners.{corner1, corner2, corner3, cornersRefusal}
 use Rattle.reports.specs.Spans.{rowsOf, heading, rowOf, rowLine, rowLines}
-use Rattle.reports.proofs.Report.{counted-short}
 
 -- ---- m rows further on, of n that end at 131,072 or before
 module _ (y : ℤ) (n m : ℕ) (some : m ≤ n) (below : (y +ℤ pos n) ≤ℤ pos 131072) where

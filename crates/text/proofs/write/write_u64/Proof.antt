@@ -1,4 +1,4 @@
--- `text::write::write_u32` writes as many of the last digits as the number has. Assumes nothing.
+-- `text::write::write_u64` writes as many of the last digits as the number has. Assumes nothing.
 use mathlib.Core.Path.{sym, ap, _∙_}
 use Prim.Native.Nat.{ℕ, _+_}
 use native.Mathlib.Omega.{arith}
@@ -6,8 +6,8 @@ use lib.Seq.{sets}
 use borrow.Author.Needs.{needs}
 use Rattle.text.specs.Show.{lastDigits}
 use Rattle.text.proofs.Showing.{shown-last}
-use Rattle.text.proofs.write.write_u32.Statement.{statement}
-use Rattle.text.proofs.write.write_u32.Tie as tie
+use Rattle.text.proofs.write.write_u64.Statement.{statement}
+use Rattle.text.proofs.write.write_u64.Tie as tie
 
 digit-count-requires : tie.Need-digit-count-requires
 digit-count-requires c κs = search needs
@@ -29,6 +29,6 @@ returns c =
       c .before .before .put-digits .ensures ∙ ap (sets (a .buf .now) (a .at)) (ap (λ (k : ℕ). lastDigits k (a .v)) count ∙ sym (shown-last (a .v))),
     )
 
-pub write-u32-spec : {M : Type 1} → statement M
-write-u32-spec =
+pub write-u64-spec : {M : Type 1} → statement M
+write-u64-spec =
     tie.close (tie.spec digit-count-requires put-digits-requires add-result same-length returns)

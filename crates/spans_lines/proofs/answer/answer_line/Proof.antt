@@ -1,4 +1,4 @@
--- `spans_lines::answer_line` writes the first line and as many rows as are not cut off. Assumes nothing.
+-- `spans_lines::answer::answer_line` writes the first line and as many rows as are not cut off. Assumes nothing.
 use mathlib.Core.Path.{_≡_, sym, ap, ap₂, subst, _∙_}
 use mathlib.Core.List.{_++_}
 use Prim.Native.Nat.{ℕ, min}
@@ -15,9 +15,9 @@ use Rattle.text.proofs.Writing.{wrote-then, wrote-as}
 use Rattle.reports.specs.Spans.{heading, rowLines}
 use Rattle.reports.proofs.Within.{heading-short}
 use Rattle.spans_lines.specs.Answer.{cut}
-use Rattle.spans_lines.proofs.Within.{cut-below}
-use Rattle.spans_lines.proofs.answer_line.Statement.{statement}
-use Rattle.spans_lines.proofs.answer_line.Tie as tie
+use Rattle.spans_lines.proofs.Answers.{cut-below}
+use Rattle.spans_lines.proofs.answer.answer_line.Statement.{statement}
+use Rattle.spans_lines.proofs.answer.answer_line.Tie as tie
 
 read-vertices-requires : tie.Need-read-vertices-requires
 read-vertices-requires c κs = search needs

@@ -28,20 +28,6 @@ pub fn read_more(input: &mut [u8], kept: usize) -> Came
         failed: got < 0,
     }
 }
-// Inside the library: reads until the input ends or `input` is full, and answers how many bytes came.
-pub fn read_all(input: &mut [u8]) -> usize
-    ensures { λ r. ⌜ r ≤ length (now (input .entry)) ⌝ }
-{
-    let mut end = 0;
-    loop {
-        let got = read_more(input, end);
-        if got.count == 0 {
-            return end;
-        }
-        end += got.count;
-    }
-}
-
 // Inside the library: writes an output that is filled up to `at` once that is half of 64 KiB, and answers how far it is filled then.
 pub fn flush(out: &[u8], at: usize) -> usize
     requires { ⌜ at ≤ length (now out) ⌝ }
@@ -54,11 +40,15 @@ pub fn flush(out: &[u8], at: usize) -> usize
     0
 }
 
-// Inside the library: writes the first `at` bytes of an output, and answers whether they were taken.
+// Inside the library: writes the first `at` bytes of an output, answers whether they were taken, and says so on standard error if they were not.
 pub fn write(out: &[u8], at: usize) -> bool
     requires { ⌜ at ≤ length (now out) ⌝ }
 {
-    io::write_all(STDOUT_FILENO, &out[..at])
+    let taken = io::write_all(STDOUT_FILENO, &out[..at]);
+    if !taken {
+        complain(b"the standard output could not be written\n");
+    }
+    taken
 }
 
 // Inside the library: writes a line to standard error.

@@ -1,7 +1,7 @@
 -- Laws of the program's answers: which one a line gets, that each is at most 72 bytes long, and that the parts of the input do not matter. Assumes nothing.
 use mathlib.Core.Path.{_≡_}
 use mathlib.Core.Bool.{Bool, true, false, cond}
-use mathlib.Core.List.{List, [], _∷_, _++_}
+use mathlib.Core.List.{List, [], _++_}
 use Prim.Native.Nat.{ℕ, _+_, _≤_, _<_}
 use native.Mathlib.Omega.{arith}
 use lib.Dec.{leb, eqb}
@@ -12,12 +12,13 @@ use mir.Syntax.{w32}
 use mir.Val.{Fits, SFits}
 use Rattle.text.specs.Fields.{fields, fieldAt, nextU32, number, exactly, readPlace, readVertices}
 use Rattle.text.specs.Lines.{whole, streamed}
-use Rattle.text.specs.Show.{shown, numberField, triple}
+use Rattle.text.specs.Show.{numberField, triple}
+use Rattle.text.specs.Words.{badLine, numbered}
 use Rattle.text.proofs.Reading.{i32-fits, u32-fits}
-use Rattle.text.proofs.Showing.{shown-ten, zero-fits, field-short, triple-short}
+use Rattle.text.proofs.Showing.{numbered-short, zero-fits, field-short, triple-short}
 use Rattle.streams.specs.Answers.{said, output}
 use Rattle.streams.proofs.Answers.{blind, any-parts}
-use Rattle.numbers.specs.Answer.{badLine, verticesLine, placeLine, countLine, answer}
+use Rattle.numbers.specs.Answer.{verticesLine, placeLine, answer}
 
 -- ---- which answer a line gets
 pub answer-long : (line : List ℕ) → 128 < length line → badLine ≡ answer line
@@ -34,7 +35,7 @@ module _ (line : List ℕ) (short : length line ≤ 128) where
   answer-place e p = rw (le-leb (length line) 128 short, e, p)
 
   pub answer-count : readVertices (fields line) .ok ≡ false → readPlace (fields line) .ok ≡ false → nextU32 line 0 .next ≡ length line + 1
-      → countLine (nextU32 line 0 .value) ≡ answer line
+      → numbered (nextU32 line 0 .value) 10 ≡ answer line
   unfolding answer
   answer-count e p q = rw (le-leb (length line) 128 short, e, p, eq-eqb (nextU32 line 0 .next) (length line + 1) q)
 
@@ -67,9 +68,6 @@ place-short fs = by (exactly 2 fs)
     by true = two _ _ (i32-fits _) (i32-fits _)
     by false = two _ _ zero-fits zero-fits
 
-pub count-short : (n : ℕ) → Fits w32 n → length (countLine n) ≤ 11
-count-short n f = omega (arith, length-append (shown n) (10 ∷ []), shown-ten n (f .fits))
-
 pub next-fits : (line : List ℕ) (at : ℕ) → Fits w32 (nextU32 line at .value)
 unfolding nextU32
 next-fits line at = u32-fits (fieldAt line at)
@@ -79,11 +77,11 @@ unfolding answer
 answer-short line = by (leb (length line) 128) (readVertices (fields line) .ok) (readPlace (fields line) .ok) (eqb (nextU32 line 0 .next) (length line + 1))
   where
     by : (a b c d : Bool)
-        → length (cond a (cond b (verticesLine (readVertices (fields line))) (cond c (placeLine (readPlace (fields line))) (cond d (countLine (nextU32 line 0 .value)) badLine))) badLine) ≤ 72
+        → length (cond a (cond b (verticesLine (readVertices (fields line))) (cond c (placeLine (readPlace (fields line))) (cond d (numbered (nextU32 line 0 .value) 10) badLine))) badLine) ≤ 72
     by false b c d = omega arith
     by true true c d = vertices-short (fields line)
     by true false true d = omega (arith, place-short (fields line))
-    by true false false true = omega (arith, count-short (nextU32 line 0 .value) (next-fits line 0))
+    by true false false true = omega (arith, numbered-short (nextU32 line 0 .value) 10 (next-fits line 0))
     by true false false false = omega arith
 
 -- ---- in which parts the input comes does not matter: 129 bytes of a line are enough

@@ -3,7 +3,7 @@ ghost use mathlib.Core.Path.{_≡_};
 ghost use Prim.Native.Nat.{_+_, _≤_};
 ghost use lib.ListN.{length};
 ghost use lib.Seq.{sets};
-ghost use Rattle.numbers.specs.Answer.{badLine, verticesLine, placeLine, countLine, answer};
+ghost use Rattle.numbers.specs.Answer.{verticesLine, placeLine, answer};
 use text::Place;
 use text::Vertices;
 
@@ -25,31 +25,13 @@ fn write_place(out: &mut [u8], at: usize, p: Place) -> usize
     text::write_field(out, half, p.y, b'\n')
 }
 
-// The unsigned number, in a line.
-fn write_count(out: &mut [u8], at: usize, n: u32) -> usize
-    requires { ⌜ at + length (countLine n) ≤ length (now out) ⌝ }
-    ensures { λ r. ⌜ (r ≡ at + length (countLine n)) × (now (out .exit) ≡ sets (now (out .entry)) at (countLine n)) ⌝ }
-{
-    let end = text::write_u32(out, at, n);
-    out[end] = b'\n';
-    end + 1
-}
-
-// A line that says nothing that the program knows.
-fn write_bad(out: &mut [u8], at: usize) -> usize
-    requires { ⌜ at + 9 ≤ length (now out) ⌝ }
-    ensures { λ r. ⌜ (r ≡ at + 9) × (now (out .exit) ≡ sets (now (out .entry)) at badLine) ⌝ }
-{
-    text::write_bytes(out, at, b"bad line\n")
-}
-
 // Inside the library: the answer to a line, of at most 72 bytes.
 pub fn answer_line(line: &[u8], out: &mut [u8], at: usize) -> usize
     requires { ⌜ at + 72 ≤ length (now out) ⌝ }
     ensures { λ r. ⌜ (r ≡ at + length (answer (now (line .entry)))) × (now (out .exit) ≡ sets (now (out .entry)) at (answer (now (line .entry)))) ⌝ }
 {
     if line.len() > 128 {
-        return write_bad(out, at);
+        return text::write_bad(out, at);
     }
     let v = text::read_vertices(line);
     if v.ok {
@@ -61,7 +43,7 @@ pub fn answer_line(line: &[u8], out: &mut [u8], at: usize) -> usize
     }
     let n = text::next_u32(line, 0);
     if n.next != line.len() + 1 {
-        return write_bad(out, at);
+        return text::write_bad(out, at);
     }
-    write_count(out, at, n.value)
+    text::write_number(out, at, n.value as u64, b'\n')
 }

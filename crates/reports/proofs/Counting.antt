@@ -1,100 +1,147 @@
--- Laws of the count of `minutes`: a line after the other, which answer an input gets, and which line is printed of it. Assumes nothing.
+-- Laws of the count of `minutes`: a line after the other; that counting line by line, in whatever parts the input comes, is the count of the whole; and which
+-- line is printed of it. Assumes nothing.
 use mathlib.Core.Path.{_≡_, refl, sym, ap, _∙_}
-use mathlib.Core.Bool.{Bool, true, false, cond}
+use mathlib.Core.Bool.{Bool, true, false, cond, _&&_}
 use mathlib.Core.List.{List, [], _∷_, _++_}
 use Prim.Native.Nat.{ℕ, zero, suc, _+_, _≤_, _<_}
 use native.Mathlib.Omega.{arith}
-use lib.ListN.{length, drop, length-drop, drop-of-length-le}
-use lib.Seq.{drop-drop}
-use borrow.Author.Tests.{lt-ltb, le-ltb, eq-eqb, ne-eqb}
+use lib.Dec.{leb, eqb, ltb}
+use lib.IntN.{pos}
+use lib.ListN.{length, take, length-append, length-take}
+use lib.Seq.{take-all}
+use borrow.Author.Tests.{lt-ltb, le-ltb, eq-eqb, ne-eqb, leb-true, leb-false}
+use mir.Syntax.{w32, w64}
+use mir.Val.{Fits}
 use Rattle.geometry.specs.Answer.{verdict}
 use Rattle.triangle.specs.Triangle.{contained}
 use Rattle.text.specs.declared.Place.{Place}
 use Rattle.text.specs.declared.Vertices.{Vertices}
-use Rattle.text.specs.Fields.{until, fields, lines, readPlace}
-use Rattle.text.specs.Lines.{lineEnd, lineAt, firstLine, each}
-use Rattle.text.proofs.Streaming.{first-line}
+use Rattle.text.specs.Fields.{fields, lines, readPlace, readVertices, badField}
+use Rattle.text.specs.Read.{readSigned}
+use Rattle.text.specs.Lines.{firstLine, each, over, whole, streamed}
+use Rattle.text.specs.Words.{numbered, counted}
+use Rattle.text.proofs.Amiss.{amiss-long}
+use Rattle.text.proofs.Joining.{too-long}
+use Rattle.text.proofs.Numbers.{no-place, no-vertices}
+use Rattle.text.proofs.Showing.{numbered-short, numbered-wide}
+use Rattle.text.proofs.Streaming.{first-line, streamed-is}
 use Rattle.reports.specs.declared.Count.{Count}
-use Rattle.reports.specs.Words.{tooLong, refused, badTab, inside, numbered, counted}
-use Rattle.reports.specs.Corners.{cornersRefusal}
-use Rattle.reports.specs.Minutes.{overlong, refusedBy, badAt, tally, insideOne, withLine, samplesOf, wedge, behindFirst, unless, minutes, countLine}
-
--- ---- the lines from a place on
-some-line : (s : List ℕ) → 0 < length s → lines s ≡ firstLine s ∷ lines (drop (until 10 s + 1) s)
-some-line [] h = absurd (omega arith)
-some-line (b ∷ s) h = first-line b s
-
-pub lines-at : (s : List ℕ) (at : ℕ) → at < length s → lines (drop at s) ≡ lineAt s at ∷ lines (drop (lineEnd s at + 1) s)
-lines-at s at h =
-    some-line (drop at s) (omega (arith, length-drop at s))
-    ∙ ap (λ (l : List ℕ). lineAt s at ∷ lines l) (drop-drop (until 10 (drop at s) + 1) at s ∙ ap (λ (k : ℕ). drop k s) place)
-  where
-    place : at + (until 10 (drop at s) + 1) ≡ lineEnd s at + 1
-    place = omega arith
+use Rattle.reports.specs.declared.Tally.{Tally}
+use Rattle.reports.specs.Words.{tooLong, refused, badTab, inside}
+use Rattle.reports.specs.Corners.{corner1, corner2, corner3, cornersRefusal}
+use Rattle.reports.specs.Minutes.{overlong, refusedBy, badAt, tally, counting, insideOne, withSample, withLine, wedge, behindFirst, unless, minutes, fresh, withWedge, takeLine, pairLine, countLine}
 
 -- ---- a line more
-module _ (v : Vertices) where
-  line-good : (i n : ℕ) (line : List ℕ) → readPlace (fields line) .ok ≡ true → withLine v (tally i n) line ≡ tally (i + insideOne v (readPlace (fields line))) (n + 1)
-  unfolding withLine
-  line-good i n line e = rw e
+module _ (v : Vertices) (k : Count) where
+  pub sample-more : (p : Place) → k .samples < 4294967295 → tally (k .inside + insideOne v p) (k .samples + 1) ≡ withSample v k p
+  sample-more p h = rw (lt-ltb (k .samples) 4294967295 h)
 
-  line-bad : (i n : ℕ) (line : List ℕ) → readPlace (fields line) .ok ≡ false → withLine v (tally i n) line ≡ badAt (n + 2)
-  unfolding withLine
-  line-bad i n line e = rw e
+  pub sample-many : (p : Place) → 4294967295 ≤ k .samples → overlong ≡ withSample v k p
+  sample-many p h = rw (le-ltb (k .samples) 4294967295 h)
 
-  -- behind a bad line nothing counts
-  line-behind : (n : ℕ) (line : List ℕ) → withLine v (badAt (n + 2)) line ≡ badAt (n + 2)
-  unfolding withLine
-  line-behind n line = rw (ne-eqb (n + 2) 0 (λ q. omega arith))
+  module _ (line : List ℕ) where
+    pub line-settled : counting k ≡ false → k ≡ withLine v k line
+    unfolding withLine
+    line-settled e = rw e
 
-  spoiled : (n : ℕ) (ls : List (List ℕ)) → each (withLine v) (badAt (n + 2)) ls ≡ badAt (n + 2)
-  spoiled n [] = refl
-  spoiled n (l ∷ ls) = ap (λ (k : Count). each (withLine v) k ls) (line-behind n l) ∙ spoiled n ls
+    pub line-good : counting k ≡ true → readPlace (fields line) .ok ≡ true → withSample v k (readPlace (fields line)) ≡ withLine v k line
+    unfolding withLine
+    line-good e g = rw (e, g)
 
-  module _ (s : List ℕ) (at i n : ℕ) where
-    pub samples-end : length s ≤ at → tally i n ≡ each (withLine v) (tally i n) (lines (drop at s))
-    samples-end h = rw (drop-of-length-le s h)
-
-    module _ (h : at < length s) (line : List ℕ) (is : line ≡ lineAt s at) where
-      pub samples-bad : readPlace (fields line) .ok ≡ false → badAt (n + 2) ≡ each (withLine v) (tally i n) (lines (drop at s))
-      samples-bad e =
-          sym (ap (each (withLine v) (tally i n)) (lines-at s at h ∙ ap (λ (l : List ℕ). l ∷ lines (drop (lineEnd s at + 1) s)) (sym is))
-          ∙ ap (λ (k : Count). each (withLine v) k (lines (drop (lineEnd s at + 1) s))) (line-bad i n line e)
-          ∙ spoiled n (lines (drop (lineEnd s at + 1) s)))
-
-      pub samples-good : readPlace (fields line) .ok ≡ true
-          → each (withLine v) (tally (i + insideOne v (readPlace (fields line))) (n + 1)) (lines (drop (lineEnd s at + 1) s)) ≡ each (withLine v) (tally i n) (lines (drop at s))
-      samples-good e =
-          sym (ap (each (withLine v) (tally i n)) (lines-at s at h ∙ ap (λ (l : List ℕ). l ∷ lines (drop (lineEnd s at + 1) s)) (sym is))
-          ∙ ap (λ (k : Count). each (withLine v) k (lines (drop (lineEnd s at + 1) s))) (line-good i n line e))
+    pub line-bad : counting k ≡ true → readPlace (fields line) .ok ≡ false → badAt (k .samples + 2) (badField 2 line) ≡ withLine v k line
+    unfolding withLine
+    line-bad e g = rw (e, g)
 
 -- a sample counts once, or not at all
 pub inside-most : (v : Vertices) (p : Place) → insideOne v p ≤ 1
 unfolding insideOne
-inside-most v p = by (verdict (cornersRefusal v) (contained (v .x1, v .y1) (v .x2, v .y2) (v .x3, v .y3) (p .x, p .y)) .yes)
+inside-most v p = by (verdict (cornersRefusal v) (contained (corner1 v) (corner2 v) (corner3 v) (p .x, p .y)) .yes)
   where
     by : (t : Bool) → cond t 1 0 ≤ 1
     by true = omega arith
     by false = omega arith
 
--- ---- which answer an input gets
-module _ (s : List ℕ) where
-  pub is-overlong : 65536 < length s → overlong ≡ minutes s
-  unfolding minutes
-  is-overlong h = rw (lt-ltb 65536 (length s) h)
+-- ---- the first line
+pub wedge-bad : (line : List ℕ) (v : Vertices) → v .ok ≡ false → badAt 1 (badField 6 line) ≡ withWedge line v .count
+wedge-bad line v e = rw e
 
-  module _ (short : length s ≤ 65536) where
-    pub is-bad : wedge s .ok ≡ false → badAt 1 ≡ minutes s
-    unfolding minutes
-    is-bad e = rw (le-ltb 65536 (length s) short, e)
+pub wedge-good : (line : List ℕ) (v : Vertices) (n : ℕ) → n ≡ cornersRefusal v → v .ok ≡ true → refusedBy n ≡ withWedge line v .count
+wedge-good line v n e o = rw o (ap refusedBy e ∙ same (cornersRefusal v))
+  where
+    same : (m : ℕ) → refusedBy m ≡ unless m (tally 0 0)
+    same zero = refl
+    same (suc m) = refl
 
-    pub is-good : wedge s .ok ≡ true → unless (cornersRefusal (wedge s)) (samplesOf (wedge s) (behindFirst s)) ≡ minutes s
-    unfolding minutes
-    is-good e = rw (le-ltb 65536 (length s) short, e)
+-- ---- no more samples are inside than there are
+abbrev pub Few : Tally → Type 0
+Few t = t .count .inside ≤ t .count .samples
 
-pub unless-refused : (n : ℕ) (k : Count) → (n ≡ 0 → ⊥) → refusedBy n ≡ unless n k
-unless-refused zero k h = absurd (h refl)
-unless-refused (suc n) k h = refl
+pub take-few : (t : Tally) (line : List ℕ) → Few t → Few (takeLine t line)
+unfolding takeLine withLine
+take-few t line h = by (t .begun) (counting (t .count)) (readPlace (fields line) .ok) (ltb (t .count .samples) 4294967295) (readVertices (fields line) .ok) (cornersRefusal (readVertices (fields line)))
+  where
+    v : Vertices
+    v = readVertices (fields line)
+
+    k : Count
+    k = t .count
+
+    by : (a b c d e : Bool) (n : ℕ)
+        → Few (cond a (record { begun = true; wedge = t .wedge; count = cond b (cond c (cond d (tally (t .count .inside + insideOne (t .wedge) (readPlace (fields line))) (t .count .samples + 1)) overlong) (badAt (t .count .samples + 2) (badField 2 line))) (t .count) })
+        (record { begun = true; wedge = readVertices (fields line); count = cond e (unless n (tally 0 0)) (badAt 1 (badField 6 line)) }))
+    by true true true true e n = omega (arith, inside-most (t .wedge) (readPlace (fields line)))
+    by true true true false e n = omega arith
+    by true true false d e n = omega arith
+    by true false c d e n = h
+    by false b c d true zero = omega arith
+    by false b c d true (suc n) = omega arith
+    by false b c d false n = omega arith
+
+-- ---- line by line it is the count of the whole
+each-taken : (v : Vertices) (k : Count) (ls : List (List ℕ)) → each takeLine (record { begun = true; wedge = v; count = k }) ls .count ≡ each (withLine v) k ls
+unfolding takeLine
+each-taken v k [] = refl
+each-taken v k (l ∷ ls) = each-taken v (withLine v k l) ls
+
+each-settled : (v : Vertices) (k : Count) (ls : List (List ℕ)) → counting k ≡ false → each (withLine v) k ls ≡ k
+each-settled v k [] e = refl
+each-settled v k (l ∷ ls) e = ap (λ (q : Count). each (withLine v) q ls) (sym (line-settled v k l e)) ∙ each-settled v k ls e
+
+pub minutes-is : (s : List ℕ) → over takeLine fresh s .count ≡ minutes s
+unfolding takeLine minutes readVertices readSigned badField
+minutes-is [] = refl
+minutes-is (b ∷ s) =
+    ap (λ (ls : List (List ℕ)). each takeLine fresh ls .count) (first-line b s)
+    ∙ each-taken (wedge (b ∷ s)) (withWedge (firstLine (b ∷ s)) (wedge (b ∷ s)) .count) (lines (behindFirst (b ∷ s)))
+    ∙ by (wedge (b ∷ s) .ok) (cornersRefusal (wedge (b ∷ s)))
+  where
+    by : (t : Bool) (n : ℕ)
+        → each (withLine (wedge (b ∷ s))) (cond t (unless n (tally 0 0)) (badAt 1 (badField 6 (firstLine (b ∷ s))))) (lines (behindFirst (b ∷ s)))
+        ≡ cond t (unless n (each (withLine (wedge (b ∷ s))) (tally 0 0) (lines (behindFirst (b ∷ s))))) (badAt 1 (badField 6 (firstLine (b ∷ s))))
+    by true zero = refl
+    by true (suc n) = each-settled (wedge (b ∷ s)) (refusedBy (suc n)) (lines (behindFirst (b ∷ s))) (rw (ne-eqb (suc n) 0 (λ q. omega arith)))
+    by false n = each-settled (wedge (b ∷ s)) (badAt 1 (badField 6 (firstLine (b ∷ s)))) (lines (behindFirst (b ∷ s))) refl
+
+-- ---- 129 bytes of a line are enough, and so the parts do not matter
+abbrev noWedge : Vertices
+noWedge = record { ok = false; x1 = pos 0; y1 = pos 0; x2 = pos 0; y2 = pos 0; x3 = pos 0; y3 = pos 0 }
+
+long-is : (t : Tally) (line : List ℕ) → 128 < length line
+    → takeLine t line
+    ≡ cond (t .begun) (record { begun = true; wedge = t .wedge; count = cond (counting (t .count)) (badAt (t .count .samples + 2) 0) (t .count) }) (record { begun = true; wedge = noWedge; count = badAt 1 0 })
+unfolding takeLine withLine
+long-is t line h =
+    rw (← no-place (fields line) (too-long 2 line (omega arith)), ← no-vertices (fields line) (too-long 6 line (omega arith)), ← amiss-long 2 line h, ← amiss-long 6 line h)
+
+take-blind : (t : Tally) (line : List ℕ) → takeLine t line ≡ takeLine t (take 129 line)
+take-blind t line = by (leb (length line) 128) refl
+  where
+    by : (b : Bool) → leb (length line) 128 ≡ b → takeLine t line ≡ takeLine t (take 129 line)
+    by true e = ap (takeLine t) (sym (take-all 129 line (omega (arith, leb-true (length line) 128 e))))
+    by false e = long-is t line (leb-false (length line) 128 e) ∙ sym (long-is t (take 129 line) (omega (arith, leb-false (length line) 128 e, length-take 129 line)))
+
+pub any-parts : (parts : List (List ℕ)) → streamed takeLine 129 fresh [] parts .count ≡ minutes (whole parts)
+any-parts parts = ap (λ (t : Tally). t .count) (streamed-is takeLine 128 take-blind fresh [] parts) ∙ minutes-is (whole parts)
 
 -- ---- which line is printed
 module _ (k : Count) where
@@ -107,10 +154,17 @@ module _ (k : Count) where
     unfolding countLine
     line-refused n = rw (short, ne-eqb (k .number) 0 n)
 
-    pub line-spoiled : k .number ≡ 0 → (k .bad ≡ 0 → ⊥) → counted badTab (k .bad) ≡ countLine k
+    pub line-spoiled : k .number ≡ 0 → (k .bad ≡ 0 → ⊥) → pairLine badTab (k .bad) (k .field) ≡ countLine k
     unfolding countLine
     line-spoiled e n = rw (short, eq-eqb (k .number) 0 e, ne-eqb (k .bad) 0 n)
 
-    pub line-inside : k .number ≡ 0 → k .bad ≡ 0 → inside ++ (numbered (k .inside) 9 ++ numbered (k .samples) 10) ≡ countLine k
+    pub line-inside : k .number ≡ 0 → k .bad ≡ 0 → pairLine inside (k .inside) (k .samples) ≡ countLine k
     unfolding countLine
     line-inside e b = rw (short, eq-eqb (k .number) 0 e, eq-eqb (k .bad) 0 b)
+
+-- ---- how long it is
+pub pair-length : (word : List ℕ) (a b : ℕ) → length (pairLine word a b) ≡ length word + (length (numbered a 9) + length (numbered b 10))
+pair-length word a b = length-append word (numbered a 9 ++ numbered b 10) ∙ ap (λ (n : ℕ). length word + n) (length-append (numbered a 9) (numbered b 10))
+
+pub pair-short : (word : List ℕ) (a b : ℕ) → Fits w64 a → Fits w32 b → length (pairLine word a b) ≤ length word + 32
+pair-short word a b f g = omega (arith, pair-length word a b, numbered-wide a 9 f, numbered-short b 10 g)

@@ -1,26 +1,24 @@
 -- Laws of a report: which first line and which rows a line gets, and its rows one after the other. Assumes nothing.
 use mathlib.Core.Path.{_≡_, refl, sym, ap, ap₂, _∙_}
 use mathlib.Core.Bool.{Bool, true, false}
-use mathlib.Core.List.{List, [], _∷_, _++_, append-assoc}
+use mathlib.Core.List.{List, [], _++_, append-assoc}
 use Prim.Native.Nat.{ℕ, zero, suc, _+_, _-_, _≤_, _<_}
 use native.Mathlib.Omega.{arith}
 use lib.IntN.{ℤ, pos, _+ℤ_}
 use lib.ListN.{length, length-append}
 use lib.Seq.{sets}
 use borrow.Author.Tests.{eq-eqb, ne-eqb}
-use mir.Syntax.{w32}
-use mir.Val.{Fits}
 use Rattle.whole.proofs.Difference.{as-mk, mks, mk-eq}
 use Rattle.geometry.specs.Answer.{span}
 use Rattle.triangle.specs.declared.RowRange.{RowRange}
-use Rattle.triangle.specs.Answer.{vertexRefusal, rowsAnswer}
+use Rattle.refusals.specs.First.{first}
+use Rattle.triangle.specs.Answer.{vertexTests, rowsAnswer}
 use Rattle.triangle.specs.Row.{rowSpan, firstRow, rowCount}
 use Rattle.text.specs.declared.Vertices.{Vertices}
-use Rattle.text.specs.Show.{shown}
-use Rattle.text.proofs.Showing.{shown-ten}
 use Rattle.text.proofs.Writing.{Wrote, sets-append}
 use Rattle.reports.specs.declared.corners.Corners.{Corners}
-use Rattle.reports.specs.Words.{badLine, refused, rows, numbered, counted}
+use Rattle.text.specs.Words.{badLine, counted}
+use Rattle.reports.specs.Words.{refused, rows}
 use Rattle.reports.specs.Corners.{corners}
 use Rattle.reports.specs.Spans.{rowsOf, heading, rowOf, rowLine, rowLines}
 
@@ -30,15 +28,15 @@ unfolding rowsOf
 no-rows v e = rw e
 
 module _ (v : Vertices) (t : Corners) (e : t ≡ corners v) where
-  pub some-rows : v .ok ≡ true → rowsAnswer (vertexRefusal (t .a) (t .b) (t .c)) (firstRow (t .a) (t .b) (t .c)) (rowCount (t .a) (t .b) (t .c)) ≡ rowsOf v
+  pub some-rows : v .ok ≡ true → rowsAnswer (first (vertexTests (t .a) (t .b) (t .c))) (firstRow (t .a) (t .b) (t .c)) (rowCount (t .a) (t .b) (t .c)) ≡ rowsOf v
   unfolding rowsOf
-  some-rows o = (λ i. rowsAnswer (vertexRefusal (e i .a) (e i .b) (e i .c)) (firstRow (e i .a) (e i .b) (e i .c)) (rowCount (e i .a) (e i .b) (e i .c))) ∙ rw o
+  some-rows o = (λ i. rowsAnswer (first (vertexTests (e i .a) (e i .b) (e i .c))) (firstRow (e i .a) (e i .b) (e i .c)) (rowCount (e i .a) (e i .b) (e i .c))) ∙ rw o
 
-  pub a-row : {y z : ℤ} → y ≡ z → span (vertexRefusal (t .a) (t .b) (t .c)) (rowSpan (t .a) (t .b) (t .c) y .0) (rowSpan (t .a) (t .b) (t .c) y .1) ≡ rowOf v z
+  pub a-row : {y z : ℤ} → y ≡ z → span (first (vertexTests (t .a) (t .b) (t .c))) (rowSpan (t .a) (t .b) (t .c) y .0) (rowSpan (t .a) (t .b) (t .c) y .1) ≡ rowOf v z
   unfolding rowOf
-  a-row q = λ i. span (vertexRefusal (e i .a) (e i .b) (e i .c)) (rowSpan (e i .a) (e i .b) (e i .c) (q i) .0) (rowSpan (e i .a) (e i .b) (e i .c) (q i) .1)
+  a-row q = λ i. span (first (vertexTests (e i .a) (e i .b) (e i .c))) (rowSpan (e i .a) (e i .b) (e i .c) (q i) .0) (rowSpan (e i .a) (e i .b) (e i .c) (q i) .1)
 
--- ---- which first line, and how long it is
+-- ---- which first line
 module _ (ok : Bool) (r : RowRange) where
   pub heading-bad : ok ≡ false → badLine ≡ heading ok r
   unfolding heading
@@ -51,18 +49,6 @@ module _ (ok : Bool) (r : RowRange) where
   pub heading-rows : ok ≡ true → r .number ≡ 0 → counted rows (r .count) ≡ heading ok r
   unfolding heading
   heading-rows e n = rw (e, eq-eqb (r .number) 0 n)
-
-pub numbered-length : (n stop : ℕ) → length (numbered n stop) ≡ length (shown n) + 1
-numbered-length n stop = length-append (shown n) (stop ∷ [])
-
-pub numbered-short : (n stop : ℕ) → Fits w32 n → length (numbered n stop) ≤ 11
-numbered-short n stop f = omega (arith, numbered-length n stop, shown-ten n (f .fits))
-
-pub counted-length : (word : List ℕ) (n : ℕ) → length (counted word n) ≡ length word + length (numbered n 10)
-counted-length word n = length-append word (numbered n 10)
-
-pub counted-short : (word : List ℕ) (n : ℕ) → Fits w32 n → length (counted word n) ≤ length word + 11
-counted-short word n f = omega (arith, counted-length word n, numbered-short n 10 f)
 
 -- ---- the first row, and those below it
 pub rows-first : (v : Vertices) (y : ℤ) (n : ℕ) → 0 < n → rowLines v y n ≡ rowLine v y ++ rowLines v (y +ℤ pos 1) (n - 1)

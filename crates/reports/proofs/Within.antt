@@ -1,6 +1,6 @@
 -- The rows and columns of an accepted triangle stay within 32 bits, and so a row's line is at most 36 bytes long. Assumes nothing.
 use mathlib.Core.Path.{_≡_, refl, sym, ap, subst, _∙_}
-use mathlib.Core.Bool.{Bool, true, false, cond, _&&_}
+use mathlib.Core.Bool.{Bool, true, false, cond, not, _&&_}
 use mathlib.Core.Logic.{inl, inr}
 use Prim.Native.Nat.{ℕ, zero, suc, _+_, _*_, _-_, _≤_}
 use native.Mathlib.Omega.{arith}
@@ -21,8 +21,9 @@ use Rattle.geometry.specs.Bound.{Coord, inBounds}
 use Rattle.geometry.proofs.Bound.{coord-size, coord-fits}
 use Rattle.triangle.specs.declared.Columns.{Columns}
 use Rattle.triangle.specs.declared.RowRange.{RowRange}
-use Rattle.triangle.specs.Answer.{vertexRefusal, rowsAnswer}
-use Rattle.triangle.specs.Between.{EdgePoint}
+use Rattle.refusals.specs.First.{first}
+use Rattle.triangle.specs.Answer.{vertexTests, rowsAnswer}
+use Rattle.triangle.specs.EdgePoint.{EdgePoint}
 use Rattle.triangle.specs.Row.{rowSpan, firstRow, rowCount}
 use Rattle.triangle.specs.Triangle.{contained}
 use Rattle.triangle.proofs.Refusals.{Accepted, is-accepted, sorted-bounded}
@@ -30,11 +31,11 @@ use Rattle.triangle.proofs.Spans.{Spans}
 use Rattle.triangle.proofs.Triangle.{p1, p2, p3, flat, contained-decides, row-spans, last-row}
 use Rattle.triangle.proofs.Box.{box-left, box-right}
 use Rattle.text.specs.declared.Vertices.{Vertices}
-use Rattle.text.proofs.Showing.{zero-fits, triple-short}
-use Rattle.reports.specs.Words.{badLine, refused, rows, counted}
+use Rattle.text.proofs.Showing.{zero-fits, triple-short, counted-short}
+use Rattle.text.specs.Words.{badLine, counted}
+use Rattle.reports.specs.Words.{refused, rows}
 use Rattle.reports.specs.Corners.{corner1, corner2, corner3, cornersRefusal}
 use Rattle.reports.specs.Spans.{rowsOf, heading, rowOf, rowLine, rowLines}
-use Rattle.reports.proofs.Report.{counted-short}
 
 -- ---- m rows further on, of n that end at 131,072 or before
 module _ (y : ℤ) (n m : ℕ) (some : m ≤ n) (below : (y +ℤ pos n) ≤ℤ pos 131072) where
@@ -141,11 +142,11 @@ rows-few v1 v2 v3 a =
     let b = sorted-bounded v1 v2 v3 _ refl a in
     omega (arith, minus (one {w = w32} (p3 v1 v2 v3 .1) (coord-size (b .third .y)) tt) (one (p1 v1 v2 v3 .1) (coord-size (b .first .y)) tt) tt .size)
 
-refusal-few : (v1 v2 v3 : Point) → vertexRefusal v1 v2 v3 ≤ 5
-unfolding vertexRefusal
-refusal-few v1 v2 v3 = by (inBounds v1 && (inBounds v2 && inBounds v3))
+refusal-few : (v1 v2 v3 : Point) → first (vertexTests v1 v2 v3) ≤ 5
+unfolding vertexTests
+refusal-few v1 v2 v3 = by (not (inBounds v1 && (inBounds v2 && inBounds v3)))
   where
-    by : (t : Bool) → cond t 0 5 ≤ 5
+    by : (t : Bool) → cond t 5 0 ≤ 5
     by true = omega arith
     by false = omega arith
 

@@ -1,7 +1,8 @@
 -- The triangle of six coordinates, its vertices in the order in which they were given, and the number of its refusal.
 use Prim.Native.Nat.{ℕ}
 use Rattle.geometry.specs.declared.Point.{Point}
-use Rattle.triangle.specs.Answer.{vertexRefusal}
+use Rattle.refusals.specs.First.{first}
+use Rattle.triangle.specs.Answer.{vertexTests}
 use Rattle.text.specs.declared.Vertices.{Vertices}
 use Rattle.reports.specs.declared.corners.Corners.{Corners}
 
@@ -18,4 +19,4 @@ abbrev pub corners : Vertices → Corners
 corners v = record { a = corner1 v; b = corner2 v; c = corner3 v }
 
 abbrev pub cornersRefusal : Vertices → ℕ
-cornersRefusal v = vertexRefusal (corner1 v) (corner2 v) (corner3 v)
+cornersRefusal v = first (vertexTests (corner1 v) (corner2 v) (corner3 v))

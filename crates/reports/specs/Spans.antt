@@ -13,7 +13,8 @@ use Rattle.text.specs.declared.Vertices.{Vertices}
 use Rattle.text.specs.Fields.{fields, readVertices}
 use Rattle.text.specs.Lines.{firstLine}
 use Rattle.text.specs.Show.{triple}
-use Rattle.reports.specs.Words.{badLine, refused, rows, counted}
+use Rattle.text.specs.Words.{badLine, counted}
+use Rattle.reports.specs.Words.{refused, rows}
 use Rattle.reports.specs.Corners.{corner1, corner2, corner3, cornersRefusal}
 
 -- the rows of the triangle; none where the line is another

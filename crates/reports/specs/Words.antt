@@ -1,11 +1,6 @@
--- The words that the programs print (those of `spans`: 01, the end of "Known small answers"), and numbers behind them.
-use mathlib.Core.List.{List, [], _∷_, _++_}
+-- The words that the programs print (those of `spans`: 01, the end of "Known small answers").
+use mathlib.Core.List.{List, [], _∷_}
 use Prim.Native.Nat.{ℕ}
-use Rattle.text.specs.Show.{shown}
-
--- `bad line`, LF
-abbrev pub badLine : List ℕ
-badLine = 98 ∷ 97 ∷ 100 ∷ 32 ∷ 108 ∷ 105 ∷ 110 ∷ 101 ∷ 10 ∷ []
 
 -- `refused`, a tab
 abbrev pub refused : List ℕ
@@ -26,11 +21,3 @@ inside = 105 ∷ 110 ∷ 115 ∷ 105 ∷ 100 ∷ 101 ∷ 9 ∷ []
 -- `too long`, LF
 abbrev pub tooLong : List ℕ
 tooLong = 116 ∷ 111 ∷ 111 ∷ 32 ∷ 108 ∷ 111 ∷ 110 ∷ 103 ∷ 10 ∷ []
-
--- a number and the byte behind it
-abbrev pub numbered : ℕ → ℕ → List ℕ
-numbered n stop = shown n ++ (stop ∷ [])
-
--- a word, and a number and LF behind it
-abbrev pub counted : List ℕ → ℕ → List ℕ
-counted word n = word ++ numbered n 10

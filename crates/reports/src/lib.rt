@@ -2,21 +2,37 @@
 mod corners;
 mod minutes;
 mod spans;
-mod words;
 
-pub use minutes::count_minutes;
+pub use minutes::no_lines;
+pub use minutes::take_line;
+pub use minutes::take_lines;
 pub use minutes::write_count;
 pub use spans::least;
 pub use spans::rows_of;
 pub use spans::write_heading;
 pub use spans::write_rows;
+use text::Vertices;
 
-// What `minutes` counts: the samples inside the wedge, and all of them. Else 0 and 0, and one of three: the number of the refusal, that the input is
-// too long, or which line is bad, counted from 1.
+// What `minutes` counts: the samples inside the wedge, and all of them. Else 0 and 0, and one of three: the number of the refusal, that there are too many
+// samples, or which line is bad, counted from 1, and which of its fields: 0, where it has another number of fields or is longer than 128 bytes.
 pub struct Count {
     pub number: u32,
     pub long: bool,
-    pub bad: u32,
+    pub bad: u64,
+    pub field: u32,
     pub inside: u32,
     pub samples: u32,
+}
+
+// Where counting stands between two lines: whether there was a first one, the wedge that it is, and the count so far.
+pub struct Tally {
+    pub begun: bool,
+    pub wedge: Vertices,
+    pub count: Count,
+}
+
+// How far a part of the input is counted, and the count then.
+pub struct Taken {
+    pub next: usize,
+    pub tally: Tally,
 }

@@ -7,7 +7,6 @@ ghost use lib.ListN.{length};
 ghost use lib.Seq.{sets};
 ghost use Rattle.reports.specs.Spans.{rowsOf, heading, rowOf, rowLine, rowLines};
 use crate::corners::corners_of;
-use crate::words::write_counted;
 use geometry::Span;
 use text::Vertices;
 use triangle::RowRange;
@@ -48,12 +47,12 @@ pub fn write_heading(out: &mut [u8], at: usize, ok: bool, rows: RowRange) -> usi
     ensures { λ r. ⌜ (r ≡ at + length (heading ok rows)) × (now (out .exit) ≡ sets (now (out .entry)) at (heading ok rows)) ⌝ }
 {
     if !ok {
-        return text::write_bytes(out, at, b"bad line\n");
+        return text::write_bad(out, at);
     }
     if rows.number != 0 {
-        return write_counted(out, at, b"refused\t", rows.number);
+        return text::write_counted(out, at, b"refused\t", rows.number);
     }
-    write_counted(out, at, b"rows\t", rows.count)
+    text::write_counted(out, at, b"rows\t", rows.count)
 }
 
 // The line of row `y`, of at most 36 bytes: the row, its first column, and one past the last.

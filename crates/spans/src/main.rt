@@ -1,29 +1,32 @@
 // Lists the spans of a triangle: the first line of the standard input is its six coordinates, parted by tabs. What is written is the definition
 // `spans` of the crate `reports`: `bad line`, or `refused` and the number, or `rows`, how many, and a line a row.
 ghost use mathlib.Core.Path.{_≡_};
-ghost use Prim.Native.Nat.{_≤_, _<_};
+ghost use mathlib.Core.Bool.{false, not, _&&_};
+ghost use Prim.Native.Nat.{_<_};
+ghost use Rattle.streams.specs.State.{Within, goesOn};
+ghost use Rattle.streams.specs.Refill.{whole};
 ghost use lib.IntN.{pos, _+ℤ_};
 ghost use lib.Signed.{_≤ℤ_};
 ghost use lib.ListN.{length};
+use streams::State;
 use text::Vertices;
 use triangle::RowRange;
 
-// Reads until a line is there: up to its LF, to the end of the input, or as far as there is room, which is further than a line of six coordinates
-// goes. Answers how many bytes came.
-fn read_line(input: &mut [u8]) -> usize
-    ensures { λ r. ⌜ r ≤ length (now (input .entry)) ⌝ }
+// Reads until a line is there: up to its LF, or to the end of the input. Of a line that LF does not end yet 129 bytes are kept, which is more than a line
+// of six coordinates has.
+fn read_line(input: &mut [u8]) -> State
+    requires { ⌜ length (now input) ≡ 65536 ⌝ }
+    ensures { λ r. ⌜ Within r × ((not (whole (now (input .exit)) r) && goesOn r) ≡ false) ⌝ }
 {
-    let mut end = 0;
+    let mut st = streams::start();
     loop {
-        let got = console::read_more(input, end);
-        if got == 0 {
-            return end;
+        if streams::has_line(input, st) {
+            return st;
         }
-        let next = end + got;
-        if text::part_end(&input[..next], end, b'\n') < next {
-            return next;
+        if !streams::goes_on(st) {
+            return st;
         }
-        end = next;
+        st = streams::refill(input, st);
     }
 }
 
@@ -57,8 +60,13 @@ fn answer(input: &[u8], out: &mut [u8])
 }
 
 fn main() {
-    let mut input = [0u8; 4096];
+    let mut input = [0u8; 65536];
     let mut out = [0u8; 65536];
-    let end = read_line(&mut input);
+    let st = read_line(&mut input);
+    if st.unread {
+        streams::complain(st);
+        return;
+    }
+    let end = st.end;
     answer(&input[..end], &mut out);
 }

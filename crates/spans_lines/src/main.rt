@@ -1,40 +1,60 @@
-// Answers every line of its input, of at most 64 KiB, as `spans` answers one, but lists no more than the first 64 rows of a triangle.
-ghost use mathlib.Core.Path.{_≡_};
-ghost use Prim.Native.Nat.{_+_, _≤_};
-ghost use lib.ListN.{length};
-ghost use lib.Seq.{sets};
-ghost use Rattle.spans_lines.specs.Answer.{answer};
+// Answers every line of its input as `spans` answers one, but lists no more than the first 64 rows of a triangle. A line ends at LF or at the end of the
+// input, of whatever length that is and in whatever parts it comes.
+mod answer;
+mod lines;
 
-// The answer to a line, of at most 19 bytes and 64 rows.
-fn answer_line(line: &[u8], out: &mut [u8], at: usize) -> usize
-    requires { ⌜ at + 2323 ≤ length (now out) ⌝ }
-    ensures { λ r. ⌜ (r ≡ at + length (answer (now (line .entry)))) × (now (out .exit) ≡ sets (now (out .entry)) at (answer (now (line .entry)))) ⌝ }
+ghost use mathlib.Core.Path.{_≡_};
+ghost use lib.ListN.{length};
+ghost use Rattle.streams.specs.State.{Standing};
+ghost use Rattle.streams.specs.Answers.{afterLines, afterLast};
+ghost use Rattle.streams.specs.Run.{Ended};
+ghost use Rattle.spans_lines.specs.Answer.{answer};
+use answer::answer_line;
+use lines::answer_lines;
+use streams::State;
+
+// Answers the lines that are there and that LF ends, as far as the output has room.
+fn answer_some(input: &[u8], out: &mut [u8], st: State) -> State
+    requires { ⌜ Standing st (now input) (now out) ⌝ }
+    ensures { λ r. ⌜ (r, now (out .exit)) ≡ afterLines answer 2323 (now (input .entry)) st (now (out .entry)) ⌝ }
 {
-    let v = text::read_vertices(line);
-    let rows = reports::rows_of(v);
-    let next = reports::write_heading(out, at, v.ok, rows);
-    let count = reports::least(rows.count, 64);
-    reports::write_rows(out, next, v, rows.first, count)
+    let end = st.end;
+    let done = answer_lines(&input[..end], st.next, out, st.at);
+    streams::stands_at(st, done.next, done.at)
 }
 
-// Answers the lines, one after the other.
-fn answer_lines(input: &[u8], out: &mut [u8])
-    requires { ⌜ length (now out) ≡ 65536 ⌝ }
+// Answers a last line that lacks its LF.
+fn last_line(input: &[u8], out: &mut [u8], st: State) -> State
+    requires { ⌜ Standing st (now input) (now out) ⌝ }
+    ensures { λ r. ⌜ (r, now (out .exit)) ≡ afterLast answer (now (input .entry)) st (now (out .entry)) ⌝ }
 {
-    let mut from = 0;
-    let mut filled = 0;
-    while from < input.len() {
-        let end = text::part_end(input, from, b'\n');
-        let next = answer_line(&input[from..end], out, filled);
-        filled = console::flush(out, next);
-        from = end + 1;
+    if !streams::has_last(st) {
+        return st;
     }
-    console::write(out, filled);
+    let next = st.next;
+    let end = st.end;
+    let at = answer_line(&input[next..end], out, st.at);
+    streams::stands_at(st, end, at)
+}
+
+// Turn after turn, until the input ends.
+fn run(input: &mut [u8], out: &mut [u8]) -> State
+    requires { ⌜ (length (now input) ≡ 65536) × (length (now out) ≡ 65536) ⌝ }
+    ensures { λ r. ⌜ Ended (afterLines answer 2323) (afterLast answer) (now (out .entry)) r ⌝ }
+{
+    let mut st = streams::start();
+    while streams::goes_on(st) {
+        st = answer_some(input, out, st);
+        st = streams::flush(out, st);
+        st = streams::refill(input, st);
+    }
+    st = last_line(input, out, st);
+    streams::empty(out, st)
 }
 
 fn main() {
     let mut input = [0u8; 65536];
     let mut out = [0u8; 65536];
-    let end = console::read_all(&mut input);
-    answer_lines(&input[..end], &mut out);
+    let st = run(&mut input, &mut out);
+    streams::complain(st);
 }

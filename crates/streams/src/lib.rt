@@ -5,7 +5,7 @@ ghost use mathlib.Core.Path.{_≡_};
 ghost use Prim.Native.Nat.{_≤_, _<_};
 ghost use lib.ListN.{length};
 ghost use Rattle.streams.specs.State.{Within, started, goesOn, standsAt, written, emptied, lastIs};
-ghost use Rattle.streams.specs.Refill.{Refilled};
+ghost use Rattle.streams.specs.Refill.{whole, Refilled};
 
 // The bytes of the input's buffer from `next` up to `end` are still to be looked at, and the output's is filled up to `at`; whether more input may come,
 // whether a read or a write failed. A proved loop has to end, and nothing says that an input does: so the turns are counted down, from a number that no
@@ -94,6 +94,15 @@ pub fn empty(out: &[u8], st: State) -> State
     }
 }
 
+// Inside the library: whether a line that LF ends is left.
+pub fn has_line(input: &[u8], st: State) -> bool
+    requires { ⌜ Within st × (length (now input) ≡ 65536) ⌝ }
+    ensures { λ r. ⌜ r ≡ whole (now (input .entry)) st ⌝ }
+{
+    let end = st.end;
+    text::part_end(&input[..end], st.next, b'\n') < end
+}
+
 // Inside the library: once no line is left that LF ends, keeps what is behind the last of them, of which 129 bytes are enough, and reads on behind it.
 pub fn refill(input: &mut [u8], st: State) -> State
     requires { ⌜ Within st × (0 < st .turns) × (length (now input) ≡ 65536) ⌝ }
@@ -138,12 +147,9 @@ pub fn has_last(st: State) -> bool
     st.next < st.end
 }
 
-// Inside the library: says on standard error that a read or a write failed.
+// Inside the library: says on standard error if a read failed.
 pub fn complain(st: State) {
     if st.unread {
         console::complain(b"the standard input could not be read\n");
-    }
-    if st.unwritten {
-        console::complain(b"the standard output could not be written\n");
     }
 }

@@ -19,6 +19,11 @@ use Rattle.text.proofs.write.write_i32.Reads as write-i32
 use Rattle.text.proofs.write.write_bytes.Reads as write-bytes
 use Rattle.text.proofs.write.write_field.Reads as write-field
 use Rattle.text.proofs.write.write_triple.Reads as write-triple
+use Rattle.text.proofs.write.write_u64.Reads as write-u64
+use Rattle.text.proofs.write.write_number.Reads as write-number
+use Rattle.text.proofs.write.write_counted.Reads as write-counted
+use Rattle.text.proofs.write.write_bad.Reads as write-bad
+use Rattle.text.proofs.fields.bad_field.Reads as bad-field
 use Rattle.text.proofs.parts.keep.Reads as keep
 
 -- ---- reading, and what is asked
@@ -55,6 +60,9 @@ read-place-one κs args r q s t h k = h ∙ sym k
 pub read-vertices-one : (κs : _) (args : _) (r q : _) (s t : _) → read-vertices.Post κs args r s → read-vertices.Post κs args q t → r ≡ q
 read-vertices-one κs args r q s t h k = h ∙ sym k
 
+pub bad-field-one : (κs : _) (args : _) (r q : _) (s t : _) → bad-field.Post κs args r s → bad-field.Post κs args q t → r ≡ q
+bad-field-one κs args r q s t h k = h .0 ∙ sym (k .0)
+
 pub has-room-one : (κs : _) (args : _) (r q : _) (s t : _) → has-room.Post κs args r s → has-room.Post κs args q t → r ≡ q
 has-room-one κs args r q s t h k = h ∙ sym k
 
@@ -76,3 +84,15 @@ write-triple-one κs args r q s t h k = (h .0 ∙ sym (k .0), h .1 ∙ sym (k .1
 
 pub keep-one : (κs : _) (args : _) (r q : _) (s t : _) → keep.Post κs args r s → keep.Post κs args q t → (r ≡ q) × (now (s .0) ≡ now (t .0))
 keep-one κs args r q s t h k = (h .0 ∙ sym (k .0), h .1 ∙ sym (k .1))
+
+pub write-u64-one : (κs : _) (args : _) (r q : _) (s t : _) → write-u64.Post κs args r s → write-u64.Post κs args q t → (r ≡ q) × (now (s .0) ≡ now (t .0))
+write-u64-one κs args r q s t h k = (h .0 ∙ sym (k .0), h .1 ∙ sym (k .1))
+
+pub write-number-one : (κs : _) (args : _) (r q : _) (s t : _) → write-number.Post κs args r s → write-number.Post κs args q t → (r ≡ q) × (now (s .0) ≡ now (t .0))
+write-number-one κs args r q s t h k = (h .0 ∙ sym (k .0), h .1 ∙ sym (k .1))
+
+pub write-counted-one : (κs : _) (args : _) (r q : _) (s t : _) → write-counted.Post κs args r s → write-counted.Post κs args q t → (r ≡ q) × (now (s .0) ≡ now (t .0))
+write-counted-one κs args r q s t h k = (h .0 ∙ sym (k .0), h .1 ∙ sym (k .1))
+
+pub write-bad-one : (κs : _) (args : _) (r q : _) (s t : _) → write-bad.Post κs args r s → write-bad.Post κs args q t → (r ≡ q) × (now (s .0) ≡ now (t .0))
+write-bad-one κs args r q s t h k = (h .0 ∙ sym (k .0), h .1 ∙ sym (k .1))

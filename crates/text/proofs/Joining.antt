@@ -78,7 +78,7 @@ line-total (b ∷ s) = at (eqb b 9) refl (fields s) (first-field s) (line-total 
     at true e fs p h = rw e (omega arith)
     at false e fs p h = rw (e, p) (omega (arith, ap total (sym p) ∙ h))
 
--- ---- a line of six numbers has at most 71 bytes
+-- ---- a line of k numbers has at most 12 bytes for each, less one
 digits-short : (most : ℕ) (s : List ℕ) → readDigits 10 most s .ok ≡ true → length s ≤ 10
 unfolding readDigits
 digits-short most s e = by (leb 1 (length s)) (leb (length s) 10) refl e
@@ -109,11 +109,19 @@ total-short : (fs : List (List ℕ)) → ((i : ℕ) → i < length fs → length
 total-short [] h = omega arith
 total-short (f ∷ fs) h = omega (arith, h 0 (omega arith), total-short fs (λ i l. h (suc i) (omega arith)))
 
-pub vertices-line : (line : List ℕ) → exactly 6 (fields line) ≡ true → length line ≤ 71
-vertices-line line e =
-    let six : length (fields line) ≡ 6 = eqb-true (length (fields line)) 6 (and-second (numbers 6 (fields line)) (eqb (length (fields line)) 6) e) in
-    let n : numbers 6 (fields line) ≡ true = exactly-numbers 6 (fields line) e in
-    omega (arith, line-total line, total-short (fields line) (λ i h. number-short (getD (fields line) i []) (each-number 6 (fields line) n i (omega arith))))
+pub numbers-line : (k : ℕ) (line : List ℕ) → exactly k (fields line) ≡ true → length line + 1 ≤ k * 12
+numbers-line k line e =
+    let all : length (fields line) ≡ k = eqb-true (length (fields line)) k (and-second (numbers k (fields line)) (eqb (length (fields line)) k) e) in
+    let n : numbers k (fields line) ≡ true = exactly-numbers k (fields line) e in
+    omega (arith, line-total line, total-short (fields line) (λ i h. number-short (getD (fields line) i []) (each-number k (fields line) n i (omega arith))), ap (λ (m : ℕ). m * 12) all)
+
+-- so a longer one is none
+pub too-long : (k : ℕ) (line : List ℕ) → k * 12 ≤ length line → exactly k (fields line) ≡ false
+too-long k line h = by (exactly k (fields line)) refl
+  where
+    by : (t : Bool) → exactly k (fields line) ≡ t → exactly k (fields line) ≡ false
+    by true e = absurd (omega (arith, numbers-line k line e))
+    by false e = e
 
 -- so a line that was cut off behind its 72nd byte says as little as the whole of it
 pub first-cut : (n : ℕ) (s : List ℕ) → 72 ≤ n → readVertices (fields (firstLine (take n s))) ≡ readVertices (fields (firstLine s))
@@ -132,11 +140,7 @@ first-cut n s h = by (leb (until 10 s) n) refl
     cut = ap (λ (k : ℕ). take k (take n s)) (until-cut n s) ∙ take-take (min n (until 10 s)) n s (omega arith)
 
     long : (l : List ℕ) → 72 ≤ length l → record { ok = false; x1 = pos 0; y1 = pos 0; x2 = pos 0; y2 = pos 0; x3 = pos 0; y3 = pos 0 } ≡ readVertices (fields l)
-    long l k = no-vertices (fields l) (not-six (exactly 6 (fields l)) refl)
-      where
-        not-six : (t : Bool) → exactly 6 (fields l) ≡ t → exactly 6 (fields l) ≡ false
-        not-six true e = absurd (omega (arith, vertices-line l e))
-        not-six false e = e
+    long l k = no-vertices (fields l) (too-long 6 l (omega arith))
 
     by : (t : Bool) → leb (until 10 s) n ≡ t → readVertices (fields (firstLine (take n s))) ≡ readVertices (fields (firstLine s))
     by true e =

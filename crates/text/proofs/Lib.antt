@@ -4,6 +4,7 @@ pub mod Showing
 pub mod Writing
 pub mod Parting
 pub mod Numbers
+pub mod Amiss
 pub mod Streaming
 pub mod Joining
 pub mod Determined

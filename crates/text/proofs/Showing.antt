@@ -11,12 +11,13 @@ use lib.IntN.{ℤ, pos, negsuc, natAbs}
 use lib.Signed.{_≤ℤ_, _<ℤ_}
 use lib.ListN.{length, getD, length-append}
 use borrow.Author.Tests.{ltb-true, ltb-false, lt-ltb, le-ltb, le-leb}
-use mir.Syntax.{w32}
+use mir.Syntax.{w32, w64}
 use mir.Val.{Fits, SFits}
 use Rattle.whole.proofs.Difference.{lt-nat}
 use Rattle.text.specs.Digits.{isDigit, allDigits, withDigit, valueFrom, digitsValue}
 use Rattle.text.proofs.Reading.{digit-yes, signed-plain}
 use Rattle.text.proofs.Writing.{triple-parts}
+use Rattle.text.specs.Words.{numbered, counted}
 use Rattle.text.specs.Show.{lastDigit, shownBy, shown, lastDigits, shownSigned, numberField, triple}
 use Rattle.text.specs.Read.{unsigned, readDigits, readU32, readSigned, readI32, negated}
 
@@ -110,6 +111,9 @@ shown-most (suc k) n h = at (ltb n 10) refl (shown-most k (n / 10))
 pub shown-ten : (n : ℕ) → n < 2 ^ 32 → length (shown n) ≤ 10
 shown-ten n h = shown-most 9 n (le-trans h (lit≤ tt))
 
+pub shown-twenty : (n : ℕ) → n < 2 ^ 64 → length (shown n) ≤ 20
+shown-twenty n h = shown-most 19 n (le-trans h (lit≤ tt))
+
 -- ---- they are the last digits, as many as there are
 pub shown-last : (n : ℕ) → shown n ≡ lastDigits (length (shown n)) n
 shown-last n = by-digits (λ (n : ℕ). shown n ≡ lastDigits (length (shown n)) n) one more n
@@ -166,3 +170,18 @@ field-short z stop f = omega (arith, shown-eleven z f, length-append (shownSigne
 
 pub triple-short : (a b c : ℤ) (stop : ℕ) → SFits w32 a → SFits w32 b → SFits w32 c → length (triple a b c stop) ≤ 36
 triple-short a b c stop f g h = omega (arith, triple-parts a b c stop, field-short a 9 f, field-short b 9 g, field-short c stop h)
+
+pub numbered-length : (n stop : ℕ) → length (numbered n stop) ≡ length (shown n) + 1
+numbered-length n stop = length-append (shown n) (stop ∷ [])
+
+pub numbered-short : (n stop : ℕ) → Fits w32 n → length (numbered n stop) ≤ 11
+numbered-short n stop f = omega (arith, numbered-length n stop, shown-ten n (f .fits))
+
+pub numbered-wide : (n stop : ℕ) → Fits w64 n → length (numbered n stop) ≤ 21
+numbered-wide n stop f = omega (arith, numbered-length n stop, shown-twenty n (f .fits))
+
+pub counted-length : (word : List ℕ) (n : ℕ) → length (counted word n) ≡ length word + length (numbered n 10)
+counted-length word n = length-append word (numbered n 10)
+
+pub counted-short : (word : List ℕ) (n : ℕ) → Fits w32 n → length (counted word n) ≤ length word + 11
+counted-short word n f = omega (arith, counted-length word n, numbered-short n 10 f)

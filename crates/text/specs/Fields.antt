@@ -2,7 +2,7 @@
 use mathlib.Core.Bool.{Bool, true, false, cond, _&&_}
 use mathlib.Core.List.{List, [], _∷_, _++_}
 use Prim.Native.Nat.{ℕ, zero, suc, _+_}
-use lib.Dec.{eqb}
+use lib.Dec.{leb, eqb}
 use lib.IntN.{pos}
 use lib.ListN.{length, take, drop, getD}
 use Rattle.text.specs.Read.{readU32, readI32}
@@ -73,6 +73,15 @@ readVertices fs =
     cond (exactly 6 fs)
     (record { ok = true; x1 = number fs 0 .value; y1 = number fs 1 .value; x2 = number fs 2 .value; y2 = number fs 3 .value; x3 = number fs 4 .value; y3 = number fs 5 .value })
     (record { ok = false; x1 = pos 0; y1 = pos 0; x2 = pos 0; y2 = pos 0; x3 = pos 0; y3 = pos 0 })
+
+-- which of the fields is no number, counted from 1: the first such; one past the last, where there is none
+abbrev pub firstBad : List (List ℕ) → ℕ
+firstBad [] = 1
+firstBad (f ∷ fs) = cond (readI32 f .ok) (suc (firstBad fs)) 1
+
+-- what is wrong with a line that is not k numbers: which field, or 0 where there are not k fields or more than 128 bytes
+unfoldable pub badField : ℕ → List ℕ → ℕ
+badField k line = cond (leb (length line) 128 && eqb (length (fields line)) k) (firstBad (fields line)) 0
 
 -- ---- the way back: fields, put together with tabs
 abbrev pub joinedBehind : List ℕ → List (List ℕ) → List ℕ

@@ -3,3 +3,4 @@ pub mod Read
 pub mod Show
 pub mod Fields
 pub mod Lines
+pub mod Words

@@ -1,7 +1,9 @@
 // Going through a line field by field. A place in a line is that of a field's first byte; behind the last field it is the line's length and 1,
 // and once a field was not what was asked for, the length and 2. So whoever reads a line tests the last place alone.
 ghost use mathlib.Core.Path.{_≡_};
-ghost use Rattle.text.specs.Fields.{fields, nextU32, nextI32, readPlace, readVertices};
+ghost use Prim.Native.Nat.{_≤_};
+ghost use lib.ListN.{length};
+ghost use Rattle.text.specs.Fields.{fields, nextU32, nextI32, readPlace, readVertices, firstBad, badField};
 use crate::NextI32;
 use crate::NextU32;
 use crate::Place;
@@ -100,4 +102,49 @@ pub fn read_vertices(line: &[u8]) -> Vertices
         x3: x3.value,
         y3: y3.value,
     }
+}
+
+// How many fields the line has.
+fn field_count(line: &[u8]) -> usize
+    ensures { λ r. ⌜ r ≡ length (fields (now (line .entry))) ⌝ }
+{
+    let mut at = 0;
+    let mut count = 0;
+    while at <= line.len() {
+        at = part_end(line, at, b'\t') + 1;
+        count += 1;
+    }
+    count
+}
+
+// Which field is the first that is no signed number, counted from 1.
+fn first_bad(line: &[u8]) -> usize
+    ensures { λ r. ⌜ r ≡ firstBad (fields (now (line .entry))) ⌝ }
+{
+    let mut at = 0;
+    let mut count = 1;
+    while at <= line.len() {
+        let end = part_end(line, at, b'\t');
+        let field = read_i32(&line[at..end]);
+        if !field.ok {
+            return count;
+        }
+        at = end + 1;
+        count += 1;
+    }
+    count
+}
+
+// What is wrong with a line that is not `count` signed numbers: which field, counted from 1, or 0 where it has another number of fields or more than 128
+// bytes.
+pub fn bad_field(line: &[u8], count: usize) -> usize
+    ensures { λ r. ⌜ (r ≡ badField count (now (line .entry))) × (r ≤ 130) ⌝ }
+{
+    if line.len() > 128 {
+        return 0;
+    }
+    if field_count(line) != count {
+        return 0;
+    }
+    first_bad(line)
 }

@@ -4,6 +4,7 @@ mod parts;
 mod read;
 mod write;
 
+pub use fields::bad_field;
 pub use fields::next_i32;
 pub use fields::next_u32;
 pub use fields::read_place;
@@ -17,11 +18,15 @@ pub use read::read_i32;
 pub use read::read_signed;
 pub use read::read_u32;
 pub use write::has_room;
+pub use write::write_bad;
 pub use write::write_bytes;
+pub use write::write_counted;
 pub use write::write_field;
 pub use write::write_i32;
+pub use write::write_number;
 pub use write::write_triple;
 pub use write::write_u32;
+pub use write::write_u64;
 
 // What reading an unsigned number finds: the number, or 0 where there is none.
 pub struct Unsigned {

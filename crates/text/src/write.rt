@@ -5,6 +5,7 @@ ghost use lib.Dec.{leb};
 ghost use lib.IntN.{natAbs};
 ghost use lib.ListN.{length};
 ghost use lib.Seq.{sets};
+ghost use Rattle.text.specs.Words.{badLine, numbered, counted};
 ghost use Rattle.text.specs.Show.{shown, lastDigits, shownSigned, numberField, triple};
 
 // Inside the library: whether a buffer of `length` bytes that is filled up to `at` has room for `most` more.
@@ -18,7 +19,7 @@ pub fn has_room(length: usize, at: usize, most: usize) -> bool
 }
 
 // How many digits the text of `v` has.
-fn digit_count(v: u32) -> usize
+fn digit_count(v: u64) -> usize
     ensures { λ r. ⌜ r ≡ length (shown v) ⌝ }
 {
     let mut rest = v;
@@ -31,7 +32,7 @@ fn digit_count(v: u32) -> usize
 }
 
 // The last `count` digits of `v`, from the last on.
-fn put_digits(buf: &mut [u8], at: usize, count: usize, v: u32)
+fn put_digits(buf: &mut [u8], at: usize, count: usize, v: u64)
     requires { ⌜ at + count ≤ length (now buf) ⌝ }
     ensures { λ _. ⌜ now (buf .exit) ≡ sets (now (buf .entry)) at (lastDigits count v) ⌝ }
 {
@@ -45,13 +46,21 @@ fn put_digits(buf: &mut [u8], at: usize, count: usize, v: u32)
 }
 
 // Inside the library: the text of `v`.
-pub fn write_u32(buf: &mut [u8], at: usize, v: u32) -> usize
+pub fn write_u64(buf: &mut [u8], at: usize, v: u64) -> usize
     requires { ⌜ at + length (shown v) ≤ length (now buf) ⌝ }
     ensures { λ r. ⌜ (r ≡ at + length (shown v)) × (now (buf .exit) ≡ sets (now (buf .entry)) at (shown v)) ⌝ }
 {
     let count = digit_count(v);
     put_digits(buf, at, count, v);
     at + count
+}
+
+// Inside the library: the same of a number of 32 bits.
+pub fn write_u32(buf: &mut [u8], at: usize, v: u32) -> usize
+    requires { ⌜ at + length (shown v) ≤ length (now buf) ⌝ }
+    ensures { λ r. ⌜ (r ≡ at + length (shown v)) × (now (buf .exit) ≡ sets (now (buf .entry)) at (shown v)) ⌝ }
+{
+    write_u64(buf, at, v as u64)
 }
 
 // How far `v` is from 0.
@@ -108,4 +117,31 @@ pub fn write_triple(buf: &mut [u8], at: usize, a: i32, b: i32, c: i32, stop: u8)
     let second = write_field(buf, at, a, b'\t');
     let third = write_field(buf, second, b, b'\t');
     write_field(buf, third, c, stop)
+}
+
+// Inside the library: a number without a sign, and the byte `stop` behind it.
+pub fn write_number(buf: &mut [u8], at: usize, n: u64, stop: u8) -> usize
+    requires { ⌜ at + length (numbered n stop) ≤ length (now buf) ⌝ }
+    ensures { λ r. ⌜ (r ≡ at + length (numbered n stop)) × (now (buf .exit) ≡ sets (now (buf .entry)) at (numbered n stop)) ⌝ }
+{
+    let end = write_u64(buf, at, n);
+    buf[end] = stop;
+    end + 1
+}
+
+// Inside the library: a word, and a number behind it, in a line.
+pub fn write_counted(buf: &mut [u8], at: usize, word: &[u8], n: u32) -> usize
+    requires { ⌜ at + length (counted (now word) n) ≤ length (now buf) ⌝ }
+    ensures { λ r. ⌜ (r ≡ at + length (counted (now (word .entry)) n)) × (now (buf .exit) ≡ sets (now (buf .entry)) at (counted (now (word .entry)) n)) ⌝ }
+{
+    let middle = write_bytes(buf, at, word);
+    write_number(buf, middle, n as u64, b'\n')
+}
+
+// Inside the library: what is said of a line that says nothing that a program knows.
+pub fn write_bad(buf: &mut [u8], at: usize) -> usize
+    requires { ⌜ at + 9 ≤ length (now buf) ⌝ }
+    ensures { λ r. ⌜ (r ≡ at + 9) × (now (buf .exit) ≡ sets (now (buf .entry)) at badLine) ⌝ }
+{
+    write_bytes(buf, at, b"bad line\n")
 }

@@ -12,11 +12,17 @@ slice-aggregate-read-line c = search needs
 read-line-requires : tie.Need-read-line-requires
 read-line-requires c κs = search needs
 
+complain-requires : tie.Need-complain-requires
+complain-requires c κs = search needs
+
+returns : tie.Need-returns
+returns c = search needs
+
 array-share-prefix-input : tie.Need-array-share-prefix-input
 array-share-prefix-input c = search needs
 
 slice-aggregate-answer : tie.Need-slice-aggregate-answer
-slice-aggregate-answer c = sym (length-take-le _ _ (omega (arith, c .before .before .read-line .ensures)))
+slice-aggregate-answer c = sym (length-take-le _ _ (omega (arith, c .before .before .before .read-line .ensures .0 .most)))
 
 slice-aggregate-answer-2 : tie.Need-slice-aggregate-answer-2
 slice-aggregate-answer-2 c = search needs
@@ -24,8 +30,8 @@ slice-aggregate-answer-2 c = search needs
 answer-requires : tie.Need-answer-requires
 answer-requires c κs = search needs
 
-returns : tie.Need-returns
-returns c = search needs
+returns-2 : tie.Need-returns-2
+returns-2 c = search needs
 
 pub main-spec : {M : Type 1} → statement M
 main-spec =
@@ -33,8 +39,10 @@ main-spec =
     (tie.spec
     slice-aggregate-read-line
     read-line-requires
+    complain-requires
+    returns
     array-share-prefix-input
     slice-aggregate-answer
     slice-aggregate-answer-2
     answer-requires
-    returns)
+    returns-2)

@@ -1,58 +1,69 @@
--- `spans::read_line` goes on only behind what was read, and a turn that reads nothing ends it. Assumes nothing.
-use mathlib.Core.Path.{_≡_, sym, _∙_}
-use Prim.Native.Nat.{_+_, _-_, _≤_}
+-- `spans::read_line` goes on until a line is there or no turn is to come; the turns that are left get fewer. Assumes nothing.
+use mathlib.Core.Path.{_≡_, sym, ap, subst, _∙_}
+use mathlib.Core.Bool.{Bool, true, false, not, _&&_}
 use native.Mathlib.Omega.{arith}
 use lib.ListN.{length}
-use lib.Seq.{length-take-le}
 use borrow.Author.Needs.{needs}
+use borrow.Author.Tests.{not-true, not-false}
+use Rattle.streams.specs.State.{Within, goesOn}
+use Rattle.streams.specs.Refill.{whole}
+use Rattle.streams.proofs.Refilling.{refilled-within}
+use Rattle.streams.proofs.Run.{some-turns, refilled-turns}
 use Rattle.spans.proofs.read_line.Statement.{statement}
 use Rattle.spans.proofs.read_line.Tie as tie
 
 abbrev Inv-loop : tie.InvT-loop
-Inv-loop input₀ end₀ input end = (length input ≡ length input₀) × (end ≤ length input₀)
+Inv-loop input₀ st₀ input st = Within st × (length input ≡ 65536)
 
 abbrev μ-loop : tie.MeasureT-loop
-μ-loop input₀ end₀ input end = length input₀ - end
+μ-loop input₀ st₀ input st = st .turns
+
+start-requires : tie.Need-start-requires Inv-loop μ-loop
+start-requires c κs = search needs
 
 loop-holds : tie.Need-loop-holds Inv-loop μ-loop
-loop-holds c = search needs
+loop-holds c = (subst Within (sym (c .start .ensures)) (record { ahead = omega arith; most = omega arith }), c .before .before .pre)
 
-read-more-requires : tie.Need-read-more-requires Inv-loop μ-loop
-read-more-requires c κs = omega (arith, c .before .loop .inv .0, c .before .loop .inv .1)
+has-line-requires : tie.Need-has-line-requires Inv-loop μ-loop
+has-line-requires c κs = c .before .loop .inv
 
 same-length : tie.Need-same-length Inv-loop μ-loop
-same-length c = c .before .before .before .read-more .kept .0 ∙ c .before .before .before .before .before .loop .inv .0
+same-length c = c .before .before .before .loop .inv .1 ∙ sym (c .before .before .before .before .before .before .pre)
 
 returns : tie.Need-returns Inv-loop μ-loop
-returns c = c .before .before .before .before .before .loop .inv .1
+returns c =
+    let l = c .before .before .before .loop in
+    (l .inv .0, ap (λ (b : Bool). not b && goesOn (l .st)) (sym (c .before .has-line .ensures) ∙ c .if1 .taken))
 
--- what was read lies within the input
-within : (c : tie.After-read-more Inv-loop μ-loop) → c .before .before .loop .end + c .read-more .result ≤ length (c .read-more .last .0)
-within c = omega (arith, c .read-more .ensures, c .read-more .kept .0)
-
-add-next : tie.Need-add-next Inv-loop μ-loop
-add-next c = omega (arith, c .before .before .before .read-more .ensures)
-
-slice-reshare-prefix-part-end : tie.Need-slice-reshare-prefix-part-end Inv-loop μ-loop
-slice-reshare-prefix-part-end c = omega (arith, within (c .before .before .before))
-
-slice-aggregate-part-end : tie.Need-slice-aggregate-part-end Inv-loop μ-loop
-slice-aggregate-part-end c = sym (length-take-le _ _ (within (c .before .before .before .before)))
-
-part-end-requires : tie.Need-part-end-requires Inv-loop μ-loop
-part-end-requires c κs = omega (arith, within (c .before .before .before .before), length-take-le (c .before .before .before .before .before .before .loop .end + c .before .before .before .before .read-more .result) (c .before .before .before .before .read-more .last .0) (within (c .before .before .before .before)))
+goes-on-requires : tie.Need-goes-on-requires Inv-loop μ-loop
+goes-on-requires c κs = search needs
 
 same-length-2 : tie.Need-same-length-2 Inv-loop μ-loop
-same-length-2 c = c .before .before .before .before .before .before .read-more .kept .0 ∙ c .before .before .before .before .before .before .before .before .loop .inv .0
+same-length-2 c = c .before .before .before .before .before .loop .inv .1 ∙ sym (c .before .before .before .before .before .before .before .before .pre)
+
+-- no turn is to come
+over : (b g : Bool) → b ≡ false → g ≡ false → (not b && g) ≡ false
+over b g e f = rw (e, f)
 
 returns-2 : tie.Need-returns-2 Inv-loop μ-loop
-returns-2 c = omega (arith, c .before .before .before .before .before .before .read-more .ensures, c .before .before .before .before .before .before .before .before .loop .inv .0)
+returns-2 c =
+    let l = c .before .before .before .before .before .loop in
+    (l .inv .0, over (whole (l .input) (l .st)) (goesOn (l .st)) (sym (c .before .before .before .has-line .ensures) ∙ c .before .before .if1 .left) (sym (c .before .goes-on .ensures) ∙ not-true _ (c .if2 .taken)))
+
+refill-requires : tie.Need-refill-requires Inv-loop μ-loop
+refill-requires c κs =
+    let l = c .before .before .before .before .before .before .loop in
+    (l .inv .0, some-turns (l .st) (sym (c .before .before .goes-on .ensures) ∙ not-false _ (c .before .if2 .left)), l .inv .1)
 
 loop-less : tie.Need-loop-less Inv-loop μ-loop
-loop-less c = omega (arith, c .before .before .before .if1 .left, c .before .before .before .before .before .before .read-more .ensures, c .before .before .before .before .before .before .before .before .loop .inv .0)
+loop-less c =
+    let l = c .before .before .before .before .before .before .before .before .before .loop in
+    omega (arith, some-turns (l .st) (sym (c .before .before .before .before .before .goes-on .ensures) ∙ not-false _ (c .before .before .before .before .if2 .left)), refilled-turns (l .input) (l .st) (c .before .before .refill .result) (c .before .before .refill .last .0) (c .before .before .refill .ensures))
 
 loop-again : tie.Need-loop-again Inv-loop μ-loop
-loop-again c = (c .before .before .before .before .before .before .read-more .kept .0 ∙ c .before .before .before .before .before .before .before .before .loop .inv .0, omega (arith, c .before .before .before .before .before .before .read-more .ensures, c .before .before .before .before .before .before .before .before .loop .inv .0))
+loop-again c =
+    let l = c .before .before .before .before .before .before .before .before .before .loop in
+    (refilled-within (l .input) (l .st) (c .before .before .refill .result) (c .before .before .refill .last .0) (l .inv .0) (c .before .before .refill .ensures), c .before .before .refill .kept .0 ∙ l .inv .1)
 
 pub read-line-spec : {M : Type 1} → statement M
 read-line-spec =
@@ -60,15 +71,14 @@ read-line-spec =
     (tie.spec
     Inv-loop
     μ-loop
+    start-requires
     loop-holds
-    read-more-requires
+    has-line-requires
     same-length
     returns
-    add-next
-    slice-reshare-prefix-part-end
-    slice-aggregate-part-end
-    part-end-requires
+    goes-on-requires
     same-length-2
     returns-2
+    refill-requires
     loop-less
     loop-again)

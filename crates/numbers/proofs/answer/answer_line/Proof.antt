@@ -9,8 +9,10 @@ use Rattle.text.specs.declared.Place.{Place}
 use Rattle.text.specs.declared.Vertices.{Vertices}
 use Rattle.text.specs.Fields.{fields, nextU32, readPlace, readVertices}
 use Rattle.text.proofs.Writing.{wrote-as}
-use Rattle.numbers.specs.Answer.{verticesLine, placeLine, countLine}
-use Rattle.numbers.proofs.Answers.{answer-long, answer-vertices, answer-place, answer-count, answer-bad, vertices-short, place-short, count-short, next-fits}
+use Rattle.text.specs.Words.{numbered}
+use Rattle.text.proofs.Showing.{numbered-short}
+use Rattle.numbers.specs.Answer.{verticesLine, placeLine}
+use Rattle.numbers.proofs.Answers.{answer-long, answer-vertices, answer-place, answer-count, answer-bad, vertices-short, place-short, next-fits}
 use Rattle.numbers.proofs.answer.answer_line.Statement.{statement}
 use Rattle.numbers.proofs.answer.answer_line.Tie as tie
 
@@ -87,22 +89,25 @@ returns-4 c =
     (answer-bad (a .line .now) (c .before .before .before .before .before .before .before .before .before .before .before .if1 .left) (no-vertices (c .before .before .before .before .before .before .before .before .before)) (no-place (c .before .before .before .before .before .before .before)) (λ e. c .before .before .before .before .if4 .taken (ap (λ (n : NextU32). n .next) (c .before .before .before .before .before .before .next-u32 .ensures) ∙ e)))
     (c .before .before .write-bad2 .ensures)
 
-write-count-requires : tie.Need-write-count-requires
-write-count-requires c κs =
-    let line = c .before .before .before .before .before .before .before .before .before .before .before .args .line .now in
-    omega (arith, c .before .before .before .before .before .before .before .before .before .before .before .pre, count-short (nextU32 line 0 .value) (next-fits line 0), ap (λ (n : NextU32). length (countLine (n .value))) (c .before .before .before .next-u32 .ensures))
+cast-write-number : tie.Need-cast-write-number
+cast-write-number c = search needs
+
+write-number-requires : tie.Need-write-number-requires
+write-number-requires c κs =
+    let line = c .before .before .before .before .before .before .before .before .before .before .before .before .args .line .now in
+    omega (arith, c .before .before .before .before .before .before .before .before .before .before .before .before .pre, numbered-short (nextU32 line 0 .value) 10 (next-fits line 0), ap (λ (n : NextU32). length (numbered (n .value) 10)) (c .before .before .before .before .next-u32 .ensures))
 
 same-length-5 : tie.Need-same-length-5
 same-length-5 c = search needs
 
 returns-5 : tie.Need-returns-5
 returns-5 c =
-    let a = c .before .before .before .before .before .before .before .before .before .before .before .before .before .before .args in
-    let e = c .before .before .before .before .before .before .next-u32 .ensures in
+    let a = c .before .before .before .before .before .before .before .before .before .before .before .before .before .before .before .args in
+    let e = c .before .before .before .before .before .before .before .next-u32 .ensures in
     wrote-as (a .out .now) (a .at)
-    (ap (λ (n : NextU32). countLine (n .value)) e
-    ∙ answer-count (a .line .now) (c .before .before .before .before .before .before .before .before .before .before .before .if1 .left) (no-vertices (c .before .before .before .before .before .before .before .before .before)) (no-place (c .before .before .before .before .before .before .before)) (ap (λ (n : NextU32). n .next) (sym e) ∙ c .before .before .before .before .if4 .left))
-    (c .before .before .write-count .ensures)
+    (ap (λ (n : NextU32). numbered (n .value) 10) e
+    ∙ answer-count (a .line .now) (c .before .before .before .before .before .before .before .before .before .before .before .before .if1 .left) (no-vertices (c .before .before .before .before .before .before .before .before .before .before)) (no-place (c .before .before .before .before .before .before .before .before)) (ap (λ (n : NextU32). n .next) (sym e) ∙ c .before .before .before .before .before .if4 .left))
+    (c .before .before .write-number .ensures)
 
 pub answer-line-spec : {M : Type 1} → statement M
 answer-line-spec =
@@ -124,6 +129,7 @@ answer-line-spec =
     write-bad-requires-2
     same-length-4
     returns-4
-    write-count-requires
+    cast-write-number
+    write-number-requires
     same-length-5
     returns-5)

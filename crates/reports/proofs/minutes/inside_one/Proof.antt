@@ -6,7 +6,8 @@ use borrow.Author.Needs.{needs}
 use Rattle.whole.proofs.Machine.{field-back}
 use Rattle.geometry.specs.declared.Verdict.{Verdict}
 use Rattle.geometry.specs.Answer.{verdict}
-use Rattle.triangle.specs.Answer.{vertexRefusal}
+use Rattle.refusals.specs.First.{first}
+use Rattle.triangle.specs.Answer.{vertexTests}
 use Rattle.triangle.specs.Triangle.{contained}
 use Rattle.reports.specs.Corners.{corner1, corner2, corner3, cornersRefusal}
 use Rattle.reports.specs.Minutes.{insideOne}
@@ -27,7 +28,7 @@ asked c =
     let p = c .before .before .before .args .p in
     let x = field-back w32 (p .x) (c .before .struct-told .given .1 .0 .1) in
     let y = field-back w32 (p .y) (c .before .struct-told .given .1 .1 .0 .1) in
-    c .contains .ensures ∙ (λ i. verdict (vertexRefusal (e i .a) (e i .b) (e i .c)) (contained (e i .a) (e i .b) (e i .c) (x i, y i)))
+    c .contains .ensures ∙ (λ i. verdict (first (vertexTests (e i .a) (e i .b) (e i .c))) (contained (e i .a) (e i .b) (e i .c) (x i, y i)))
 
 returns : tie.Need-returns
 unfolding insideOne

@@ -1,12 +1,12 @@
 -- `reports::minutes::write_count` makes the tests of `countLine`. Assumes nothing.
-use mathlib.Core.Path.{_∙_}
-use mathlib.Core.List.{_++_}
 use native.Mathlib.Omega.{arith}
+use mir.Syntax.{w32, w64}
+use mir.Val.{Fits}
 use borrow.Author.Needs.{needs}
-use Rattle.text.proofs.Writing.{wrote-then, wrote-as}
-use Rattle.reports.specs.Words.{refused, badTab, inside, numbered}
-use Rattle.reports.proofs.Report.{numbered-short, counted-short}
-use Rattle.reports.proofs.Counting.{line-long, line-refused, line-spoiled, line-inside}
+use Rattle.text.proofs.Showing.{counted-short}
+use Rattle.text.proofs.Writing.{wrote-as}
+use Rattle.reports.specs.Words.{refused, badTab, inside}
+use Rattle.reports.proofs.Counting.{line-long, line-refused, line-spoiled, line-inside, pair-short}
 use Rattle.reports.proofs.minutes.write_count.Statement.{statement}
 use Rattle.reports.proofs.minutes.write_count.Tie as tie
 
@@ -40,49 +40,48 @@ returns-2 c =
     let w = wrote-as (g .out .now) (g .at) (line-refused (g .k) (c .before .before .before .before .before .before .before .if1 .left) (c .before .before .before .before .before .if2 .taken)) (c .before .before .write-counted .ensures) in
     (w .0, w .1, omega (arith, c .before .before .write-counted .ensures .0, counted-short refused (g .k .number) (c .before .before .before .before .before .before .struct-known .given .0)))
 
-slice-aggregate-write-counted-2 : tie.Need-slice-aggregate-write-counted-2
-slice-aggregate-write-counted-2 c = search needs
+slice-aggregate-write-pair : tie.Need-slice-aggregate-write-pair
+slice-aggregate-write-pair c = search needs
 
-write-counted-requires-2 : tie.Need-write-counted-requires-2
-write-counted-requires-2 c κs = omega (arith, c .before .before .before .before .before .before .before .before .pre, counted-short badTab (c .before .before .before .before .before .before .before .before .args .k .bad) (c .before .before .before .struct-known2 .given .1 .1 .0))
+cast-write-pair : tie.Need-cast-write-pair
+cast-write-pair c = search needs
+
+write-pair-requires : tie.Need-write-pair-requires
+write-pair-requires c κs = omega (arith, c .before .before .before .before .before .before .before .before .before .pre, pair-short badTab (c .before .before .before .before .before .before .before .before .before .args .k .bad) (c .before .before .before .before .before .before .before .before .before .args .k .field) (c .struct-known3 .given .1 .1 .0) (c .struct-known3 .given .1 .1 .1 .0))
 
 same-length-3 : tie.Need-same-length-3
 same-length-3 c = search needs
 
 returns-3 : tie.Need-returns-3
 returns-3 c =
-    let g = c .before .before .before .before .before .before .before .before .before .before .before .args in
-    let w = wrote-as (g .out .now) (g .at) (line-spoiled (g .k) (c .before .before .before .before .before .before .before .before .before .if1 .left) (c .before .before .before .before .before .before .before .if2 .left) (c .before .before .before .before .before .if3 .taken)) (c .before .before .write-counted2 .ensures) in
-    (w .0, w .1, omega (arith, c .before .before .write-counted2 .ensures .0, counted-short badTab (g .k .bad) (c .before .before .before .before .before .before .struct-known2 .given .1 .1 .0)))
+    let g = c .before .before .before .before .before .before .before .before .before .before .before .before .args in
+    let w = wrote-as (g .out .now) (g .at) (line-spoiled (g .k) (c .before .before .before .before .before .before .before .before .before .before .if1 .left) (c .before .before .before .before .before .before .before .before .if2 .left) (c .before .before .before .before .before .before .if3 .taken)) (c .before .before .write-pair .ensures) in
+    (w .0, w .1, omega (arith, c .before .before .write-pair .ensures .0, pair-short badTab (g .k .bad) (g .k .field) (c .before .before .before .struct-known3 .given .1 .1 .0) (c .before .before .before .struct-known3 .given .1 .1 .1 .0)))
 
-slice-aggregate-write-bytes-2 : tie.Need-slice-aggregate-write-bytes-2
-slice-aggregate-write-bytes-2 c = search needs
+slice-aggregate-write-pair-2 : tie.Need-slice-aggregate-write-pair-2
+slice-aggregate-write-pair-2 c = search needs
 
-write-bytes-requires-2 : tie.Need-write-bytes-requires-2
-write-bytes-requires-2 c κs = search needs
+cast-write-pair-2 : tie.Need-cast-write-pair-2
+cast-write-pair-2 c = search needs
 
-write-number-requires : tie.Need-write-number-requires
-write-number-requires c κs = omega (arith, c .before .before .before .before .before .before .before .before .before .before .before .before .pre, c .before .before .before .write-bytes2 .ensures .0, c .before .before .before .write-bytes2 .kept .0, numbered-short (c .before .before .before .before .before .before .before .before .before .before .before .before .args .k .inside) 9 (c .before .before .before .before .before .before .before .struct-known2 .given .1 .1 .1 .0))
+cast-write-pair-3 : tie.Need-cast-write-pair-3
+cast-write-pair-3 c = search needs
 
-write-number-requires-2 : tie.Need-write-number-requires-2
-write-number-requires-2 c κs =
-    let s = c .before .before .before .before .before .before .before .before .before .before .before .before .before .before .before .before in
-    let g = c .before .before .before .before .before .before .before .before .before .before .before .struct-known2 .given .1 .1 .1 in
-    omega (arith, s .pre, c .before .before .before .before .before .before .before .write-bytes2 .ensures .0, c .before .before .before .before .before .before .before .write-bytes2 .kept .0, c .before .before .before .write-number .ensures .0, c .before .before .before .write-number .kept .0, numbered-short (s .args .k .inside) 9 (g .0), numbered-short (s .args .k .samples) 10 (g .1 .0))
+-- 32 bits are 64
+wide : (c : tie.After-struct-known5) → Fits w64 (c .before .before .before .before .before .before .before .before .before .before .args .k .inside)
+wide c = record { fits = omega (arith, c .struct-known5 .given .1 .1 .1 .1 .0 .fits) }
+
+write-pair-requires-2 : tie.Need-write-pair-requires-2
+write-pair-requires-2 c κs = omega (arith, c .before .before .before .before .before .before .before .before .before .before .pre, pair-short inside (c .before .before .before .before .before .before .before .before .before .before .args .k .inside) (c .before .before .before .before .before .before .before .before .before .before .args .k .samples) (wide c) (c .struct-known5 .given .1 .1 .1 .1 .1 .0))
 
 same-length-4 : tie.Need-same-length-4
-same-length-4 c = c .before .before .write-number2 .kept .0 ∙ (c .before .before .before .before .before .before .write-number .kept .0 ∙ c .before .before .before .before .before .before .before .before .before .before .write-bytes2 .kept .0)
+same-length-4 c = search needs
 
 returns-4 : tie.Need-returns-4
 returns-4 c =
-    let g = c .before .before .before .before .before .before .before .before .before .before .before .before .before .before .before .before .before .before .before .args in
-    let f = c .before .before .before .before .before .before .before .before .before .before .before .before .before .before .struct-known2 .given .1 .1 .1 in
-    let w =
-    wrote-as (g .out .now) (g .at) (line-inside (g .k) (c .before .before .before .before .before .before .before .before .before .before .before .before .before .before .before .before .before .if1 .left) (c .before .before .before .before .before .before .before .before .before .before .before .before .before .before .before .if2 .left) (c .before .before .before .before .before .before .before .before .before .before .before .before .before .if3 .left))
-    (wrote-then (g .out .now) (g .at) inside (numbered (g .k .inside) 9 ++ numbered (g .k .samples) 10) (c .before .before .before .before .before .before .before .before .before .before .write-bytes2 .ensures)
-    (wrote-then (c .before .before .before .before .before .before .before .before .before .before .write-bytes2 .last .0) (c .before .before .before .before .before .before .before .before .before .before .write-bytes2 .result) (numbered (g .k .inside) 9) (numbered (g .k .samples) 10) (c .before .before .before .before .before .before .write-number .ensures) (c .before .before .write-number2 .ensures)))
-    in
-    (w .0, w .1, omega (arith, c .before .before .before .before .before .before .before .before .before .before .write-bytes2 .ensures .0, c .before .before .before .before .before .before .write-number .ensures .0, c .before .before .write-number2 .ensures .0, numbered-short (g .k .inside) 9 (f .0), numbered-short (g .k .samples) 10 (f .1 .0)))
+    let g = c .before .before .before .before .before .before .before .before .before .before .before .before .before .args in
+    let w = wrote-as (g .out .now) (g .at) (line-inside (g .k) (c .before .before .before .before .before .before .before .before .before .before .before .if1 .left) (c .before .before .before .before .before .before .before .before .before .if2 .left) (c .before .before .before .before .before .before .before .if3 .left)) (c .before .before .write-pair2 .ensures) in
+    (w .0, w .1, omega (arith, c .before .before .write-pair2 .ensures .0, pair-short inside (g .k .inside) (g .k .samples) (wide (c .before .before .before)) (c .before .before .before .struct-known5 .given .1 .1 .1 .1 .1 .0)))
 
 pub write-count-spec : {M : Type 1} → statement M
 write-count-spec =
@@ -96,13 +95,14 @@ write-count-spec =
     write-counted-requires
     same-length-2
     returns-2
-    slice-aggregate-write-counted-2
-    write-counted-requires-2
+    slice-aggregate-write-pair
+    cast-write-pair
+    write-pair-requires
     same-length-3
     returns-3
-    slice-aggregate-write-bytes-2
-    write-bytes-requires-2
-    write-number-requires
-    write-number-requires-2
+    slice-aggregate-write-pair-2
+    cast-write-pair-2
+    cast-write-pair-3
+    write-pair-requires-2
     same-length-4
     returns-4)

@@ -2,23 +2,21 @@
 use native.Mathlib.Omega.{arith}
 use borrow.Author.Needs.{needs}
 use borrow.Author.Tests.{not-true, not-false}
+use Rattle.text.proofs.Showing.{counted-short}
 use Rattle.text.proofs.Writing.{wrote-as}
 use Rattle.reports.specs.Words.{refused, rows}
-use Rattle.reports.proofs.Report.{heading-bad, heading-refused, heading-rows, counted-short}
+use Rattle.reports.proofs.Report.{heading-bad, heading-refused, heading-rows}
 use Rattle.reports.proofs.spans.write_heading.Statement.{statement}
 use Rattle.reports.proofs.spans.write_heading.Tie as tie
 
-slice-aggregate-write-bytes : tie.Need-slice-aggregate-write-bytes
-slice-aggregate-write-bytes c = search needs
-
-write-bytes-requires : tie.Need-write-bytes-requires
-write-bytes-requires c κs = search needs
+write-bad-requires : tie.Need-write-bad-requires
+write-bad-requires c κs = search needs
 
 same-length : tie.Need-same-length
 same-length c = search needs
 
 returns : tie.Need-returns
-returns c = let g = c .before .before .before .before .before .before .before .args in wrote-as (g .out .now) (g .at) (heading-bad (g .ok) (g .rows) (not-true _ (c .before .before .before .before .before .if1 .taken))) (c .before .before .write-bytes .ensures)
+returns c = let g = c .before .before .before .before .before .before .args in wrote-as (g .out .now) (g .at) (heading-bad (g .ok) (g .rows) (not-true _ (c .before .before .before .before .if1 .taken))) (c .before .before .write-bad .ensures)
 
 slice-aggregate-write-counted : tie.Need-slice-aggregate-write-counted
 slice-aggregate-write-counted c = search needs
@@ -52,8 +50,7 @@ pub write-heading-spec : {M : Type 1} → statement M
 write-heading-spec =
     tie.close
     (tie.spec
-    slice-aggregate-write-bytes
-    write-bytes-requires
+    write-bad-requires
     same-length
     returns
     slice-aggregate-write-counted

@@ -5,7 +5,7 @@ use native.Mathlib.Omega.{arith}
 use lib.ListN.{length, length-append}
 use borrow.Author.Needs.{needs}
 use Rattle.text.specs.Show.{shown}
-use Rattle.text.proofs.Showing.{shown-one, shown-more, shown-some, shown-ten}
+use Rattle.text.proofs.Showing.{shown-one, shown-more, shown-some, shown-twenty}
 use Rattle.text.proofs.write.digit_count.Statement.{statement}
 use Rattle.text.proofs.write.digit_count.Tie as tie
 
@@ -19,7 +19,7 @@ loop-holds : tie.Need-loop-holds Inv-loop μ-loop
 loop-holds c = search needs
 
 add-count : tie.Need-add-count Inv-loop μ-loop
-add-count c = omega (arith, shown-ten _ (c .before .before .fits .v .fits), shown-some (c .before .loop .rest))
+add-count c = omega (arith, shown-twenty _ (c .before .before .fits .v .fits), shown-some (c .before .loop .rest))
 
 loop-less : tie.Need-loop-less Inv-loop μ-loop
 loop-less c = search needs

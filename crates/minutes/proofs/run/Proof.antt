@@ -1,0 +1,118 @@
+-- `minutes::run` stands within its buffer from turn to turn, and the turns that are left get fewer. Assumes nothing.
+use mathlib.Core.Path.{_≡_, sym, ap, _∙_}
+use mathlib.Core.Bool.{true, false}
+use mathlib.Core.List.{List}
+use Prim.Native.Nat.{ℕ}
+use native.Mathlib.Omega.{arith}
+use borrow.Author.Needs.{needs}
+use Rattle.streams.specs.declared.State.{State}
+use Rattle.streams.specs.State.{goesOn, emptied}
+use Rattle.streams.proofs.Run.{some-turns, refilled-turns}
+use Rattle.reports.specs.declared.Tally.{Tally}
+use Rattle.minutes.specs.Counted.{told}
+use Rattle.minutes.proofs.Turns.{Running, starts, next-within, same-turns, runs-on}
+use Rattle.minutes.proofs.run.Statement.{statement}
+use Rattle.minutes.proofs.run.Tie as tie
+
+abbrev Inv-loop : tie.InvT-loop
+Inv-loop input₀ out st₀ tally₀ input st tally = Running out st input tally
+
+abbrev μ-loop : tie.MeasureT-loop
+μ-loop input₀ out st₀ tally₀ input st tally = st .turns
+
+start-requires : tie.Need-start-requires Inv-loop μ-loop
+start-requires c κs = search needs
+
+no-lines-requires : tie.Need-no-lines-requires Inv-loop μ-loop
+no-lines-requires c κs = search needs
+
+loop-holds : tie.Need-loop-holds Inv-loop μ-loop
+loop-holds c = starts (c .before .before .before .before .args .out .now) (c .before .start .result) (c .before .before .before .before .args .input .now) (c .no-lines .result) (c .before .start .ensures) (c .no-lines .ensures) (c .before .before .before .before .pre .0)
+
+goes-on-requires : tie.Need-goes-on-requires Inv-loop μ-loop
+goes-on-requires c κs = search needs
+
+count-some-requires : tie.Need-count-some-requires Inv-loop μ-loop
+count-some-requires c κs = let l = c .before .before .before .loop in (l .inv .within, l .inv .size, l .inv .few)
+
+stands-at-requires : tie.Need-stands-at-requires Inv-loop μ-loop
+stands-at-requires c κs = search needs
+
+-- a turn
+on : (c : tie.Then1 Inv-loop μ-loop) → goesOn (c .before .before .loop .st) ≡ true
+on c = sym (c .before .goes-on .ensures) ∙ c .if1 .taken
+
+refill-requires : tie.Need-refill-requires Inv-loop μ-loop
+refill-requires c κs =
+    let l = c .before .before .before .before .before .before .before .loop in
+    let s = c .before .before .before .count-some in
+    let m : ℕ × Tally = (s .result .next, s .result .tally) in (
+      next-within (c .before .before .before .before .before .before .before .before .before .before .before .before .args .out .now) (l .st) (l .input) (l .tally) (l .inv) m (s .ensures) (c .before .stands-at .result) (c .before .stands-at .ensures),
+      omega (arith, some-turns (l .st) (on (c .before .before .before .before .before)), same-turns (c .before .before .before .before .before .before .before .before .before .before .before .before .args .out .now) (l .st) (l .input) (l .tally) (l .inv) m (s .ensures) (c .before .stands-at .result) (c .before .stands-at .ensures)),
+      l .inv .size,
+    )
+
+loop-less : tie.Need-loop-less Inv-loop μ-loop
+loop-less c =
+    let l = c .before .before .before .before .before .before .before .before .before .before .loop in
+    let s = c .before .before .before .before .before .before .count-some in
+    omega (arith, some-turns (l .st) (on (c .before .before .before .before .before .before .before .before)), same-turns (c .before .before .before .before .before .before .before .before .before .before .before .before .before .before .before .args .out .now) (l .st) (l .input) (l .tally) (l .inv) (s .result .next, s .result .tally) (s .ensures) (c .before .before .before .before .stands-at .result) (c .before .before .before .before .stands-at .ensures), refilled-turns (l .input) (c .before .before .before .before .stands-at .result) (c .before .before .refill .result) (c .before .before .refill .last .0) (c .before .before .refill .ensures))
+
+loop-again : tie.Need-loop-again Inv-loop μ-loop
+loop-again c =
+    let l = c .before .before .before .before .before .before .before .before .before .before .loop in
+    let s = c .before .before .before .before .before .before .count-some in
+    runs-on (c .before .before .before .before .before .before .before .before .before .before .before .before .before .before .before .args .out .now) (l .st) (l .input) (l .tally) (l .inv) (s .result .next, s .result .tally) (s .ensures) (c .before .before .before .before .stands-at .result) (c .before .before .before .before .stands-at .ensures) (c .before .before .refill .result) (c .before .before .refill .last .0) (on (c .before .before .before .before .before .before .before .before)) (c .before .before .refill .kept .0) (c .before .before .refill .ensures)
+
+count-last-requires : tie.Need-count-last-requires Inv-loop μ-loop
+count-last-requires c κs = let l = c .before .before .before .loop in (l .inv .within, l .inv .size, l .inv .few)
+
+tell-requires : tie.Need-tell-requires Inv-loop μ-loop
+tell-requires c κs = c .before .before .before .before .before .before .before .before .before .before .before .pre .1
+
+empty-requires : tie.Need-empty-requires Inv-loop μ-loop
+empty-requires c κs = omega (arith, c .before .before .before .tell .ensures .1, c .before .before .before .tell .kept .0, c .before .before .before .before .before .before .before .before .before .before .before .before .before .before .before .pre .1)
+
+same-length : tie.Need-same-length Inv-loop μ-loop
+same-length c = c .before .before .before .before .before .before .before .before .before .before .before .loop .inv .size ∙ sym (c .before .before .before .before .before .before .before .before .before .before .before .before .before .before .before .before .pre .0)
+
+same-length-2 : tie.Need-same-length-2 Inv-loop μ-loop
+same-length-2 c = search needs
+
+returns : tie.Need-returns Inv-loop μ-loop
+returns c =
+    let l = c .before .before .before .before .before .before .before .before .before .before .before .loop in
+    let out = c .before .before .before .before .before .before .before .before .before .before .before .before .before .before .before .before .args .out .now in
+    let w = c .empty .result .unwritten in
+    record {
+      st = l .st;
+      input = l .input;
+      left = (l .tally, out);
+      ran = l .inv .ran;
+      over = sym (c .before .before .before .before .before .before .before .before .before .before .goes-on .ensures) ∙ c .before .before .before .before .before .before .before .before .before .if1 .left;
+      done =
+          c .empty .ensures ∙ ap (λ (p : State × List ℕ). emptied (p .0) w) (c .before .before .before .before .tell .ensures .0)
+          ∙ ap (λ (t : Tally). emptied (told (l .st) (t .count) out .0) w) (c .before .before .before .before .before .before .before .count-last .ensures);
+    }
+
+pub run-spec : {M : Type 1} → statement M
+run-spec =
+    tie.close
+    (tie.spec
+    Inv-loop
+    μ-loop
+    start-requires
+    no-lines-requires
+    loop-holds
+    goes-on-requires
+    count-some-requires
+    stands-at-requires
+    refill-requires
+    loop-less
+    loop-again
+    count-last-requires
+    tell-requires
+    empty-requires
+    same-length
+    same-length-2
+    returns)

@@ -1,0 +1,61 @@
+-- `reports::minutes::with_line` makes the tests of `withLine`. Assumes nothing.
+use mathlib.Core.Path.{_≡_, sym, ap, _∙_}
+use Prim.Native.Nat.{ℕ, _+_}
+use native.Mathlib.Omega.{arith}
+use borrow.Author.Needs.{needs}
+use borrow.Author.Tests.{not-true, not-false}
+use Rattle.text.specs.declared.Place.{Place}
+use Rattle.reports.specs.Minutes.{withSample, badAt}
+use Rattle.reports.proofs.Counting.{line-settled, line-good, line-bad}
+use Rattle.reports.proofs.minutes.with_line.Statement.{statement}
+use Rattle.reports.proofs.minutes.with_line.Tie as tie
+
+is-counting-requires : tie.Need-is-counting-requires
+is-counting-requires c κs = search needs
+
+returns : tie.Need-returns
+returns c = line-settled (c .before .before .before .args .v) (c .before .before .before .args .k) (c .before .before .before .args .line .now) (sym (c .before .is-counting .ensures) ∙ not-true _ (c .if1 .taken))
+
+read-place-requires : tie.Need-read-place-requires
+read-place-requires c κs = search needs
+
+with-sample-requires : tie.Need-with-sample-requires
+with-sample-requires c κs = search needs
+
+returns-2 : tie.Need-returns-2
+returns-2 c =
+    let e = c .before .before .read-place .ensures in
+    c .with-sample .ensures ∙ ap (withSample (c .before .before .before .before .before .before .args .v) (c .before .before .before .before .before .before .args .k)) e
+    ∙ line-good (c .before .before .before .before .before .before .args .v) (c .before .before .before .before .before .before .args .k) (c .before .before .before .before .before .before .args .line .now) (sym (c .before .before .before .before .is-counting .ensures) ∙ not-false _ (c .before .before .before .if1 .left)) (ap (λ (p : Place). p .ok) (sym e) ∙ c .before .if2 .taken)
+
+cast-t7 : tie.Need-cast-t7
+cast-t7 c = search needs
+
+add-t8 : tie.Need-add-t8
+add-t8 c = search needs
+
+bad-field-requires : tie.Need-bad-field-requires
+bad-field-requires c κs = search needs
+
+cast-t10 : tie.Need-cast-t10
+cast-t10 c = omega (arith, c .bad-field .ensures .1)
+
+returns-3 : tie.Need-returns-3
+returns-3 c =
+    ap (badAt (c .before .before .before .before .before .before .before .args .k .samples + 2)) (c .bad-field .ensures .0)
+    ∙ line-bad (c .before .before .before .before .before .before .before .args .v) (c .before .before .before .before .before .before .before .args .k) (c .before .before .before .before .before .before .before .args .line .now) (sym (c .before .before .before .before .before .is-counting .ensures) ∙ not-false _ (c .before .before .before .before .if1 .left)) (ap (λ (p : Place). p .ok) (sym (c .before .before .before .read-place .ensures)) ∙ c .before .before .if2 .left)
+
+pub with-line-spec : {M : Type 1} → statement M
+with-line-spec =
+    tie.close
+    (tie.spec
+    is-counting-requires
+    returns
+    read-place-requires
+    with-sample-requires
+    returns-2
+    cast-t7
+    add-t8
+    bad-field-requires
+    cast-t10
+    returns-3)

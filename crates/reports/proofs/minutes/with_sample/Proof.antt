@@ -1,0 +1,31 @@
+-- `reports::minutes::with_sample` makes the test of `withSample`. Assumes nothing.
+use mathlib.Core.Path.{_≡_, ap, _∙_}
+use Prim.Native.Nat.{ℕ, _+_, _<_}
+use native.Mathlib.Omega.{arith}
+use borrow.Author.Needs.{needs}
+use Rattle.reports.specs.Minutes.{tally}
+use Rattle.reports.proofs.Counting.{sample-more, sample-many, inside-most}
+use Rattle.reports.proofs.minutes.with_sample.Statement.{statement}
+use Rattle.reports.proofs.minutes.with_sample.Tie as tie
+
+returns : tie.Need-returns
+returns c = sample-many (c .before .before .args .v) (c .before .before .args .k) (c .before .before .args .p) (omega (arith, c .if1 .taken))
+
+inside-one-requires : tie.Need-inside-one-requires
+inside-one-requires c κs = search needs
+
+-- there is room for one more
+few : (c : tie.Else1) → c .before .before .args .k .samples < 4294967295
+few c = omega (arith, c .if1 .left, c .before .struct-known .given .1 .1 .1 .1 .1 .0 .fits)
+
+add-t6 : tie.Need-add-t6
+add-t6 c = omega (arith, few (c .before .before), c .before .before .before .before .pre, c .before .inside-one .ensures, inside-most (c .before .before .before .before .args .v) (c .before .before .before .before .args .p))
+
+add-t7 : tie.Need-add-t7
+add-t7 c = omega (arith, few (c .before .before .before))
+
+returns-2 : tie.Need-returns-2
+returns-2 c = ap (λ (n : ℕ). tally (c .before .before .before .before .before .args .k .inside + n) (c .before .before .before .before .before .args .k .samples + 1)) (c .before .before .inside-one .ensures) ∙ sample-more (c .before .before .before .before .before .args .v) (c .before .before .before .before .before .args .k) (c .before .before .before .before .before .args .p) (few (c .before .before .before))
+
+pub with-sample-spec : {M : Type 1} → statement M
+with-sample-spec = tie.close (tie.spec returns inside-one-requires add-t6 add-t7 returns-2)

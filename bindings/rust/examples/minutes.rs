@@ -77,7 +77,7 @@ fn coordinates<const N: usize>(line: &[u8]) -> Result<[i32; N], usize> {
         return Err(0);
     }
     let mut values = [0; N];
-    for (field, (value, bytes)) in (1..).zip(values.iter_mut().zip(fields)) {
+    for (field, (value, bytes)) in (1usize..).zip(values.iter_mut().zip(fields)) {
         *value = coordinate(bytes).ok_or(field)?;
     }
     Ok(values)

@@ -88,7 +88,7 @@ row-fits v y = by (cornersRefusal v) refl
     by (suc n) e = (zero-fits, zero-fits)
 
 pub row-short : (v : Vertices) (y : ℤ) → SFits w32 y → length (rowLine v y) ≤ 36
-row-short v y f = let s = row-fits v y in triple-short y (rowOf v y .start) (rowOf v y .end) 10 f (s .0) (s .1)
+row-short v y f = let s = row-fits v y in triple-short y (rowOf v y .start) (rowOf v y .end) _ f (s .0) (s .1)
 
 pub rows-short : (v : Vertices) (y : ℤ) (n : ℕ) → SFits w32 y → (y +ℤ pos n) ≤ℤ pos 131072 → length (rowLines v y n) ≤ 36 * n
 rows-short v y zero f h = omega arith

@@ -7,9 +7,8 @@ use native.Mathlib.Omega.{arith}
 use lib.Dec.{leb, ltb}
 use lib.IntN.{ℤ, pos, negsuc, negℤ, natAbs, _+ℤ_, _-ℤ_, _*ℤ_}
 use lib.Signed.{ltZ, _≤ℤ_, _<ℤ_}
-use Rattle.whole.specs.Decides.{Decides}
 use Rattle.whole.specs.Interval.{between}
-use Rattle.whole.proofs.Decides.{decides-map, decides-and, decides-between, decides-leb, decides-ltb, decides-one, decides-no}
+use Rattle.whole.proofs.Decides.{Decides, decides-map, decides-and, decides-between, decides-leb, decides-ltb, decides-one, decides-no}
 use Rattle.whole.proofs.Difference.{up, dn, as-mk, mks, mk-eq, eq-mk, le-nat, lt-nat, nat-le, nat-lt, sum-nat}
 use Rattle.whole.proofs.Machine.{neg-size}
 use Rattle.geometry.specs.declared.Point.{Point}

@@ -8,8 +8,7 @@ use lib.Pow.{pow-mono}
 use lib.Signed.{leZ}
 use mir.Syntax.{w32, w64}
 use mir.Val.{SFits, toZ, ofZ}
-use Rattle.whole.specs.Decides.{Decides}
-use Rattle.whole.proofs.Decides.{decides-map, decides-and, decides-le}
+use Rattle.whole.proofs.Decides.{Decides, decides-map, decides-and, decides-le}
 use Rattle.whole.proofs.Difference.{le-nat}
 use Rattle.whole.proofs.Machine.{Has, sized, one, cast}
 use Rattle.whole.proofs.Sizes.{Sz}

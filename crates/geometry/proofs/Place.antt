@@ -4,9 +4,8 @@ use mathlib.Core.Bool.{Bool, true, false, cond}
 use mathlib.Core.Logic.{_⊎_, inl, inr, ⊎-elim}
 use native.Mathlib.Omega.{arith}
 use lib.Signed.{_≤ℤ_, _<ℤ_, leZ, ltZ, ≤ℤ-refl}
-use Rattle.whole.specs.Decides.{Decides}
 use Rattle.whole.specs.Equal.{eqZ}
-use Rattle.whole.proofs.Decides.{decides-map, decides-and, decides-eq, decides-le, decides-lt}
+use Rattle.whole.proofs.Decides.{Decides, decides-map, decides-and, decides-eq, decides-le, decides-lt}
 use Rattle.whole.proofs.Difference.{le-nat, lt-nat, eq-nat, nat-le, nat-lt}
 use Rattle.whole.proofs.Machine.{lt-no, le-no}
 use Rattle.whole.proofs.Order.{le-antisym, lt-le, lt-unless}

@@ -8,8 +8,7 @@ use borrow.Author.Tests.{le-leb, lt-leb}
 use lib.Dec.{leb, eqb}
 use lib.IntN.{ℤ, pos, negsuc, natAbs, pos-ne-negsuc, _+ℤ_, _-ℤ_, _*ℤ_}
 use lib.Signed.{leZ, _<ℤ_}
-use Rattle.whole.specs.Decides.{Decides}
-use Rattle.whole.proofs.Decides.{never, decides-and, decides-map, decides-no, decides-one, decides-leb, decides-eqb}
+use Rattle.whole.proofs.Decides.{Decides, never, decides-and, decides-map, decides-no, decides-one, decides-leb, decides-eqb}
 use Rattle.whole.proofs.Difference.{as-mk, mks, mk-eq, lt-nat}
 use Rattle.geometry.specs.declared.Point.{Point}
 use Rattle.line.specs.Line.{toward, wide, high, steep, major, moves, xMoves, yMoves, pointAt, HasPoint, hasPoint, onLine}

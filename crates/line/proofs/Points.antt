@@ -10,8 +10,7 @@ use native.Mathlib.Omega.{arith}
 use lib.Dec.{T, leb}
 use lib.IntN.{ℤ, pos, negsuc, negℤ, natAbs, _+ℤ_, _-ℤ_, _*ℤ_}
 use lib.Signed.{leZ, _≤ℤ_, _<ℤ_}
-use Rattle.whole.specs.Decides.{Decides}
-use Rattle.whole.proofs.Decides.{never, decides-or, decides-map, decides-one, decides-le}
+use Rattle.whole.proofs.Decides.{Decides, never, decides-or, decides-map, decides-one, decides-le}
 use Rattle.whole.proofs.Difference.{as-mk, mks, mk-eq, mk-le}
 use Rattle.whole.proofs.Machine.{le-yes, le-no, neg-size, size-pos, size-neg}
 use Rattle.whole.proofs.Order.{le-sub, lt-sub, le-move, move-le}

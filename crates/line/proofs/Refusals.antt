@@ -7,8 +7,7 @@ use mathlib.Core.Logic.{_↔_}
 use Prim.Native.Nat.{ℕ}
 use lib.Dec.{ltb}
 use borrow.Author.Tests.{not-false}
-use Rattle.whole.specs.Decides.{Decides}
-use Rattle.whole.proofs.Decides.{decides-and}
+use Rattle.whole.proofs.Decides.{Decides, decides-and}
 use Rattle.refusals.specs.First.{first, numbered, rising}
 use Rattle.refusals.proofs.First.{Fail, exactly-0, exactly-once, fails-alone}
 use Rattle.geometry.specs.declared.Point.{Point}

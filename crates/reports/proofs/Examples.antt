@@ -2,13 +2,14 @@
 use mathlib.Core.Path.{_≡_, refl}
 use mathlib.Core.List.{List, [], _∷_, _++_}
 use Prim.Native.Nat.{ℕ}
-use Rattle.triangle.specs.Answer.{vertexRefusal}
+use Rattle.triangle.specs.Answer.{vertexTests}
 use Rattle.text.specs.Read.{readDigits, readSigned}
 use Rattle.text.specs.Fields.{readPlace, readVertices, badField}
 use Rattle.text.specs.Show.{shown}
 use Rattle.line.specs.Line.{moves, wide, high, major, minor, xMoves, yMoves, pointAt, hasPoint}
-use Rattle.triangle.specs.Order.{before, sorted}
-use Rattle.triangle.specs.Row.{extended, hull, columns, rowSpan, firstRow, rowCount}
+use Rattle.geometry.specs.Place.{before}
+use Rattle.triangle.specs.Order.{sorted}
+use Rattle.triangle.specs.Row.{extended, hull, lineColumns, rowSpan, firstRow, rowCount}
 use Rattle.triangle.specs.Triangle.{areaDoubled, isFlat}
 use Rattle.reports.specs.Spans.{rowsOf, heading, rowOf, spans}
 use Rattle.reports.specs.Minutes.{badAt, withLine, minutes}
@@ -19,22 +20,22 @@ wedge = 48 ∷ 9 ∷ 48 ∷ 9 ∷ 57 ∷ 9 ∷ 48 ∷ 9 ∷ 48 ∷ 9 ∷ 57 ∷ 
 
 -- `1 1` with a space for the tab, and LF
 spaces : minutes (wedge ++ (49 ∷ 32 ∷ 49 ∷ 10 ∷ [])) ≡ badAt 2 0
-unfolding minutes withLine readVertices readPlace badField readSigned readDigits vertexRefusal
+unfolding minutes withLine readVertices readPlace badField readSigned readDigits vertexTests
 spaces = refl
 
 -- CR before LF
 carriage : minutes (wedge ++ (49 ∷ 9 ∷ 49 ∷ 13 ∷ 10 ∷ [])) ≡ badAt 2 2
-unfolding minutes withLine readVertices readPlace badField readSigned readDigits vertexRefusal
+unfolding minutes withLine readVertices readPlace badField readSigned readDigits vertexTests
 carriage = refl
 
 -- an empty line
 empty : minutes (wedge ++ (10 ∷ [])) ≡ badAt 2 0
-unfolding minutes withLine readVertices readPlace badField readSigned readDigits vertexRefusal
+unfolding minutes withLine readVertices readPlace badField readSigned readDigits vertexTests
 empty = refl
 
 -- a load that no 32 bits hold, 9999999999
 load : minutes (wedge ++ (49 ∷ 9 ∷ 57 ∷ 57 ∷ 57 ∷ 57 ∷ 57 ∷ 57 ∷ 57 ∷ 57 ∷ 57 ∷ 57 ∷ 10 ∷ [])) ≡ badAt 2 2
-unfolding minutes withLine readVertices readPlace badField readSigned readDigits vertexRefusal
+unfolding minutes withLine readVertices readPlace badField readSigned readDigits vertexTests
 load = refl
 
 -- ---- 01's own example of `spans`: the input `0 0 4 0 0 4` by tabs, and the six lines of its output
@@ -51,5 +52,5 @@ output =
     ∷ 52 ∷ 9 ∷ 48 ∷ 9 ∷ 49 ∷ 10 ∷ []
 
 pub own-example : spans line ≡ output
-unfolding readVertices readSigned readDigits vertexRefusal rowsOf heading rowOf shown moves wide high major minor xMoves yMoves pointAt hasPoint before sorted extended hull columns rowSpan firstRow rowCount areaDoubled isFlat
+unfolding readVertices readSigned readDigits vertexTests rowsOf heading rowOf shown moves wide high major minor xMoves yMoves pointAt hasPoint before sorted extended hull lineColumns rowSpan firstRow rowCount areaDoubled isFlat
 own-example = refl

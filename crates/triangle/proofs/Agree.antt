@@ -6,8 +6,7 @@ use mathlib.Core.Logic.{_⊎_, inl, inr, ⊎-elim}
 use native.Mathlib.Omega.{arith}
 use lib.IntN.{ℤ, pos, negℤ, _+ℤ_, _*ℤ_, *ℤ-comm}
 use lib.Signed.{_≤ℤ_, _<ℤ_, leZ, ltZ, ≤ℤ-refl}
-use Rattle.whole.specs.Decides.{Decides}
-use Rattle.whole.proofs.Decides.{decides-map, decides-or}
+use Rattle.whole.proofs.Decides.{Decides, decides-map, decides-or}
 use Rattle.whole.proofs.Difference.{as-mk, mks, mk-eq, le-nat, lt-nat, nat-le, nat-eq}
 use Rattle.whole.proofs.Machine.{le-yes, le-no, lt-yes, lt-no}
 use Rattle.whole.proofs.Order.{le-trans, le-antisym, lt-le, le-unless, lt-unless, le-sub, lt-sub-pos, neg-flip, flip-neg, nonneg-add, nonneg-mul, nonneg-cancel}

@@ -7,8 +7,7 @@ use Prim.Native.Nat.{_≤_}
 use native.Mathlib.Omega.{arith}
 use lib.IntN.{ℤ, pos, natAbs, _+ℤ_, _-ℤ_, _*ℤ_}
 use lib.Signed.{_≤ℤ_, _<ℤ_, ltZ}
-use Rattle.whole.specs.Decides.{Decides}
-use Rattle.whole.proofs.Decides.{decides-and, decides-or, decides-lt, decides-no}
+use Rattle.whole.proofs.Decides.{Decides, decides-and, decides-or, decides-lt, decides-no}
 use Rattle.whole.proofs.Difference.{as-mk, mks, mk-eq, le-mk, le-nat, lt-nat, nat-le, sum-nat}
 use Rattle.whole.proofs.Machine.{lt-yes}
 use Rattle.whole.proofs.Order.{le-trans, le-unless, lt-le-lt, le-lt-lt, lt-more-le}

@@ -6,8 +6,7 @@ use mathlib.Core.Logic.{_↔_}
 use Prim.Native.Nat.{ℕ, zero, suc}
 use lib.IntN.{ℤ, pos}
 use borrow.Author.Tests.{not-false}
-use Rattle.whole.specs.Decides.{Decides}
-use Rattle.whole.proofs.Decides.{decides-and, decides-map}
+use Rattle.whole.proofs.Decides.{Decides, decides-and, decides-map}
 use Rattle.refusals.specs.First.{first, numbered, rising}
 use Rattle.refusals.proofs.First.{Fail, exactly-0, exactly-once, fails-alone}
 use Rattle.geometry.specs.declared.Point.{Point}

@@ -9,9 +9,8 @@ use lib.Dec.{eqb}
 use lib.IntN.{ℤ, pos, negsuc, negℤ, _+ℤ_, _*ℤ_, negℤ-+ℤ}
 use lib.Signed.{_≤ℤ_, _<ℤ_, leZ, ≤ℤ-refl}
 use borrow.Author.Tests.{eqb-true, eqb-false, eq-eqb, ne-eqb}
-use Rattle.whole.specs.Decides.{Decides}
 use Rattle.whole.specs.Equal.{eqZ}
-use Rattle.whole.proofs.Decides.{decides-map, decides-and, decides-or, decides-one, decides-le, decides-eq}
+use Rattle.whole.proofs.Decides.{Decides, decides-map, decides-and, decides-or, decides-one, decides-le, decides-eq}
 use Rattle.whole.proofs.Difference.{up, dn, le-nat, nat-lt, nat-eq}
 use Rattle.whole.proofs.Order.{neg-flip, flip-neg, le-trans, le-sub, sub-le, nonneg-add, nonneg-mul, nonneg-cancel}
 use Rattle.geometry.specs.declared.Point.{Point}

@@ -9,9 +9,8 @@ use native.Mathlib.Decide.{decLt}
 use native.Mathlib.Omega.{arith}
 use lib.IntN.{ℤ, pos, _+ℤ_}
 use lib.Signed.{_≤ℤ_, _<ℤ_, ≤ℤ-refl}
-use Rattle.whole.specs.Decides.{Decides}
 use Rattle.whole.specs.Equal.{eqZ}
-use Rattle.whole.proofs.Decides.{decides-map, decides-between, decides-eq, decides-no}
+use Rattle.whole.proofs.Decides.{Decides, decides-map, decides-between, decides-eq, decides-no}
 use Rattle.whole.proofs.Difference.{le-nat, lt-nat, eq-nat, nat-le, nat-lt, sum-nat}
 use Rattle.whole.proofs.Order.{le-trans, le-antisym, lt-le-lt}
 use Rattle.geometry.specs.declared.Point.{Point}

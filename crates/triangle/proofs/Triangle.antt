@@ -8,8 +8,7 @@ use Prim.Native.Nat.{ℕ, _+_}
 use native.Mathlib.Omega.{arith}
 use lib.IntN.{ℤ, pos, natAbs, _+ℤ_, _-ℤ_}
 use lib.Signed.{_≤ℤ_, _<ℤ_, ≤ℤ-refl}
-use Rattle.whole.specs.Decides.{Decides}
-use Rattle.whole.proofs.Decides.{decides-at, decides-one}
+use Rattle.whole.proofs.Decides.{Decides, decides-at, decides-one}
 use Rattle.whole.proofs.Difference.{as-mk, mks, mk-eq, le-nat, nat-lt, sum-nat}
 use Rattle.whole.proofs.Order.{le-trans}
 use Rattle.geometry.specs.declared.Point.{Point}

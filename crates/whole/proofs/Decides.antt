@@ -1,4 +1,4 @@
--- Laws of a yes or no that decides a statement: by parts, through an equivalence, and that there is one such answer. Assumes nothing.
+-- A yes or no that decides a statement, and its laws: by parts, through an equivalence, and that there is one such answer. Assumes nothing.
 use mathlib.Core.Path.{_≡_, refl, sym, ap, subst}
 use mathlib.Core.Bool.{Bool, true, false, _&&_, _||_, true≢false, false≢true}
 use mathlib.Core.Logic.{_⊎_, inl, inr, ⊎-elim}
@@ -8,9 +8,13 @@ use lib.Dec.{T, leb, ltb, eqb}
 use lib.IntN.{ℤ, pos, negsuc, natAbs, pos-ne-negsuc}
 use lib.Signed.{leZ, ltZ, mag, _≤ℤ_, _<ℤ_}
 use borrow.Author.Tests.{leb-true, leb-false, ltb-true, ltb-false, eqb-true, eqb-false}
-use Rattle.whole.specs.Decides.{Decides}
 use Rattle.whole.specs.Equal.{eqZ}
 use Rattle.whole.specs.Interval.{between}
+
+-- b is yes exactly if P
+pub record Decides (b : Bool) (P : Type 0) : Type 0 where
+  pub yes : b ≡ true → P
+  pub no : b ≡ false → P → ⊥
 
 -- ---- a test decides that it passes
 pub tested : (b : Bool) → Decides b (T b)

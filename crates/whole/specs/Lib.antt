@@ -1,3 +1,2 @@
-pub mod Decides
 pub mod Equal
 pub mod Interval

@@ -3,7 +3,6 @@
 use mathlib.Core.Path.{_≡_}
 use mathlib.Core.List.{List}
 use Prim.Native.Nat.{ℕ}
-use lib.ListN.{length}
 use Rattle.refusals.specs.First.{first}
 use Rattle.geometry.specs.Answer.{verdict, span}
 use Rattle.line.specs.Line.{points, pointAt, hasPoint}
@@ -14,11 +13,11 @@ use Rattle.triangle.specs.Answer.{vertexTests, rowsAnswer}
 use Rattle.circle.specs.Circle as circle
 use Rattle.circle.specs.Refusal.{circleTests}
 use Rattle.framebuffer.specs.declared.Drawn.{Drawn}
-use Rattle.framebuffer.specs.Answer.{sized, read}
-use Rattle.framebuffer.specs.Description.{size, descriptionTests, readTests, colourAt}
+use Rattle.framebuffer.specs.Answer.{sized}
+use Rattle.framebuffer.specs.Description.{size, descriptionTests}
 use Rattle.framebuffer.specs.Drawing.{pixelDrawing, fillDrawing}
 use Rattle.drawing.specs.Drawing.{lineDrawing, outlineDrawing, triangleDrawing, circleDrawing}
-use Rattle.beamacorn.specs.Plain.{frameOf, plainStep, outcomeOn}
+use Rattle.beamacorn.specs.Plain.{frameOf, plainStep, outcomeOn, pixelOn}
 use Rattle.beamacorn.proofs.beamacorn_line_length.Reads as line-length
 use Rattle.beamacorn.proofs.beamacorn_line_point.Reads as line-point
 use Rattle.beamacorn.proofs.beamacorn_line_has_point.Reads as line-has-point
@@ -75,7 +74,7 @@ pub frame-size-at : (κs : _) (a : _) (r : _) (s : _) → frame-size.Post κs a 
 frame-size-at κs a r s h = h
 
 pub pixel-at : (κs : _) (a : _) (r : _) (s : _) → pixel.Post κs a r s
-    → r ≡ read (first (readTests (frameOf (a .1 .0) (a .1 .1 .0) (a .1 .1 .1 .0) (a .1 .1 .1 .1 .0)) (length (a .0 .now)) (a .1 .1 .1 .1 .1 .0, a .1 .1 .1 .1 .1 .1 .0))) (colourAt (frameOf (a .1 .0) (a .1 .1 .0) (a .1 .1 .1 .0) (a .1 .1 .1 .1 .0)) (a .1 .1 .1 .1 .1 .0, a .1 .1 .1 .1 .1 .1 .0) (a .0 .now))
+    → r ≡ pixelOn (a .1 .0) (a .1 .1 .0) (a .1 .1 .1 .0) (a .1 .1 .1 .1 .0) (a .1 .1 .1 .1 .1 .0, a .1 .1 .1 .1 .1 .1 .0) (a .0 .now)
 pixel-at κs a r s h = h
 
 pub set-pixel-at : (κs : _) (a : _) (r : _) (s : _) → set-pixel.Post κs a r s

@@ -3,10 +3,15 @@ use mathlib.Core.Bool.{not}
 use mathlib.Core.List.{List}
 use Prim.Native.Nat.{ℕ}
 use lib.Dec.{eqb}
+use lib.ListN.{length}
+use Rattle.refusals.specs.First.{first}
+use Rattle.geometry.specs.declared.Point.{Point}
 use Rattle.line.specs.declared.Step as line
 use Rattle.framebuffer.specs.declared.Frame.{Frame}
 use Rattle.framebuffer.specs.declared.Drawn.{Drawn}
-use Rattle.framebuffer.specs.Description.{described}
+use Rattle.framebuffer.specs.declared.Read.{Read}
+use Rattle.framebuffer.specs.Answer.{read}
+use Rattle.framebuffer.specs.Description.{described, readTests, colourAt}
 use Rattle.framebuffer.specs.Drawing.{Drawing, outcome}
 use Rattle.framebuffer.specs.Window.{wholeWindow}
 use Rattle.beamacorn.specs.declared.Step.{Step}
@@ -18,6 +23,10 @@ frameOf width height depth order = described width height depth (not (eqb order 
 -- what a call that draws on the whole of that frame answers and leaves
 abbrev pub outcomeOn : ℕ → ℕ → ℕ → ℕ → Drawing → List ℕ → Drawn × List ℕ
 outcomeOn width height depth order d b = let f = frameOf width height depth order in outcome f (wholeWindow f) d b
+
+-- what reading a pixel of it answers
+abbrev pub pixelOn : ℕ → ℕ → ℕ → ℕ → Point → List ℕ → Read
+pixelOn width height depth order p b = let f = frameOf width height depth order in read (first (readTests f (length b) p)) (colourAt f p b)
 
 -- the point's coordinates beside its number
 abbrev pub plainStep : line.Step → Step

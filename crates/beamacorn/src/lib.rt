@@ -1,7 +1,6 @@
 // The static library: the public operations for callers in C and Rust, in plain numbers and bytes. Each only hands on. bindings/c/beamacorn.h
 // says what a caller needs to know.
 ghost use mathlib.Core.Path.{_≡_};
-ghost use lib.ListN.{length};
 ghost use Rattle.refusals.specs.First.{first};
 ghost use Rattle.geometry.specs.Answer.{verdict, span};
 ghost use Rattle.line.specs.Line.{points, pointAt, hasPoint};
@@ -11,11 +10,11 @@ ghost use Rattle.triangle.specs.Row.{rowSpan, firstRow, rowCount};
 ghost use Rattle.triangle.specs.Answer.{vertexTests, rowsAnswer};
 ghost use Rattle.circle.specs.Circle as circle;
 ghost use Rattle.circle.specs.Refusal.{circleTests};
-ghost use Rattle.framebuffer.specs.Answer.{sized, read};
-ghost use Rattle.framebuffer.specs.Description.{size, descriptionTests, readTests, colourAt};
+ghost use Rattle.framebuffer.specs.Answer.{sized};
+ghost use Rattle.framebuffer.specs.Description.{size, descriptionTests};
 ghost use Rattle.framebuffer.specs.Drawing.{pixelDrawing, fillDrawing};
 ghost use Rattle.drawing.specs.Drawing.{lineDrawing, outlineDrawing, triangleDrawing, circleDrawing};
-ghost use Rattle.beamacorn.specs.Plain.{frameOf, plainStep, outcomeOn};
+ghost use Rattle.beamacorn.specs.Plain.{frameOf, plainStep, outcomeOn, pixelOn};
 use framebuffer::Drawn;
 use framebuffer::Frame;
 use geometry::Point;
@@ -187,7 +186,7 @@ pub extern "C" fn beamacorn_pixel(
     x: i32,
     y: i32,
 ) -> framebuffer::Read
-    ensures { λ r. ⌜ r ≡ read (first (readTests (frameOf width height depth order) (length (now (buf .entry))) (x, y))) (colourAt (frameOf width height depth order) (x, y) (now (buf .entry))) ⌝ }
+    ensures { λ r. ⌜ r ≡ pixelOn width height depth order (x, y) (now (buf .entry)) ⌝ }
 {
     framebuffer::pixel(buf, frame(width, height, depth, order), Point(x, y))
 }

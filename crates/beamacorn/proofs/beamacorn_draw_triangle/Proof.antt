@@ -1,8 +1,7 @@
 -- `beamacorn_draw_triangle` hands on to `drawing::draw_triangle`. Assumes nothing.
 use borrow.Author.Needs.{needs}
 use Rattle.drawing.specs.Drawing.{triangleDrawing}
-use Rattle.beamacorn.proofs.Places.{place}
-use Rattle.beamacorn.proofs.Calls.{handed-on}
+use Rattle.beamacorn.proofs.Calls.{handed-on-three}
 use Rattle.beamacorn.proofs.beamacorn_draw_triangle.Statement.{statement}
 use Rattle.beamacorn.proofs.beamacorn_draw_triangle.Tie as tie
 
@@ -17,13 +16,9 @@ same-length c = search needs
 
 returns : tie.Need-returns
 returns c =
-    let g = c .before .before .before .before .before .before .args in
-    let f = c .before .before .before .before .before .before .fits in
-    let v1 = place (f .x1) (f .y1) in
-    let v2 = place (f .x2) (f .y2) in
-    let v3 = place (f .x3) (f .y3) in
-    let frame = c .before .before .before .frame .ensures in
-    handed-on (g .buf .now) frame (λ i. triangleDrawing (v1 i) (v2 i) (v3 i) (g .colour)) (c .before .before .draw-triangle .ensures)
+    let s = c .before .before .before .before .before .before in
+    let f = s .fits in
+    handed-on-three (λ v1 v2 v3. triangleDrawing v1 v2 v3 (s .args .colour)) (s .args .buf .now) (c .before .before .before .frame .ensures) (f .x1) (f .y1) (f .x2) (f .y2) (f .x3) (f .y3) (c .before .before .draw-triangle .ensures)
 
 pub beamacorn-draw-triangle-spec : {M : Type 1} → statement M
 beamacorn-draw-triangle-spec = tie.close (tie.spec frame-requires draw-triangle-requires same-length returns)

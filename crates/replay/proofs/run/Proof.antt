@@ -1,11 +1,12 @@
 -- `replay::run` stands within its buffers from turn to turn, and the turns that are left get fewer. Assumes nothing.
 use mathlib.Core.Path.{_≡_, sym, _∙_}
 use mathlib.Core.Bool.{true, false}
+use Prim.Native.Nat.{_<_}
 use native.Mathlib.Omega.{arith}
 use borrow.Author.Needs.{needs}
 use Rattle.streams.specs.declared.State.{State}
 use Rattle.streams.specs.State.{goesOn}
-use Rattle.streams.proofs.Turns.{may-read, turns-fewer, going-on, over}
+use Rattle.streams.proofs.Turns.{Kept, may-read, turns-fewer, going-on, over}
 use Rattle.replay.specs.Session.{Work, Sound, first, afterLines, afterLast}
 use Rattle.replay.proofs.Work.{bytes, Runs, begins, lines-keep}
 use Rattle.replay.proofs.run.Statement.{statement}
@@ -38,44 +39,61 @@ answer-some-requires c κs = (c .before .before .before .before .before .loop .i
 on : (c : tie.Then1 Inv-loop μ-loop) → goesOn (c .before .before .loop .st) ≡ true
 on c = sym (c .before .goes-on .ensures) ∙ c .if1 .taken
 
+-- after the lines that are there: what the program worked on before them, and what they left
+module _ (c : tie.After-answer-some Inv-loop μ-loop) where
+  abbrev entry : tie.Start Inv-loop μ-loop
+  entry = c .before .before .before .before .before .before .before .before .before .before .before .before
+
+  abbrev head : tie.At-loop Inv-loop μ-loop
+  head = c .before .before .before .before .before .before
+
+  abbrev began : Work
+  began = first (entry .args .out .now) (entry .args .memory .now)
+
+  abbrev work : Work
+  work = (head .loop .out, (head .loop .screen, head .loop .memory))
+
+  abbrev left : State × Work
+  left = (c .answer-some .result .st, (c .answer-some .last .1 .1 .0, (c .answer-some .result .screen, c .answer-some .last .1 .0)))
+
+  kept : Kept bytes Sound (head .loop .st) left
+  kept =
+      let a = c .answer-some in
+      lines-keep (head .loop .input) (head .loop .st) work (head .loop .inv .stands) (head .loop .inv .sound) left (a .ensures .0) (a .ensures .1) (a .kept .1 .1 .0) (a .kept .1 .0)
+
 flush-requires : tie.Need-flush-requires Inv-loop μ-loop
-flush-requires c κs =
-    let l = c .before .before .before .before .before .before .before .before .before .before .before .before .loop in
-    let a = c .before .before .before .before .before .before .answer-some in
-    let o : Work = (l .out, (l .screen, l .memory)) in
-    let p : State × Work = (a .result .st, (a .last .1 .1 .0, (a .result .screen, a .last .1 .0))) in
-    let k = lines-keep (l .input) (l .st) o (l .inv .stands) (l .inv .sound) p (a .ensures .0) (a .ensures .1) (a .kept .1 .1 .0) (a .kept .1 .0) in
-    k .filled
+flush-requires c κs = kept (c .before .before .before .before .before .before) .filled
 
 refill-requires : tie.Need-refill-requires Inv-loop μ-loop
 refill-requires c κs =
-    let s = c .before .before .before .before .before .before .before .before .before .before .before .before .before .before .before .before .before .before .before .before .args in
-    let l = c .before .before .before .before .before .before .before .before .before .before .before .before .before .before .loop in
-    let a = c .before .before .before .before .before .before .before .before .answer-some in
-    let o : Work = (l .out, (l .screen, l .memory)) in
-    let p : State × Work = (a .result .st, (a .last .1 .1 .0, (a .result .screen, a .last .1 .0))) in
-    let k = lines-keep (l .input) (l .st) o (l .inv .stands) (l .inv .sound) p (a .ensures .0) (a .ensures .1) (a .kept .1 .1 .0) (a .kept .1 .0) in
-    may-read bytes Sound afterLines (first (s .out .now) (s .memory .now)) (l .st) (l .input) o (l .inv) (on (c .before .before .before .before .before .before .before .before .before .before .before .before)) p (a .ensures .0) k (c .before .flush .result) (c .before .flush .ensures)
+    let a = c .before .before .before .before .before .before .before .before in
+    let l = head a .loop in
+    may-read bytes Sound afterLines (began a) (l .st) (l .input) (work a) (l .inv) (on (a .before .before .before .before)) (left a) (a .answer-some .ensures .0) (kept a) (c .before .flush .result) (c .before .flush .ensures)
+
+-- after the read that follows
+module _ (c : tie.After-refill Inv-loop μ-loop) where
+  abbrev answered : tie.After-answer-some Inv-loop μ-loop
+  answered = c .before .before .before .before .before .before .before .before .before
+
+  fewer : c .refill .result .turns < head answered .loop .st .turns
+  fewer =
+      let a = answered in
+      let l = head a .loop in
+      turns-fewer bytes Sound afterLines (began a) (l .st) (l .input) (work a) (l .inv) (on (a .before .before .before .before)) (left a) (a .answer-some .ensures .0) (kept a)
+      (c .before .before .flush .result) (c .before .before .flush .ensures) (c .refill .result) (c .refill .last .0) (c .refill .ensures)
+
+  runs : Runs (entry answered .args .out .now) (entry answered .args .memory .now) (c .refill .result) (c .refill .last .0) (left answered .1)
+  runs =
+      let a = answered in
+      let l = head a .loop in
+      going-on bytes Sound afterLines (began a) (l .st) (l .input) (work a) (l .inv) (on (a .before .before .before .before)) (left a) (a .answer-some .ensures .0) (kept a)
+      (c .before .before .flush .result) (c .before .before .flush .ensures) (c .refill .result) (c .refill .last .0) (c .refill .ensures) (c .refill .kept .0)
 
 loop-less : tie.Need-loop-less Inv-loop μ-loop
-loop-less c =
-    let s = c .before .before .before .before .before .before .before .before .before .before .before .before .before .before .before .before .before .before .before .before .before .before .before .args in
-    let l = c .before .before .before .before .before .before .before .before .before .before .before .before .before .before .before .before .before .loop in
-    let a = c .before .before .before .before .before .before .before .before .before .before .before .answer-some in
-    let o : Work = (l .out, (l .screen, l .memory)) in
-    let p : State × Work = (a .result .st, (a .last .1 .1 .0, (a .result .screen, a .last .1 .0))) in
-    let k = lines-keep (l .input) (l .st) o (l .inv .stands) (l .inv .sound) p (a .ensures .0) (a .ensures .1) (a .kept .1 .1 .0) (a .kept .1 .0) in
-    turns-fewer bytes Sound afterLines (first (s .out .now) (s .memory .now)) (l .st) (l .input) o (l .inv) (on (c .before .before .before .before .before .before .before .before .before .before .before .before .before .before .before)) p (a .ensures .0) k (c .before .before .before .before .flush .result) (c .before .before .before .before .flush .ensures) (c .before .before .refill .result) (c .before .before .refill .last .0) (c .before .before .refill .ensures)
+loop-less c = fewer (c .before .before)
 
 loop-again : tie.Need-loop-again Inv-loop μ-loop
-loop-again c =
-    let s = c .before .before .before .before .before .before .before .before .before .before .before .before .before .before .before .before .before .before .before .before .before .before .before .args in
-    let l = c .before .before .before .before .before .before .before .before .before .before .before .before .before .before .before .before .before .loop in
-    let a = c .before .before .before .before .before .before .before .before .before .before .before .answer-some in
-    let o : Work = (l .out, (l .screen, l .memory)) in
-    let p : State × Work = (a .result .st, (a .last .1 .1 .0, (a .result .screen, a .last .1 .0))) in
-    let k = lines-keep (l .input) (l .st) o (l .inv .stands) (l .inv .sound) p (a .ensures .0) (a .ensures .1) (a .kept .1 .1 .0) (a .kept .1 .0) in
-    going-on bytes Sound afterLines (first (s .out .now) (s .memory .now)) (l .st) (l .input) o (l .inv) (on (c .before .before .before .before .before .before .before .before .before .before .before .before .before .before .before)) p (a .ensures .0) k (c .before .before .before .before .flush .result) (c .before .before .before .before .flush .ensures) (c .before .before .refill .result) (c .before .before .refill .last .0) (c .before .before .refill .ensures) (c .before .before .refill .kept .0)
+loop-again c = runs (c .before .before)
 
 last-line-requires : tie.Need-last-line-requires Inv-loop μ-loop
 last-line-requires c κs = (c .before .before .before .before .before .loop .inv .stands, c .before .before .before .before .before .loop .inv .sound)

@@ -27,7 +27,7 @@ pub struct Step {
     pub y: i32,
 }
 
-// ---- questions: these stay as they are
+// ---- questions
 
 // The number of points of the line from (x1, y1) to (x2, y2).
 #[no_mangle]
@@ -141,7 +141,7 @@ pub extern "C" fn beamacorn_circle_row_span(
     circle::row_span(Point(left, top), diameter, y)
 }
 
-// ---- frames and drawing: these will grow by a distance between rows and by counts
+// ---- frames and drawing
 
 // The description of a frame. The order is 0 where the little end comes first; anything else says that the big end does.
 fn frame(width: u32, height: u32, depth: u32, order: u32) -> Frame

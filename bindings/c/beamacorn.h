@@ -53,7 +53,7 @@ enum {
     BEAMACORN_OUTSIDE_FRAME = 8   /* a pixel is read outside the frame */
 };
 
-/* ---- Questions on lines, triangles and circles. These stay as they are. ---- */
+/* ---- Questions on lines, triangles and circles ---- */
 
 /* A yes or no; no with a refusal, so that `yes` says something only where `number` is 0. */
 typedef struct {
@@ -200,7 +200,7 @@ beamacorn_verdict beamacorn_circle_contains(int32_t left, int32_t top, uint32_t 
 beamacorn_span beamacorn_circle_row_span(int32_t left, int32_t top, uint32_t diameter, int32_t y);
 
 /*
- * ---- Frames and drawing. These are still to grow: a distance between rows and counts of pixels will join arguments and answers. ----
+ * ---- Frames and drawing. These may change with the second part of the version. ----
  *
  * A frame is described by its width and height in pixels, 0 to 2,048 each, its depth in bits and, where a pixel takes several bytes, its order: 0 for
  * the little end first, anything else for the big end. A row takes (width * depth + 7) / 8 bytes, rows follow one another, and at depths below 8

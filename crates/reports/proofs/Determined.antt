@@ -6,7 +6,6 @@ use Prim.Native.Nat.{ℕ}
 use denote.Ref.{RefT, now}
 use Rattle.text.proofs.Determined.{One, OneText, same}
 use Rattle.reports.specs.declared.Part.{Part}
-use Rattle.reports.specs.declared.Taken.{Taken}
 use Rattle.reports.specs.declared.Tally.{Tally}
 use Rattle.reports.proofs.spans.rows_of.Reads as rows-of
 use Rattle.reports.proofs.spans.first_part.Reads as first-part

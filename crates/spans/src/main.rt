@@ -30,7 +30,7 @@ fn read_line(input: &mut [u8]) -> State
 
 // Hands the first `end` bytes over to `write`, and answers how many were handed over by then.
 fn hand_over(out: &[u8], end: usize, told: u64) -> u64
-    requires { ⌜ (end ≤ length (now out)) × (told + end ≤ 100000000000) ⌝ }
+    requires { ⌜ (end ≤ length (now out)) × (told + end ≤ 18446744073709551615) ⌝ }
     ensures { λ r. ⌜ r ≡ told + end ⌝ }
 {
     console::write(out, end);

@@ -21,7 +21,7 @@ hand-over-requires : tie.Need-hand-over-requires Inv-loop μ-loop
 hand-over-requires c κs =
     let w = c .before .before .before .first-part in
     let room = first-room (c .before .before .before .before .before .before .args .v) (w .result) (w .ensures .0) in
-    (omega (arith, room .0, w .kept .0, c .before .before .before .before .before .before .pre), room .1)
+    (omega (arith, room .0, w .kept .0, c .before .before .before .before .before .before .pre), omega (arith, room .1))
 
 loop-holds : tie.Need-loop-holds Inv-loop μ-loop
 loop-holds c =
@@ -36,7 +36,7 @@ hand-over-requires-2 c κs =
     let l = c .before .before .before .before .before .before .before .loop in
     let w = c .before .before .before .next-part in
     let room = next-room (c .before .before .before .before .before .before .before .before .before .before .before .before .before .before .before .args .v) (l .part) (w .result) (l .inv .1) (w .ensures .0) in
-    (omega (arith, room .0, w .kept .0, l .inv .0), room .1)
+    (omega (arith, room .0, w .kept .0, l .inv .0), omega (arith, room .1))
 
 loop-less : tie.Need-loop-less Inv-loop μ-loop
 loop-less c = omega (arith, ap (λ (q : Part). q .left) (c .before .before .before .before .next-part .ensures .0), c .before .before .before .before .before .before .if1 .taken)

@@ -4,7 +4,6 @@ ghost use mathlib.Core.Path.{_≡_};
 ghost use mathlib.Core.Bool.{true};
 ghost use Prim.Native.Nat.{_+_, _≤_};
 ghost use lib.ListN.{length, take};
-ghost use Rattle.console.specs.Gathered.{flushed};
 use libc::STDERR_FILENO;
 use libc::STDIN_FILENO;
 use libc::STDOUT_FILENO;
@@ -27,17 +26,6 @@ pub fn read_more(input: &mut [u8], kept: usize) -> Came
         count,
         failed: got < 0,
     }
-}
-// Inside the library: writes an output that is filled up to `at` once that is half of 64 KiB, and answers how far it is filled then.
-pub fn flush(out: &[u8], at: usize) -> usize
-    requires { ⌜ at ≤ length (now out) ⌝ }
-    ensures { λ r. ⌜ r ≡ flushed at ⌝ }
-{
-    if at < 32768 {
-        return at;
-    }
-    write(out, at);
-    0
 }
 
 // Inside the library: writes the first `at` bytes of an output, answers whether they were taken, and says so on standard error if they were not.

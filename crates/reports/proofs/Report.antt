@@ -2,7 +2,7 @@
 use mathlib.Core.Path.{_≡_, refl, sym, ap, ap₂, _∙_}
 use mathlib.Core.Bool.{Bool, true, false}
 use mathlib.Core.List.{List, [], _++_, append-assoc}
-use Prim.Native.Nat.{ℕ, zero, suc, _+_, _-_, _≤_, _<_}
+use Prim.Native.Nat.{ℕ, zero, suc, _+_, _-_, _≤_, _<_, min}
 use native.Mathlib.Omega.{arith}
 use lib.IntN.{ℤ, pos, _+ℤ_}
 use lib.ListN.{length, length-append}
@@ -16,11 +16,12 @@ use Rattle.triangle.specs.Answer.{vertexTests, rowsAnswer}
 use Rattle.triangle.specs.Row.{rowSpan, firstRow, rowCount}
 use Rattle.text.specs.declared.Vertices.{Vertices}
 use Rattle.text.proofs.Writing.{Wrote, sets-append}
+use Rattle.reports.specs.declared.Part.{Part}
 use Rattle.reports.specs.declared.corners.Corners.{Corners}
 use Rattle.text.specs.Words.{badLine, counted}
 use Rattle.reports.specs.Words.{refused, rows}
 use Rattle.reports.specs.Corners.{corners}
-use Rattle.reports.specs.Spans.{rowsOf, heading, rowOf, rowLine, rowLines}
+use Rattle.reports.specs.Spans.{rowsOf, heading, rowOf, rowLine, rowLines, report, firstPart, partText, nextPart, parts}
 
 -- ---- which rows
 pub no-rows : (v : Vertices) → v .ok ≡ false → rowsAnswer 0 (pos 0) 0 ≡ rowsOf v
@@ -90,3 +91,39 @@ rows-append v y (suc m) n =
 
     row : (y +ℤ pos 1) +ℤ pos m ≡ y +ℤ pos (suc m)
     row = rw (as-mk y) (simp mks (mk-eq _ _ _ _ (omega arith)))
+
+-- ---- the report in parts
+pub first-part-is : (v : Vertices) (r : RowRange) {end : ℕ} {z : ℤ} → r ≡ rowsOf v → end ≡ 0 + length (heading (v .ok) r) → z ≡ r .first
+    → _≡_ {A = Part} (record { end = end; first = z; left = r .count }) (firstPart v)
+first-part-is v r {end} {z} e f g = λ i. record { end = size i; first = row i; left = e i .count }
+  where
+    size : end ≡ length (heading (v .ok) (rowsOf v))
+    size = omega (arith, f, ap (λ (q : RowRange). length (heading (v .ok) q)) e)
+
+    row : z ≡ rowsOf v .first
+    row = g ∙ ap (λ (q : RowRange). q .first) e
+
+pub next-part-is : (v : Vertices) (p : Part) {end n : ℕ} {z : ℤ} → end ≡ 0 + length (partText v p) → z ≡ p .first +ℤ pos n → n ≡ min (p .left) 1024
+    → _≡_ {A = Part} (record { end = end; first = z; left = p .left - n }) (nextPart v p)
+next-part-is v p {end} {n} {z} f g e = λ i. record { end = size i; first = row i; left = p .left - e i }
+  where
+    size : end ≡ length (partText v p)
+    size = omega (arith, f)
+
+    row : z ≡ p .first +ℤ pos (min (p .left) 1024)
+    row = g ∙ ap (λ (k : ℕ). p .first +ℤ pos k) e
+
+-- a part, and what is behind it
+pub part-goes : (v : Vertices) (p : Part) → rowLines v (p .first) (p .left) ≡ partText v p ++ rowLines v (nextPart v p .first) (nextPart v p .left)
+part-goes v p = ap (rowLines v (p .first)) count ∙ rows-append v (p .first) (min (p .left) 1024) (p .left - min (p .left) 1024)
+  where
+    count : p .left ≡ min (p .left) 1024 + (p .left - min (p .left) 1024)
+    count = omega arith
+
+-- as many parts as there are rows are enough
+pub parts-are : (v : Vertices) (n : ℕ) (p : Part) → p .left ≤ n → parts v n p ≡ rowLines v (p .first) (p .left)
+parts-are v zero p h = sym (rows-none v (p .first) (p .left) h)
+parts-are v (suc n) p h = ap (λ (l : List ℕ). partText v p ++ l) (parts-are v n (nextPart v p) (omega arith)) ∙ sym (part-goes v p)
+
+pub all-parts : (v : Vertices) → heading (v .ok) (rowsOf v) ++ parts v (rowsOf v .count) (firstPart v) ≡ report v
+all-parts v = ap (λ (l : List ℕ). heading (v .ok) (rowsOf v) ++ l) (parts-are v (rowsOf v .count) (firstPart v) (omega arith))

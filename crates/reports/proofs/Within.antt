@@ -35,7 +35,7 @@ use Rattle.text.proofs.Showing.{zero-fits, triple-short, counted-short}
 use Rattle.text.specs.Words.{badLine, counted}
 use Rattle.reports.specs.Words.{refused, rows}
 use Rattle.reports.specs.Corners.{corner1, corner2, corner3, cornersRefusal}
-use Rattle.reports.specs.Spans.{rowsOf, heading, rowOf, rowLine, rowLines}
+use Rattle.reports.specs.Spans.{rowsOf, heading, rowOf, rowLine, rowLines, report}
 
 -- ---- m rows further on, of n that end at 131,072 or before
 module _ (y : ℤ) (n m : ℕ) (some : m ≤ n) (below : (y +ℤ pos n) ≤ℤ pos 131072) where
@@ -161,3 +161,10 @@ heading-short v = by (v .ok) (cornersRefusal v) refl
         omega (arith, counted-short rows (rowCount (corner1 v) (corner2 v) (corner3 v)) (record { fits = omega arith }))
     by true (suc n) e = rw (ne-eqb (suc n) 0 (λ q. omega arith)) (omega (arith, counted-short refused (suc n) (record { fits = omega (arith, refusal-few (corner1 v) (corner2 v) (corner3 v)) })))
     by false n e = omega arith
+
+-- a report's length fits a machine number
+pub report-short : (v : Vertices) → length (report v) ≤ 100000000000
+report-short v =
+    let y = rowsOf v .first in
+    let n = rowsOf v .count in
+    omega (arith, length-append (heading (v .ok) (rowsOf v)) (rowLines v y n), heading-short v, rows-short v y n (first-fits v) (rows-below v), part y n n (omega arith) (rows-below v), fits-dn w32 y (first-fits v))

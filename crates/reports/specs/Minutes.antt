@@ -1,7 +1,7 @@
 -- What `minutes` counts: the first line of an input is the wedge, six coordinates, and each further line a sample, a pixel of second and Mbit/s.
 -- What goes wrong first is what is said: the wedge's line, its refusal, the first line that is no sample, or a sample past 4,294,967,295.
 use mathlib.Core.Bool.{Bool, true, false, cond, _&&_, not}
-use mathlib.Core.List.{List, [], _++_}
+use mathlib.Core.List.{List, _++_}
 use Prim.Native.Nat.{ℕ, zero, suc, _+_}
 use lib.Dec.{eqb, ltb}
 use lib.ListN.{drop}
@@ -9,7 +9,7 @@ use Rattle.geometry.specs.Answer.{verdict}
 use Rattle.triangle.specs.Triangle.{contained}
 use Rattle.text.specs.declared.Place.{Place}
 use Rattle.text.specs.declared.Vertices.{Vertices}
-use Rattle.text.specs.Fields.{until, fields, lines, readPlace, readVertices, badField}
+use Rattle.text.specs.Fields.{until, fields, lines, readPlace, noVertices, readVertices, badField}
 use Rattle.text.specs.Lines.{firstLine, each}
 use Rattle.text.specs.Words.{numbered, counted}
 use Rattle.reports.specs.declared.Count.{Count}
@@ -67,7 +67,7 @@ minutes s = cond (wedge s .ok) (unless (cornersRefusal (wedge s)) (samplesOf (we
 
 -- ---- the same line by line, as the input comes: before the first line, at it, and at each further one
 abbrev pub fresh : Tally
-fresh = record { begun = false; wedge = readVertices []; count = badAt 1 0 }
+fresh = record { begun = false; wedge = noVertices; count = badAt 1 0 }
 
 abbrev pub withWedge : List ℕ → Vertices → Tally
 withWedge line v = record { begun = true; wedge = v; count = cond (v .ok) (unless (cornersRefusal v) (tally 0 0)) (badAt 1 (badField 6 line)) }

@@ -1,9 +1,10 @@
 -- What `spans` says of a line (01, the end of "Known small answers").
 use mathlib.Core.Bool.{Bool, cond}
 use mathlib.Core.List.{List, [], _++_}
-use Prim.Native.Nat.{ℕ, zero, suc}
+use Prim.Native.Nat.{ℕ, zero, suc, _-_, min}
 use lib.Dec.{eqb}
 use lib.IntN.{ℤ, pos, _+ℤ_}
+use lib.ListN.{length}
 use Rattle.geometry.specs.declared.Span.{Span}
 use Rattle.geometry.specs.Answer.{span}
 use Rattle.triangle.specs.declared.RowRange.{RowRange}
@@ -14,6 +15,7 @@ use Rattle.text.specs.Fields.{fields, readVertices}
 use Rattle.text.specs.Lines.{firstLine}
 use Rattle.text.specs.Show.{triple}
 use Rattle.text.specs.Words.{badLine, counted}
+use Rattle.reports.specs.declared.Part.{Part}
 use Rattle.reports.specs.Words.{refused, rows}
 use Rattle.reports.specs.Corners.{corner1, corner2, corner3, cornersRefusal}
 
@@ -46,3 +48,19 @@ report v = heading (v .ok) (rowsOf v) ++ rowLines v (rowsOf v .first) (rowsOf v 
 
 abbrev pub spans : List ℕ → List ℕ
 spans input = report (readVertices (fields (firstLine input)))
+
+-- ---- the same in parts: the first line, and then the lines of at most 1,024 rows at once
+abbrev pub firstPart : Vertices → Part
+firstPart v = record { end = length (heading (v .ok) (rowsOf v)); first = rowsOf v .first; left = rowsOf v .count }
+
+-- what follows a part
+abbrev pub partText : Vertices → Part → List ℕ
+partText v p = rowLines v (p .first) (min (p .left) 1024)
+
+abbrev pub nextPart : Vertices → Part → Part
+nextPart v p = record { end = length (partText v p); first = p .first +ℤ pos (min (p .left) 1024); left = p .left - min (p .left) 1024 }
+
+-- so many parts behind one, one after the other
+abbrev pub parts : Vertices → ℕ → Part → List ℕ
+parts v zero p = []
+parts v (suc n) p = partText v p ++ parts v n (nextPart v p)

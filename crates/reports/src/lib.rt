@@ -7,10 +7,9 @@ pub use minutes::no_lines;
 pub use minutes::take_line;
 pub use minutes::take_lines;
 pub use minutes::write_count;
-pub use spans::least;
+pub use spans::first_part;
+pub use spans::next_part;
 pub use spans::rows_of;
-pub use spans::write_heading;
-pub use spans::write_rows;
 use text::Vertices;
 
 // What `minutes` counts: the samples inside the wedge, and all of them. Else 0 and 0, and one of three: the number of the refusal, that there are too many
@@ -35,4 +34,11 @@ pub struct Tally {
 pub struct Taken {
     pub next: usize,
     pub tally: Tally,
+}
+
+// A part of what `spans` reports: how many bytes it has, and how many rows are left behind it, from `first` on.
+pub struct Part {
+    pub end: usize,
+    pub first: i32,
+    pub left: u32,
 }

@@ -123,15 +123,7 @@ fn first_count(v: Vertices, line: &[u8]) -> Count
 pub fn no_lines() -> Tally
     ensures { λ r. ⌜ r ≡ fresh ⌝ }
 {
-    let wedge = Vertices {
-        ok: false,
-        x1: 0,
-        y1: 0,
-        x2: 0,
-        y2: 0,
-        x3: 0,
-        y3: 0,
-    };
+    let wedge = text::no_vertices();
     let count = Count {
         number: 0,
         long: false,

@@ -1,18 +1,20 @@
-// The report of `spans`: a first line, and a line a row.
+// The report of `spans`: a first line, and a line a row, in parts for which a buffer of 64 KiB has room. That the parts, one behind the other, are the report
+// is `all-parts` in proofs/Report.antt.
 ghost use mathlib.Core.Path.{_≡_};
 ghost use Prim.Native.Nat.{_+_, _*_, _≤_, min};
 ghost use lib.IntN.{pos, _+ℤ_};
 ghost use lib.Signed.{_≤ℤ_};
 ghost use lib.ListN.{length};
 ghost use lib.Seq.{sets};
-ghost use Rattle.reports.specs.Spans.{rowsOf, heading, rowOf, rowLine, rowLines};
+ghost use Rattle.reports.specs.Spans.{rowsOf, heading, rowOf, rowLine, rowLines, firstPart, partText, nextPart};
+use crate::Part;
 use crate::corners::corners_of;
 use geometry::Span;
 use text::Vertices;
 use triangle::RowRange;
 
-// Inside the library: the smaller of two numbers.
-pub fn least(a: u32, b: u32) -> u32
+// The smaller of two numbers.
+fn least(a: u32, b: u32) -> u32
     ensures { λ r. ⌜ r ≡ min a b ⌝ }
 {
     if a < b { a } else { b }
@@ -41,8 +43,8 @@ fn row_of(v: Vertices, y: i32) -> Span
     triangle::row_span(t.a, t.b, t.c, y)
 }
 
-// Inside the library: the first line of a report, of at most 19 bytes: what kind of line was read, or how many rows follow.
-pub fn write_heading(out: &mut [u8], at: usize, ok: bool, rows: RowRange) -> usize
+// The first line of a report, of at most 19 bytes: what kind of line was read, or how many rows follow.
+fn write_heading(out: &mut [u8], at: usize, ok: bool, rows: RowRange) -> usize
     requires { ⌜ at + 19 ≤ length (now out) ⌝ }
     ensures { λ r. ⌜ (r ≡ at + length (heading ok rows)) × (now (out .exit) ≡ sets (now (out .entry)) at (heading ok rows)) ⌝ }
 {
@@ -64,8 +66,8 @@ fn write_row(out: &mut [u8], at: usize, v: Vertices, y: i32) -> usize
     text::write_triple(out, at, y, s.start, s.end, b'\n')
 }
 
-// Inside the library: the lines of `count` rows from `first` on.
-pub fn write_rows(out: &mut [u8], at: usize, v: Vertices, first: i32, count: u32) -> usize
+// The lines of `count` rows from `first` on.
+fn write_rows(out: &mut [u8], at: usize, v: Vertices, first: i32, count: u32) -> usize
     requires { ⌜ (at + 36 * count ≤ length (now out)) × ((first +ℤ pos count) ≤ℤ pos 131072) ⌝ }
     ensures { λ r. ⌜ (r ≡ at + length (rowLines v first count)) × (now (out .exit) ≡ sets (now (out .entry)) at (rowLines v first count)) ⌝ }
 {
@@ -78,4 +80,32 @@ pub fn write_rows(out: &mut [u8], at: usize, v: Vertices, first: i32, count: u32
         left -= 1;
     }
     filled
+}
+
+// Inside the library: the first line, and which rows follow it.
+pub fn first_part(out: &mut [u8], v: Vertices) -> Part
+    requires { ⌜ length (now out) ≡ 65536 ⌝ }
+    ensures { λ r. ⌜ (r ≡ firstPart v) × (now (out .exit) ≡ sets (now (out .entry)) 0 (heading (v .ok) (rowsOf v))) ⌝ }
+{
+    let rows = rows_of(v);
+    let end = write_heading(out, 0, v.ok, rows);
+    Part {
+        end,
+        first: rows.first,
+        left: rows.count,
+    }
+}
+
+// Inside the library: the part behind `p`, from the buffer's start on: at most 1,024 rows.
+pub fn next_part(out: &mut [u8], v: Vertices, p: Part) -> Part
+    requires { ⌜ (length (now out) ≡ 65536) × ((p .first +ℤ pos (p .left)) ≤ℤ pos 131072) ⌝ }
+    ensures { λ r. ⌜ (r ≡ nextPart v p) × (now (out .exit) ≡ sets (now (out .entry)) 0 (partText v p)) ⌝ }
+{
+    let count = least(p.left, 1024);
+    let end = write_rows(out, 0, v, p.first, count);
+    Part {
+        end,
+        first: p.first + count as i32,
+        left: p.left - count,
+    }
 }

@@ -2,15 +2,13 @@
 // `spans` of the crate `reports`: `bad line`, or `refused` and the number, or `rows`, how many, and a line a row.
 ghost use mathlib.Core.Path.{_≡_};
 ghost use mathlib.Core.Bool.{false, not, _&&_};
-ghost use Prim.Native.Nat.{_<_};
+ghost use Prim.Native.Nat.{_+_, _≤_};
 ghost use Rattle.streams.specs.State.{Within, goesOn};
 ghost use Rattle.streams.specs.Refill.{whole};
-ghost use lib.IntN.{pos, _+ℤ_};
-ghost use lib.Signed.{_≤ℤ_};
 ghost use lib.ListN.{length};
+ghost use Rattle.reports.specs.Spans.{report};
 use streams::State;
 use text::Vertices;
-use triangle::RowRange;
 
 // Reads until a line is there: up to its LF, or to the end of the input. Of a line that LF does not end yet 129 bytes are kept, which is more than a line
 // of six coordinates has.
@@ -30,33 +28,27 @@ fn read_line(input: &mut [u8]) -> State
     }
 }
 
-// Writes the rows, as many at once as surely have room, and answers how far the output is filled then. Parts of the rows, one behind the other, are
-// all of them: `rows-append` in `reports`.
-fn list(out: &mut [u8], at: usize, v: Vertices, rows: RowRange) -> usize
-    requires { ⌜ (length (now out) ≡ 65536) × (at < 32768) × ((rows .first +ℤ pos (rows .count)) ≤ℤ pos 131072) ⌝ }
-    ensures { λ r. ⌜ r < 32768 ⌝ }
+// Hands the first `end` bytes over to `write`, and answers how many were handed over by then.
+fn hand_over(out: &[u8], end: usize, told: u64) -> u64
+    requires { ⌜ (end ≤ length (now out)) × (told + end ≤ 18446744073709551615) ⌝ }
+    ensures { λ r. ⌜ r ≡ told + end ⌝ }
 {
-    let mut y = rows.first;
-    let mut left = rows.count;
-    let mut filled = at;
-    while left > 0 {
-        let count = reports::least(left, 512);
-        let end = reports::write_rows(out, filled, v, y, count);
-        filled = console::flush(out, end);
-        y += count as i32;
-        left -= count;
-    }
-    filled
+    console::write(out, end);
+    told + end as u64
 }
 
-fn answer(input: &[u8], out: &mut [u8])
+// Hands the report over, part after part, and answers how many bytes that were: all of it, no part left out and none twice.
+fn list(out: &mut [u8], v: Vertices) -> u64
     requires { ⌜ length (now out) ≡ 65536 ⌝ }
+    ensures { λ r. ⌜ r ≡ length (report v) ⌝ }
 {
-    let v = text::first_vertices(input);
-    let rows = reports::rows_of(v);
-    let at = reports::write_heading(out, 0, v.ok, rows);
-    let end = list(out, at, v, rows);
-    console::write(out, end);
+    let mut part = reports::first_part(out, v);
+    let mut told = hand_over(out, part.end, 0);
+    while part.left > 0 {
+        part = reports::next_part(out, v, part);
+        told = hand_over(out, part.end, told);
+    }
+    told
 }
 
 fn main() {
@@ -68,5 +60,6 @@ fn main() {
         return;
     }
     let end = st.end;
-    answer(&input[..end], &mut out);
+    let v = text::first_vertices(&input[..end]);
+    list(&mut out, v);
 }

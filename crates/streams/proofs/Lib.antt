@@ -3,3 +3,4 @@ pub mod Answers
 pub mod Run
 pub mod Lines
 pub mod Turns
+pub mod Determined

@@ -13,7 +13,7 @@ use Rattle.text.specs.declared.NextI32.{NextI32}
 use Rattle.text.specs.declared.Signed.{Signed}
 use Rattle.text.specs.declared.Unsigned.{Unsigned}
 use Rattle.text.specs.Read.{unsigned, plain, negated, readDigits, readU32, readSigned, readI32}
-use Rattle.text.specs.Fields.{until, fields, fieldAt, fieldEnd, nextU32, nextI32, number, numbers, exactly, readPlace, readVertices}
+use Rattle.text.specs.Fields.{until, fields, fieldAt, fieldEnd, nextU32, nextI32, number, numbers, exactly, readPlace, noVertices, readVertices}
 use Rattle.text.proofs.And.{and-first}
 use Rattle.text.proofs.Parting.{Progress, no-field, same-field, progress-start, progress-step, progress-end}
 
@@ -140,8 +140,7 @@ pub a-place : (fs : List (List ℕ)) (x y : ℤ) → exactly 2 fs ≡ true → x
 unfolding readPlace
 a-place fs x y e p q = rw (e, p, q)
 
-pub no-vertices : (fs : List (List ℕ)) → exactly 6 fs ≡ false
-    → record { ok = false; x1 = pos 0; y1 = pos 0; x2 = pos 0; y2 = pos 0; x3 = pos 0; y3 = pos 0 } ≡ readVertices fs
+pub no-vertices : (fs : List (List ℕ)) → exactly 6 fs ≡ false → noVertices ≡ readVertices fs
 unfolding readVertices
 no-vertices fs e = rw e
 

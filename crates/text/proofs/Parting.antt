@@ -74,6 +74,9 @@ from-field line at h =
 pub part-end-within : (stop : ℕ) (s : List ℕ) (at : ℕ) → at ≤ length s → at + until stop (drop at s) ≤ length s
 part-end-within stop s at h = omega (arith, until-within stop (drop at s), length-drop at s)
 
+pub field-ends : (line : List ℕ) {at end : ℕ} → at ≤ length line → end ≡ fieldEnd line at → end ≤ length line
+field-ends line {at} h e = omega (arith, part-end-within 9 line at h, e)
+
 -- behind the line there is no field
 pub no-field : (line : List ℕ) (at : ℕ) → length line < at → fieldAt line at ≡ []
 no-field line at h = rw (drop-of-length-le line (le-of-lt h))

@@ -68,11 +68,14 @@ readPlace fs =
     (record { ok = true; x = number fs 0 .value; y = number fs 1 .value })
     (record { ok = false; x = pos 0; y = pos 0 })
 
+abbrev pub noVertices : Vertices
+noVertices = record { ok = false; x1 = pos 0; y1 = pos 0; x2 = pos 0; y2 = pos 0; x3 = pos 0; y3 = pos 0 }
+
 unfoldable pub readVertices : List (List ℕ) → Vertices
 readVertices fs =
     cond (exactly 6 fs)
     (record { ok = true; x1 = number fs 0 .value; y1 = number fs 1 .value; x2 = number fs 2 .value; y2 = number fs 3 .value; x3 = number fs 4 .value; y3 = number fs 5 .value })
-    (record { ok = false; x1 = pos 0; y1 = pos 0; x2 = pos 0; y2 = pos 0; x3 = pos 0; y3 = pos 0 })
+    noVertices
 
 -- which of the fields is no number, counted from 1: the first such; one past the last, where there is none
 abbrev pub firstBad : List (List ℕ) → ℕ

@@ -3,7 +3,7 @@
 ghost use mathlib.Core.Path.{_≡_};
 ghost use Prim.Native.Nat.{_≤_};
 ghost use lib.ListN.{length};
-ghost use Rattle.text.specs.Fields.{fields, nextU32, nextI32, readPlace, readVertices, firstBad, badField};
+ghost use Rattle.text.specs.Fields.{fields, nextU32, nextI32, readPlace, noVertices, readVertices, firstBad, badField};
 use crate::NextI32;
 use crate::NextU32;
 use crate::Place;
@@ -72,6 +72,21 @@ pub fn read_place(line: &[u8]) -> Place
     }
 }
 
+// Inside the library: what a line says that is no three vertices.
+pub fn no_vertices() -> Vertices
+    ensures { λ r. ⌜ r ≡ noVertices ⌝ }
+{
+    Vertices {
+        ok: false,
+        x1: 0,
+        y1: 0,
+        x2: 0,
+        y2: 0,
+        x3: 0,
+        y3: 0,
+    }
+}
+
 // The three vertices whose six coordinates are the line.
 pub fn read_vertices(line: &[u8]) -> Vertices
     ensures { λ r. ⌜ r ≡ readVertices (fields (now (line .entry))) ⌝ }
@@ -83,15 +98,7 @@ pub fn read_vertices(line: &[u8]) -> Vertices
     let x3 = next_i32(line, y2.next);
     let y3 = next_i32(line, x3.next);
     if y3.next != line.len() + 1 {
-        return Vertices {
-            ok: false,
-            x1: 0,
-            y1: 0,
-            x2: 0,
-            y2: 0,
-            x3: 0,
-            y3: 0,
-        };
+        return no_vertices();
     }
     Vertices {
         ok: true,

@@ -7,6 +7,7 @@ mod write;
 pub use fields::bad_field;
 pub use fields::next_i32;
 pub use fields::next_u32;
+pub use fields::no_vertices;
 pub use fields::read_place;
 pub use fields::read_vertices;
 pub use parts::find;

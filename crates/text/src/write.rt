@@ -3,7 +3,7 @@ ghost use mathlib.Core.Path.{_≡_};
 ghost use Prim.Native.Nat.{_+_, _≤_};
 ghost use lib.Dec.{leb};
 ghost use lib.IntN.{natAbs};
-ghost use lib.ListN.{length};
+ghost use lib.ListN.{length, set};
 ghost use lib.Seq.{sets};
 ghost use Rattle.text.specs.Words.{badLine, numbered, counted};
 ghost use Rattle.text.specs.Show.{shown, lastDigits, shownSigned, numberField, triple};
@@ -99,14 +99,22 @@ pub fn write_bytes(buf: &mut [u8], at: usize, s: &[u8]) -> usize
     at + i
 }
 
+// The byte `b`.
+fn write_byte(buf: &mut [u8], at: usize, b: u8) -> usize
+    requires { ⌜ at + 1 ≤ length (now buf) ⌝ }
+    ensures { λ r. ⌜ (r ≡ at + 1) × (now (buf .exit) ≡ set (now (buf .entry)) at b) ⌝ }
+{
+    buf[at] = b;
+    at + 1
+}
+
 // Inside the library: the text of `v` and the byte `stop` behind it.
 pub fn write_field(buf: &mut [u8], at: usize, v: i32, stop: u8) -> usize
     requires { ⌜ at + length (numberField v stop) ≤ length (now buf) ⌝ }
     ensures { λ r. ⌜ (r ≡ at + length (numberField v stop)) × (now (buf .exit) ≡ sets (now (buf .entry)) at (numberField v stop)) ⌝ }
 {
     let end = write_i32(buf, at, v);
-    buf[end] = stop;
-    end + 1
+    write_byte(buf, end, stop)
 }
 
 // Inside the library: `a`, `b` and `c`, parted by tabs, and the byte `stop` behind them. With LF it is a row of a list.
@@ -125,8 +133,7 @@ pub fn write_number(buf: &mut [u8], at: usize, n: u64, stop: u8) -> usize
     ensures { λ r. ⌜ (r ≡ at + length (numbered n stop)) × (now (buf .exit) ≡ sets (now (buf .entry)) at (numbered n stop)) ⌝ }
 {
     let end = write_u64(buf, at, n);
-    buf[end] = stop;
-    end + 1
+    write_byte(buf, end, stop)
 }
 
 // Inside the library: a word, and a number behind it, in a line.

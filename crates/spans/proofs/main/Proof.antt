@@ -1,4 +1,4 @@
--- `spans::main` answers what was read. Assumes nothing.
+-- `spans::main` lists the spans of what was read. Assumes nothing.
 use mathlib.Core.Path.{sym}
 use native.Mathlib.Omega.{arith}
 use lib.Seq.{length-take-le}
@@ -21,14 +21,17 @@ returns c = search needs
 array-share-prefix-input : tie.Need-array-share-prefix-input
 array-share-prefix-input c = search needs
 
-slice-aggregate-answer : tie.Need-slice-aggregate-answer
-slice-aggregate-answer c = sym (length-take-le _ _ (omega (arith, c .before .before .before .read-line .ensures .0 .most)))
+slice-aggregate-first-vertices : tie.Need-slice-aggregate-first-vertices
+slice-aggregate-first-vertices c = sym (length-take-le _ _ (omega (arith, c .before .before .before .read-line .ensures .0 .most)))
 
-slice-aggregate-answer-2 : tie.Need-slice-aggregate-answer-2
-slice-aggregate-answer-2 c = search needs
+first-vertices-requires : tie.Need-first-vertices-requires
+first-vertices-requires c κs = search needs
 
-answer-requires : tie.Need-answer-requires
-answer-requires c κs = search needs
+slice-aggregate-list : tie.Need-slice-aggregate-list
+slice-aggregate-list c = search needs
+
+list-requires : tie.Need-list-requires
+list-requires c κs = search needs
 
 returns-2 : tie.Need-returns-2
 returns-2 c = search needs
@@ -42,7 +45,8 @@ main-spec =
     complain-requires
     returns
     array-share-prefix-input
-    slice-aggregate-answer
-    slice-aggregate-answer-2
-    answer-requires
+    slice-aggregate-first-vertices
+    first-vertices-requires
+    slice-aggregate-list
+    list-requires
     returns-2)

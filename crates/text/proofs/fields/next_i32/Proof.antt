@@ -7,7 +7,7 @@ use lib.IntN.{ℤ}
 use mir.Syntax.{w32}
 use borrow.Author.Needs.{needs}
 use Rattle.whole.proofs.Machine.{field-back}
-use Rattle.text.proofs.Parting.{part-end-within}
+use Rattle.text.proofs.Parting.{field-ends}
 use Rattle.text.proofs.Numbers.{i32-found, i32-other, i32-past}
 use Rattle.text.proofs.fields.next_i32.Statement.{statement}
 use Rattle.text.proofs.fields.next_i32.Tie as tie
@@ -22,17 +22,13 @@ part-read-i32-start : tie.Need-part-read-i32-start
 part-read-i32-start c = search needs
 
 part-read-i32-end : tie.Need-part-read-i32-end
-part-read-i32-end c =
-    let a = c .before .before .before .args in
-    omega (arith, c .part-end .ensures, part-end-within 9 (a .line .now) (a .at) (c .before .if1 .taken))
+part-read-i32-end c = field-ends (c .before .before .before .args .line .now) (c .before .if1 .taken) (c .part-end .ensures)
 
 read-i32-requires : tie.Need-read-i32-requires
 read-i32-requires c κs = search needs
 
 add-t12 : tie.Need-add-t12
-add-t12 c =
-    let a = c .before .before .before .before .before .before .args in
-    omega (arith, c .before .before .before .part-end .ensures, part-end-within 9 (a .line .now) (a .at) (c .before .before .before .before .if1 .taken))
+add-t12 c = omega (arith, field-ends (c .before .before .before .before .before .before .args .line .now) (c .before .before .before .before .if1 .taken) (c .before .before .before .part-end .ensures))
 
 returns : tie.Need-returns
 returns c =

@@ -2,7 +2,7 @@
 use mathlib.Core.Logic.{⊎-elim}
 use native.Mathlib.Omega.{arith}
 use borrow.Author.Needs.{needs}
-use Rattle.text.proofs.Parting.{part-end-within}
+use Rattle.text.proofs.Parting.{field-ends}
 use Rattle.text.proofs.Numbers.{u32-found, u32-other, u32-past}
 use Rattle.text.proofs.fields.next_u32.Statement.{statement}
 use Rattle.text.proofs.fields.next_u32.Tie as tie
@@ -17,17 +17,13 @@ part-read-u32-start : tie.Need-part-read-u32-start
 part-read-u32-start c = search needs
 
 part-read-u32-end : tie.Need-part-read-u32-end
-part-read-u32-end c =
-    let a = c .before .before .before .args in
-    omega (arith, c .part-end .ensures, part-end-within 9 (a .line .now) (a .at) (c .before .if1 .taken))
+part-read-u32-end c = field-ends (c .before .before .before .args .line .now) (c .before .if1 .taken) (c .part-end .ensures)
 
 read-u32-requires : tie.Need-read-u32-requires
 read-u32-requires c κs = search needs
 
 add-t12 : tie.Need-add-t12
-add-t12 c =
-    let a = c .before .before .before .before .before .before .args in
-    omega (arith, c .before .before .before .part-end .ensures, part-end-within 9 (a .line .now) (a .at) (c .before .before .before .before .if1 .taken))
+add-t12 c = omega (arith, field-ends (c .before .before .before .before .before .before .args .line .now) (c .before .before .before .before .if1 .taken) (c .before .before .before .part-end .ensures))
 
 returns : tie.Need-returns
 returns c =

@@ -49,10 +49,13 @@ next-i32-requires-6 c κs = search needs
 add-if1 : tie.Need-add-if1
 add-if1 c = search needs
 
+no-vertices-requires : tie.Need-no-vertices-requires
+no-vertices-requires c κs = search needs
+
 returns : tie.Need-returns
 returns c =
-    let line = c .before .before .before .before .before .before .before .before .before .args .line .now in
-    no-vertices (fields line) (not-ended line 6 (c .before .before .next-i326 .result .next) (behind-six (c .before .before)) (c .if1 .taken))
+    let line = c .before .before .before .before .before .before .before .before .before .before .args .line .now in
+    c .no-vertices .ensures ∙ no-vertices (fields line) (not-ended line 6 (c .before .before .before .next-i326 .result .next) (behind-six (c .before .before .before)) (c .before .if1 .taken))
 
 returns-2 : tie.Need-returns-2
 returns-2 c =
@@ -83,5 +86,6 @@ read-vertices-spec =
     next-i32-requires-5
     next-i32-requires-6
     add-if1
+    no-vertices-requires
     returns
     returns-2)

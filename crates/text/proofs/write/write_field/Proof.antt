@@ -3,10 +3,11 @@ use mathlib.Core.Path.{subst}
 use mathlib.Core.List.{[], _∷_}
 use native.Mathlib.Omega.{arith}
 use lib.IntN.{ℤ}
-use lib.ListN.{length-append, length-set}
+use lib.ListN.{length-append}
 use mir.Facts.{toZ-ofZ}
+use borrow.Author.Needs.{needs}
 use Rattle.text.specs.Show.{shownSigned}
-use Rattle.text.proofs.Writing.{Wrote, wrote-byte}
+use Rattle.text.proofs.Writing.{Wrote, wrote-then}
 use Rattle.text.proofs.write.write_field.Statement.{statement}
 use Rattle.text.proofs.write.write_field.Tie as tie
 
@@ -22,25 +23,18 @@ write-i32-requires c κs =
     let a = c .before .before .args in
     rw (toZ-ofZ (c .before .before .fits .v)) (omega (arith, c .before .before .pre, length-append (shownSigned (a .v)) (a .stop ∷ [])))
 
-slice-write-buf : tie.Need-slice-write-buf
-slice-write-buf c =
-    let a = c .before .before .before .before .before .args in
-    let w = number (c .before .before) in
-    omega (arith, c .before .before .before .before .before .pre, w .0, c .before .before .write-i32 .kept .0, length-append (shownSigned (a .v)) (a .stop ∷ []))
-
-add-result : tie.Need-add-result
-add-result c =
-    let a = c .before .before .before .before .before .args in
-    omega (arith, c .before .before .before .before .before .pre, number (c .before .before) .0, length-append (shownSigned (a .v)) (a .stop ∷ []))
+write-byte-requires : tie.Need-write-byte-requires
+write-byte-requires c κs =
+    let a = c .before .before .before .before .before .before .args in
+    omega (arith, c .before .before .before .before .before .before .pre, number (c .before .before .before) .0, c .before .before .before .write-i32 .kept .0, length-append (shownSigned (a .v)) (a .stop ∷ []))
 
 same-length : tie.Need-same-length
-same-length c = simp length-set (c .before .before .write-i32 .kept .0)
+same-length c = search needs
 
 returns : tie.Need-returns
 returns c =
-    let a = c .before .before .before .before .before .args in
-    wrote-byte (a .buf .now) (a .at) (shownSigned (a .v)) (a .stop) (number (c .before .before))
+    let a = c .before .before .before .before .before .before .before .before .before .args in
+    wrote-then (a .buf .now) (a .at) (shownSigned (a .v)) (a .stop ∷ []) (number (c .before .before .before .before .before .before)) (c .before .before .write-byte .ensures)
 
 pub write-field-spec : {M : Type 1} → statement M
-write-field-spec =
-    tie.close (tie.spec write-i32-requires slice-write-buf add-result same-length returns)
+write-field-spec = tie.close (tie.spec write-i32-requires write-byte-requires same-length returns)

@@ -1,0 +1,69 @@
+-- `reports::spans::next_part` writes at most 1,024 rows, for which the buffer has room. Assumes nothing.
+use mathlib.Core.Path.{_≡_, sym, ap, ap₂, subst, _∙_}
+use Prim.Native.Nat.{ℕ, _≤_}
+use native.Mathlib.Omega.{arith}
+use lib.IntN.{ℤ, pos, _+ℤ_}
+use lib.Signed.{_≤ℤ_}
+use mir.Syntax.{w32}
+use mir.Val.{toZ, ofZ, SFits}
+use mir.Facts.{toZ-ofZ}
+use borrow.Author.Needs.{needs}
+use Rattle.whole.proofs.Machine.{same-bits, field-back}
+use Rattle.text.proofs.Writing.{wrote-as}
+use Rattle.reports.specs.Spans.{rowLines}
+use Rattle.reports.proofs.Report.{next-part-is}
+use Rattle.reports.proofs.Within.{further-fits, fewer-below}
+use Rattle.reports.proofs.spans.next_part.Statement.{statement}
+use Rattle.reports.proofs.spans.next_part.Tie as tie
+
+-- the rows of the part
+module _ (c : tie.After-least) where
+  few : c .least .result ≤ c .before .before .args .p .left
+  few = omega (arith, c .least .ensures)
+
+  at-once : c .least .result ≤ 1024
+  at-once = omega (arith, c .least .ensures)
+
+  module _ (first : toZ w32 (ofZ w32 (c .before .before .args .p .first)) ≡ c .before .before .args .p .first) where
+    below : toZ w32 (ofZ w32 (c .before .before .args .p .first)) +ℤ toZ w32 (c .least .result) ≡ c .before .before .args .p .first +ℤ pos (c .least .result)
+    below = ap₂ (λ (y z : ℤ). y +ℤ z) first (same-bits {w = w32} at-once tt .is)
+
+    next : SFits w32 (c .before .before .args .p .first) → SFits w32 (toZ w32 (ofZ w32 (c .before .before .args .p .first)) +ℤ toZ w32 (c .least .result))
+    next f = let p = c .before .before .args .p in subst (SFits w32) (sym below) (further-fits (p .first) (p .left) (c .least .result) few (c .before .before .pre .1) f)
+
+least-requires : tie.Need-least-requires
+least-requires c κs = search needs
+
+write-rows-requires : tie.Need-write-rows-requires
+write-rows-requires c κs =
+    let p = c .before .before .before .before .args .p in
+    let n = c .before .before .least .result in (
+      omega (arith, c .before .before .before .before .pre .0, at-once (c .before .before)),
+      subst (λ (z : ℤ). (z +ℤ pos n) ≤ℤ pos 131072) (sym (field-back w32 (p .first) (c .struct-told .given .1 .0 .1))) (fewer-below (p .first) (p .left) n (few (c .before .before)) (c .before .before .before .before .pre .1)),
+    )
+
+cast-t8 : tie.Need-cast-t8
+cast-t8 c = search needs
+
+add-t9 : tie.Need-add-t9
+add-t9 c = let f = c .struct-told2 .given .1 .0 .1 in next (c .before .before .before .before .before .before .before) (field-back w32 (c .before .before .before .before .before .before .before .before .before .args .p .first) f) (record { sfits = f })
+
+sub-t10 : tie.Need-sub-t10
+sub-t10 c = search needs
+
+same-length : tie.Need-same-length
+same-length c = search needs
+
+returns : tie.Need-returns
+returns c =
+    let p = c .before .before .before .before .before .before .before .before .before .before .args .p in
+    let v = c .before .before .before .before .before .before .before .before .before .before .args .v in
+    let f = c .before .struct-told2 .given .1 .0 .1 in
+    let first = field-back w32 (p .first) f in
+    let w = wrote-as (c .before .before .before .before .before .before .before .before .before .before .args .out .now) 0 (ap₂ (λ (z : ℤ) (k : ℕ). rowLines v z k) first (c .before .before .before .before .before .before .before .before .least .ensures)) (c .before .before .before .before .before .write-rows .ensures) in
+    (next-part-is v p (w .0) (toZ-ofZ (next (c .before .before .before .before .before .before .before .before) first (record { sfits = f })) ∙ below (c .before .before .before .before .before .before .before .before) first) (c .before .before .before .before .before .before .before .before .least .ensures), w .1)
+
+pub next-part-spec : {M : Type 1} → statement M
+next-part-spec =
+    tie.close
+    (tie.spec least-requires write-rows-requires cast-t8 add-t9 sub-t10 same-length returns)

@@ -1,9 +1,6 @@
 -- Each exported contract determines its answer and every byte: any two results that it allows of the same arguments are equal. `Post` is the
 -- contract as the source states it; the buffer, which comes first, is at exit the first of s. Assumes nothing.
-use mathlib.Core.Path.{_≡_, sym, _∙_}
-use mathlib.Core.List.{List}
-use Prim.Native.Nat.{ℕ}
-use Rattle.framebuffer.specs.declared.Drawn.{Drawn}
+use Rattle.whole.proofs.Determined.{One, OneBuffer, same}
 use Rattle.beamacorn.proofs.beamacorn_line_length.Reads as line-length
 use Rattle.beamacorn.proofs.beamacorn_line_point.Reads as line-point
 use Rattle.beamacorn.proofs.beamacorn_line_has_point.Reads as line-has-point
@@ -22,51 +19,51 @@ use Rattle.beamacorn.proofs.beamacorn_draw_outline.Reads as draw-outlin
 use Rattle.beamacorn.proofs.beamacorn_draw_circle.Reads as draw-circle
 
 -- ---- questions
-pub line-length-one : (κs : _) (args : _) (r q : _) (s t : _) → line-length.Post κs args r s → line-length.Post κs args q t → r ≡ q
-line-length-one κs args r q s t h k = h ∙ sym k
+pub line-length-one : One line-length.Post
+line-length-one κs args r q s t = same
 
-pub line-point-one : (κs : _) (args : _) (r q : _) (s t : _) → line-point.Post κs args r s → line-point.Post κs args q t → r ≡ q
-line-point-one κs args r q s t h k = h ∙ sym k
+pub line-point-one : One line-point.Post
+line-point-one κs args r q s t = same
 
-pub line-has-point-one : (κs : _) (args : _) (r q : _) (s t : _) → line-has-point.Post κs args r s → line-has-point.Post κs args q t → r ≡ q
-line-has-point-one κs args r q s t h k = h ∙ sym k
+pub line-has-point-one : One line-has-point.Post
+line-has-point-one κs args r q s t = same
 
-pub triangle-contains-one : (κs : _) (args : _) (r q : _) (s t : _) → triangle-contains.Post κs args r s → triangle-contains.Post κs args q t → r ≡ q
-triangle-contains-one κs args r q s t h k = h ∙ sym k
+pub triangle-contains-one : One triangle-contains.Post
+triangle-contains-one κs args r q s t = same
 
-pub triangle-rows-one : (κs : _) (args : _) (r q : _) (s t : _) → triangle-rows.Post κs args r s → triangle-rows.Post κs args q t → r ≡ q
-triangle-rows-one κs args r q s t h k = h ∙ sym k
+pub triangle-rows-one : One triangle-rows.Post
+triangle-rows-one κs args r q s t = same
 
-pub triangle-row-span-one : (κs : _) (args : _) (r q : _) (s t : _) → triangle-row-span.Post κs args r s → triangle-row-span.Post κs args q t → r ≡ q
-triangle-row-span-one κs args r q s t h k = h ∙ sym k
+pub triangle-row-span-one : One triangle-row-span.Post
+triangle-row-span-one κs args r q s t = same
 
-pub circle-contains-one : (κs : _) (args : _) (r q : _) (s t : _) → circle-contains.Post κs args r s → circle-contains.Post κs args q t → r ≡ q
-circle-contains-one κs args r q s t h k = h ∙ sym k
+pub circle-contains-one : One circle-contains.Post
+circle-contains-one κs args r q s t = same
 
-pub circle-row-span-one : (κs : _) (args : _) (r q : _) (s t : _) → circle-row-span.Post κs args r s → circle-row-span.Post κs args q t → r ≡ q
-circle-row-span-one κs args r q s t h k = h ∙ sym k
+pub circle-row-span-one : One circle-row-span.Post
+circle-row-span-one κs args r q s t = same
 
-pub frame-size-one : (κs : _) (args : _) (r q : _) (s t : _) → frame-size.Post κs args r s → frame-size.Post κs args q t → r ≡ q
-frame-size-one κs args r q s t h k = h ∙ sym k
+pub frame-size-one : One frame-size.Post
+frame-size-one κs args r q s t = same
 
-pub pixel-one : (κs : _) (args : _) (r q : _) (s t : _) → pixel.Post κs args r s → pixel.Post κs args q t → r ≡ q
-pixel-one κs args r q s t h k = h ∙ sym k
+pub pixel-one : One pixel.Post
+pixel-one κs args r q s t = same
 
 -- ---- calls that draw: the answer, and the bytes that it leaves
-pub set-pixel-one : (κs : _) (args : _) (r q : _) (s t : _) → set-pixel.Post κs args r s → set-pixel.Post κs args q t → _≡_ {A = Drawn × List ℕ} (r, s .0 .now) (q, t .0 .now)
-set-pixel-one κs args r q s t h k = h ∙ sym k
+pub set-pixel-one : OneBuffer set-pixel.Post
+set-pixel-one κs args r q s t = same
 
-pub fill-one : (κs : _) (args : _) (r q : _) (s t : _) → fill.Post κs args r s → fill.Post κs args q t → _≡_ {A = Drawn × List ℕ} (r, s .0 .now) (q, t .0 .now)
-fill-one κs args r q s t h k = h ∙ sym k
+pub fill-one : OneBuffer fill.Post
+fill-one κs args r q s t = same
 
-pub draw-line-one : (κs : _) (args : _) (r q : _) (s t : _) → draw-line.Post κs args r s → draw-line.Post κs args q t → _≡_ {A = Drawn × List ℕ} (r, s .0 .now) (q, t .0 .now)
-draw-line-one κs args r q s t h k = h ∙ sym k
+pub draw-line-one : OneBuffer draw-line.Post
+draw-line-one κs args r q s t = same
 
-pub draw-triangle-one : (κs : _) (args : _) (r q : _) (s t : _) → draw-triangle.Post κs args r s → draw-triangle.Post κs args q t → _≡_ {A = Drawn × List ℕ} (r, s .0 .now) (q, t .0 .now)
-draw-triangle-one κs args r q s t h k = h ∙ sym k
+pub draw-triangle-one : OneBuffer draw-triangle.Post
+draw-triangle-one κs args r q s t = same
 
-pub draw-outline-one : (κs : _) (args : _) (r q : _) (s t : _) → draw-outline.Post κs args r s → draw-outline.Post κs args q t → _≡_ {A = Drawn × List ℕ} (r, s .0 .now) (q, t .0 .now)
-draw-outline-one κs args r q s t h k = h ∙ sym k
+pub draw-outline-one : OneBuffer draw-outline.Post
+draw-outline-one κs args r q s t = same
 
-pub draw-circle-one : (κs : _) (args : _) (r q : _) (s t : _) → draw-circle.Post κs args r s → draw-circle.Post κs args q t → _≡_ {A = Drawn × List ℕ} (r, s .0 .now) (q, t .0 .now)
-draw-circle-one κs args r q s t h k = h ∙ sym k
+pub draw-circle-one : OneBuffer draw-circle.Post
+draw-circle-one κs args r q s t = same

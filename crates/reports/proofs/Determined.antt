@@ -4,7 +4,7 @@ use mathlib.Core.Path.{_≡_, ap}
 use mathlib.Core.List.{List}
 use Prim.Native.Nat.{ℕ}
 use denote.Ref.{RefT, now}
-use Rattle.text.proofs.Determined.{One, OneText, same}
+use Rattle.whole.proofs.Determined.{One, OneText, same}
 use Rattle.reports.specs.declared.Part.{Part}
 use Rattle.reports.specs.declared.Tally.{Tally}
 use Rattle.reports.proofs.spans.rows_of.Reads as rows-of

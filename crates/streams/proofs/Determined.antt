@@ -4,7 +4,7 @@
 use mathlib.Core.Path.{_≡_, sym, ap, _∙_}
 use mathlib.Core.Bool.{true}
 use denote.Ref.{now}
-use Rattle.text.proofs.Determined.{One, same}
+use Rattle.whole.proofs.Determined.{One, same}
 use Rattle.streams.specs.State.{written, emptied}
 use Rattle.streams.specs.Refill.{whole}
 use Rattle.streams.proofs.start.Reads as start

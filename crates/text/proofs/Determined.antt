@@ -1,9 +1,6 @@
 -- Each public contract of this crate determines its answer, and the buffer afterwards: any two results that it allows of the same arguments are equal.
 -- `Post` is the contract as the source states it. Assumes nothing.
-use mathlib.Core.Path.{_≡_, sym, _∙_}
-use mathlib.Core.List.{List}
-use Prim.Native.Nat.{ℕ}
-use denote.Ref.{RefT, now}
+use Rattle.whole.proofs.Determined.{One, OneText, same, both}
 use Rattle.text.proofs.read.read_digits.Reads as read-digits
 use Rattle.text.proofs.read.read_u32.Reads as read-u32
 use Rattle.text.proofs.read.read_signed.Reads as read-signed
@@ -28,20 +25,6 @@ use Rattle.text.proofs.write.write_counted.Reads as write-counted
 use Rattle.text.proofs.write.write_bad.Reads as write-bad
 use Rattle.text.proofs.fields.bad_field.Reads as bad-field
 use Rattle.text.proofs.parts.keep.Reads as keep
-
--- ---- what it is to determine an answer, or the next place and the buffer
-abbrev pub One : {K A R S : Type 0} → (K → A → R → S → Type 0) → Type 0
-One {K} {A} {R} {S} Post = (κs : K) (args : A) (r q : R) (s t : S) → Post κs args r s → Post κs args q t → r ≡ q
-
-abbrev pub OneText : {K A S : Type 0} → (K → A → ℕ → RefT (List ℕ) × S → Type 0) → Type 0
-OneText {K} {A} {S} Post =
-    (κs : K) (args : A) (r q : ℕ) (s t : RefT (List ℕ) × S) → Post κs args r s → Post κs args q t → (r ≡ q) × (now (s .0) ≡ now (t .0))
-
-pub same : {R : Type 0} {r q z : R} → r ≡ z → q ≡ z → r ≡ q
-same h k = h ∙ sym k
-
-pub both : {r q n : ℕ} {l m z : List ℕ} → (r ≡ n) × (l ≡ z) → (q ≡ n) × (m ≡ z) → (r ≡ q) × (l ≡ m)
-both h k = (same (h .0) (k .0), same (h .1) (k .1))
 
 -- ---- reading, and what is asked
 pub read-digits-one : One read-digits.Post

@@ -5,3 +5,4 @@ pub mod Machine
 pub mod Sizes
 pub mod Decides
 pub mod Tests
+pub mod Determined

@@ -16,7 +16,7 @@ use Rattle.framebuffer.specs.declared.Brush.{Brush}
 use Rattle.framebuffer.specs.declared.Drawn.{Drawn}
 use Rattle.framebuffer.specs.Description.{raster, drawTests}
 use Rattle.framebuffer.specs.Drawing.{Drawing, fillDrawing, callTests, outcome}
-use Rattle.framebuffer.specs.Judged.{Drawable, Ready, wholeBrush, brushed}
+use Rattle.framebuffer.specs.Judged.{Drawable, Within, Ready, wholeBrush, brushed}
 use Rattle.framebuffer.specs.Window.{heldBy, wholeWindow}
 use Rattle.framebuffer.proofs.Refusals.{draw-numbered, is-drawable}
 use Rattle.framebuffer.proofs.Windows.{whole-within, painted-whole}
@@ -47,9 +47,6 @@ module _ (f : Frame) (len colour : ℕ) where
   ready : Drawable f len colour → {q : Brush} → q ≡ wholeBrush f colour → Ready q len
   ready D p = subst (λ (q : Brush). Ready q len) (sym p) (record { drawable = D; within = whole-within f })
 
-  pub ready-alone : {r : ℕ} {q : Brush} → q ≡ wholeBrush f colour → r ≡ first (drawTests f len colour) → r ≡ 0 → Ready q len
-  ready-alone p e z = ready (drawable e z) p
-
   pub ready-own : (own : Tests) {r : ℕ} {q : Brush} → q ≡ wholeBrush f colour → r ≡ first (drawTests f len colour ++ own) → r ≡ 0 → Ready q len
   ready-own own p e z = ready (drawable-own own e z) p
 
@@ -77,6 +74,14 @@ module _ (f : Frame) (q : Window) (d : Drawing) (b : List ℕ) {r : ℕ} (e : r 
 pub brushed-outcome : (f : Frame) (d : Drawing) (b : List ℕ) {r : ℕ} {q : Brush} {after : List ℕ} → r ≡ first (callTests f (length b) d) → r ≡ 0
     → q ≡ wholeBrush f (d .colour) → after ≡ brushed q (d .figure) b → _≡_ {A = Drawn × List ℕ} (record { number = r }, after) (outcome f (wholeWindow f) d b)
 brushed-outcome f d b e z p h = accepted-outcome f (wholeWindow f) d b e z (h ∙ ap (λ (q : Brush). brushed q (d .figure) b) p)
+
+-- painted within the rectangle of the whole frame
+pub within-whole : {f : Frame} {q : Window} → q ≡ wholeWindow f → Within q f
+within-whole {f} p = subst (λ (q : Window). Within q f) (sym p) (whole-within f)
+
+pub windowed-outcome : (f : Frame) (d : Drawing) (b : List ℕ) {r : ℕ} {q : Window} {after : List ℕ} → r ≡ first (callTests f (length b) d) → r ≡ 0
+    → q ≡ wholeWindow f → after ≡ painted (raster f) (heldBy q (d .figure)) (d .colour) b → _≡_ {A = Drawn × List ℕ} (record { number = r }, after) (outcome f (wholeWindow f) d b)
+windowed-outcome f d b e z p h = accepted-outcome f (wholeWindow f) d b e z (h ∙ ap (λ (q : Window). painted (raster f) (heldBy q (d .figure)) (d .colour) b) p)
 
 -- the whole frame painted
 pub filled-outcome : (f : Frame) (colour : ℕ) (b : List ℕ) {r : ℕ} {after : List ℕ} → r ≡ first (drawTests f (length b) colour) → r ≡ 0

@@ -10,9 +10,9 @@ ghost use Rattle.layout.specs.Figure.{single, spanFigure, everywhere};
 ghost use Rattle.layout.specs.Layout.{putPixel, getPixel, painted};
 ghost use Rattle.layout.specs.Packed.{goodDepth};
 ghost use Rattle.framebuffer.specs.Answer.{sized, read};
-ghost use Rattle.framebuffer.specs.Window.{inWindow, wholeWindow, clipped};
+ghost use Rattle.framebuffer.specs.Window.{inWindow, heldBy, wholeWindow, clipped};
 ghost use Rattle.framebuffer.specs.Description.{described, packed, raster, size, descriptionTests, frameTests, drawTests, readTests, colourAt};
-ghost use Rattle.framebuffer.specs.Judged.{Described, Accepted, Drawable, Ready, wholeBrush, brushed};
+ghost use Rattle.framebuffer.specs.Judged.{Described, Accepted, Drawable, Within, Ready, wholeBrush, brushed};
 ghost use Rattle.framebuffer.specs.Drawing.{pixelDrawing, fillDrawing, outcome};
 
 // A frame as its owner describes it. It is made by Frame::new and by nothing else outside this crate.
@@ -116,7 +116,10 @@ fn description_refusal(frame: Frame) -> u32
     if !depth_ok(frame.depth) {
         return 1;
     }
-    if (2048 < frame.width) | (2048 < frame.height) {
+    if 2048 < frame.width {
+        return 2;
+    }
+    if 2048 < frame.height {
         return 2;
     }
     0
@@ -236,17 +239,24 @@ impl Window {
     }
 }
 
-// Inside the library: the pixel at a place gets the colour, if the rectangle holds it.
+// The pixel at a place gets the colour, if the rectangle holds it.
+fn put_within(buf: &mut [u8], frame: Frame, window: Window, p: geometry::Point, colour: u32)
+    requires { ⌜ Drawable frame (length (now buf)) colour × Within window frame ⌝ }
+    ensures { λ r. ⌜ now (buf .exit) ≡ painted (raster frame) (heldBy window (single (p .0) (p .1))) colour (now (buf .entry)) ⌝ }
+{
+    let x = p.0;
+    let y = p.1;
+    if window.holds(x, y) {
+        put_at(buf, frame, x as u32, y as u32, colour);
+    }
+}
+
+// Inside the library: the same by a brush.
 pub fn put_point(buf: &mut [u8], brush: Brush, p: geometry::Point)
     requires { ⌜ Ready brush (length (now buf)) ⌝ }
     ensures { λ r. ⌜ now (buf .exit) ≡ brushed brush (single (p .0) (p .1)) (now (buf .entry)) ⌝ }
 {
-    let x = p.0;
-    let y = p.1;
-    let window = brush.window;
-    if window.holds(x, y) {
-        put_at(buf, brush.frame, x as u32, y as u32, brush.colour);
-    }
+    put_within(buf, brush.frame, brush.window, p, brush.colour);
 }
 
 // The pixel at a place gets the colour; outside the frame nothing changes.
@@ -255,7 +265,7 @@ pub fn set_pixel(buf: &mut [u8], frame: Frame, p: geometry::Point, colour: u32) 
 {
     let number = draw_refusal(frame, buf.len(), colour);
     if number == 0 {
-        put_point(buf, frame.brush(colour), p);
+        put_within(buf, frame, frame.window(), p, colour);
     }
     Drawn { number }
 }

@@ -256,15 +256,15 @@ pub fn point(start: Point, end: Point, step: u32) -> Step
     }
 }
 
-// How many places p is from a, counted towards b: below 0 on the other side.
+// How many places p is from a, counted towards b: below 0 on the other side. Each way has a difference of its own: one that serves both is kept in
+// registers from the areas on, which costs `contains` a twentieth (docs/BENCHMARKS.md).
 fn progress(a: i32, b: i32, p: i32) -> i64
     ensures { λ r. ⌜ r ≡ toward a b *ℤ (p -ℤ a) ⌝ }
 {
-    let d = p as i64 - a as i64;
     if a <= b {
-        return d;
+        return p as i64 - a as i64;
     }
-    -d
+    a as i64 - p as i64
 }
 
 // Whether `across` are the moves along the minor axis at step `along`: the doubled area between the ideal line and the point is within the band

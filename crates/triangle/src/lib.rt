@@ -153,7 +153,10 @@ fn same_side(a: i64, b: i64, c: i64) -> bool
     requires { ⌜ (natAbs a ≤ 549755813888) × (natAbs b ≤ 549755813888) × (natAbs c ≤ 549755813888) ⌝ }
     ensures { λ r. ⌜ r ≡ (noneBelow a b c || noneAbove a b c) && not (eqZ ((a +ℤ b) +ℤ c) (pos 0)) ⌝ }
 {
-    one_side(a, b, c) || one_side(-a, -b, -c)
+    if one_side(a, b, c) {
+        return true;
+    }
+    one_side(-a, -b, -c)
 }
 
 // Whether p is a point of one of the three edges.

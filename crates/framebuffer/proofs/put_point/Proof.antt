@@ -1,71 +1,16 @@
--- `framebuffer::put_point` puts the pixel where the rectangle holds its place. Assumes nothing.
-use mathlib.Core.Path.{_≡_, sym, ap₂, subst, _∙_}
-use Prim.Native.Nat.{_<_}
-use lib.IntN.{ℤ, pos, natAbs}
-use mir.Syntax.{w32}
-use mir.Val.{toZ, ofZ}
+-- `framebuffer::put_point` takes the brush apart. Assumes nothing.
 use borrow.Author.Needs.{needs}
-use Rattle.whole.proofs.Machine.{field-back}
-use Rattle.layout.specs.Layout.{putPixel}
-use Rattle.framebuffer.specs.Description.{raster}
-use Rattle.framebuffer.specs.Window.{inWindow}
-use Rattle.framebuffer.specs.Judged.{Described}
-use Rattle.framebuffer.proofs.Windows.{within-small, window-pos, cast-fits, point-in, point-put, point-off}
 use Rattle.framebuffer.proofs.put_point.Statement.{statement}
 use Rattle.framebuffer.proofs.put_point.Tie as tie
 
--- what the call may lean on
-ok : (c : tie.Start) → Described (c .args .brush .frame)
-ok c = c .pre .drawable .accepted .described
-
-holds-requires : tie.Need-holds-requires
-holds-requires c κs = let s = c .before .before .before .before in within-small (s .pre .within) (ok s)
-
--- the coordinates, as the code reads them, and whether the rectangle holds them
-across : (c : tie.After-struct-told2) → toZ w32 (ofZ w32 (c .before .before .before .args .p .0)) ≡ c .before .before .before .args .p .0
-across c = field-back w32 (c .before .before .before .args .p .0) (c .struct-told2 .given .0 .1)
-
-down : (c : tie.After-struct-told2) → toZ w32 (ofZ w32 (c .before .before .before .args .p .1)) ≡ c .before .before .before .args .p .1
-down c = field-back w32 (c .before .before .before .args .p .1) (c .struct-told2 .given .1 .0 .1)
-
-held : (c : tie.After-holds) → (let a = c .before .before .before .before .before .args in inWindow (a .brush .window) (a .p .0) (a .p .1) ≡ c .holds .result)
-held c = let a = c .before .before .before .before .before .args in sym (c .holds .ensures ∙ ap₂ (inWindow (a .brush .window)) (across (c .before .before)) (down (c .before .before)))
-
--- there neither is negative
-inner : (c : tie.Then1) → (let p = c .before .before .before .before .before .before .args .p in (p .0 ≡ pos (natAbs (p .0))) × (p .1 ≡ pos (natAbs (p .1))))
-inner c = let a = c .before .before .before .before .before .before .args in window-pos (a .brush .window) (a .p .0) (a .p .1) (held (c .before) ∙ c .if1 .taken)
-
-cast-put-at : tie.Need-cast-put-at
-cast-put-at c = cast-fits (record { sfits = c .before .before .before .before .struct-told2 .given .0 .1 }) (inner (c .before) .0)
-
-cast-put-at-2 : tie.Need-cast-put-at-2
-cast-put-at-2 c = cast-fits (record { sfits = c .before .before .before .before .struct-told2 .given .1 .0 .1 }) (inner (c .before) .1)
-
-put-at-requires : tie.Need-put-at-requires
-put-at-requires c κs =
-    let s = c .before .before .before .before .before .before .before in
-    let a = s .args in
-    let told = c .before .before .before .before in
-    let p = point-in (a .brush .frame) (ok s) (a .brush .colour) (a .buf .now) (a .brush .window) (a .p .0) (a .p .1) (s .pre .within) (held (c .before .before) ∙ c .before .if1 .taken) in
-    (s .pre .drawable, subst (λ (x : ℤ). natAbs x < a .brush .frame .width) (sym (across told)) (p .0), subst (λ (y : ℤ). natAbs y < a .brush .frame .height) (sym (down told)) (p .1))
+put-within-requires : tie.Need-put-within-requires
+put-within-requires c κs = search needs
 
 same-length : tie.Need-same-length
 same-length c = search needs
 
 returns : tie.Need-returns
-returns c =
-    let s = c .before .before .before .before .before .before .before .before .before .before in
-    let a = s .args in
-    let told = c .before .before .before .before .before .before .before in
-    c .before .before .put-at .ensures
-    ∙ ap₂ (λ (x y : ℤ). putPixel (raster (a .brush .frame)) (natAbs x) (natAbs y) (a .brush .colour) (a .buf .now)) (across told) (down told)
-    ∙ point-put (a .brush .frame) (ok s) (a .brush .colour) (a .buf .now) (a .brush .window) (a .p .0) (a .p .1) (s .pre .within) (held (c .before .before .before .before .before) ∙ c .before .before .before .before .if1 .taken)
-
-returns-2 : tie.Need-returns-2
-returns-2 c =
-    let s = c .before .before .before .before .before .before in
-    let a = s .args in
-    point-off (a .brush .frame) (ok s) (a .brush .colour) (a .buf .now) (a .brush .window) (a .p .0) (a .p .1) (held (c .before) ∙ c .if1 .left)
+returns c = search needs
 
 pub put-point-spec : {M : Type 1} → statement M
-put-point-spec = tie.close (tie.spec holds-requires cast-put-at cast-put-at-2 put-at-requires same-length returns returns-2)
+put-point-spec = tie.close (tie.spec put-within-requires same-length returns)

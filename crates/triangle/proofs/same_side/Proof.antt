@@ -55,7 +55,7 @@ second c =
 returns : tie.Need-returns
 returns c =
     let s = c .before .before in
-    c .if1 .taken ∙ sym (and-or-distrib-right (below s) (above s) (some s) ∙ ap (λ (t : Bool). t || (above s && some s)) (first (c .before) ∙ c .if1 .taken))
+    sym (and-or-distrib-right (below s) (above s) (some s) ∙ ap (λ (t : Bool). t || (above s && some s)) (first (c .before) ∙ c .if1 .taken))
 
 sub-one-side : tie.Need-sub-one-side
 sub-one-side c = fits (minus-of (back (A (c .before .before))))
@@ -75,4 +75,4 @@ returns-2 c =
     sym (and-or-distrib-right (below s) (above s) (some s) ∙ ap₂ (λ (t u : Bool). t || u) (first (c .before .before) ∙ c .before .if1 .left) (second c))
 
 pub same-side-spec : {M : Type 1} → statement M
-same-side-spec = tie.close (tie.spec one-side-requires sub-one-side sub-one-side-2 sub-one-side-3 one-side-requires-2 returns returns-2)
+same-side-spec = tie.close (tie.spec one-side-requires returns sub-one-side sub-one-side-2 sub-one-side-3 one-side-requires-2 returns-2)

@@ -37,7 +37,7 @@ fn hand_over(out: &[u8], end: usize, told: u64) -> u64
     told + end as u64
 }
 
-// Hands the report over, part after part, and answers how many bytes that were: all of it, no part left out and none twice.
+// Hands the report over, part after part, and answers how many bytes that were: as many as the report has.
 fn list(out: &mut [u8], v: Vertices) -> u64
     requires { ⌜ length (now out) ≡ 65536 ⌝ }
     ensures { λ r. ⌜ r ≡ length (report v) ⌝ }

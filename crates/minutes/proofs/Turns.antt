@@ -12,7 +12,7 @@ use Rattle.streams.specs.State.{Within, started, goesOn, standsAt}
 use Rattle.streams.specs.Refill.{Refilled}
 use Rattle.streams.specs.Run.{Ran, begun, turn}
 use Rattle.streams.proofs.Refilling.{refilled-within}
-use Rattle.streams.proofs.Run.{some-turns, refilled-turns}
+use Rattle.streams.proofs.Turns.{some-turns, refilled-turns}
 use Rattle.reports.specs.declared.Count.{Count}
 use Rattle.reports.specs.declared.Tally.{Tally}
 use Rattle.reports.specs.Minutes.{fresh, takeLine, always, countLine}

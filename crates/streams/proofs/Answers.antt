@@ -13,9 +13,8 @@ use Rattle.text.specs.Lines.{over, handled, whole, streamed}
 use Rattle.text.proofs.Streaming.{handled-seen, handled-keeps, handled-within, streamed-is}
 use Rattle.streams.specs.declared.State.{State}
 use Rattle.streams.specs.State.{Within, Standing, standsAt, emptied, written, lastIs}
-use Rattle.streams.specs.Refill.{whole as line-left, ReadOn, Refilled}
+use Rattle.streams.specs.Refill.{whole as line-left, Refilled}
 use Rattle.streams.specs.Answers.{said, output, answered, room, afterLines, afterLast}
-use Rattle.streams.proofs.Refilling.{refilled-within}
 
 -- ---- a program to which a line of more than 128 bytes is bad looks at no more than 129
 pub blind : (answer : List ℕ → List ℕ) (bad : List ℕ) → ((line : List ℕ) → 128 < length line → bad ≡ answer line) → (line : List ℕ) → answer line ≡ answer (take 129 line)
@@ -66,7 +65,7 @@ pub there-is : (input : List ℕ) (st : State) (out : List ℕ) → Standing st 
 there-is input st out s = length-take-le (st .end) input (omega (arith, s .within .most, s .input-size))
 
 module _ (answer : List ℕ → List ℕ) (most : ℕ) (short : (line : List ℕ) → length (answer line) ≤ most) where
-  abbrev Fits : ℕ → ℕ × List ℕ → Type 0
+  abbrev pub Fits : ℕ → ℕ × List ℕ → Type 0
   Fits size o = (o .0 ≤ length (o .1)) × (length (o .1) ≡ size)
 
   fits-line : (size : ℕ) (o : ℕ × List ℕ) (line : List ℕ) → room most o ≡ true → Fits size o → Fits size (answered answer o line)
@@ -76,30 +75,14 @@ module _ (answer : List ℕ → List ℕ) (most : ℕ) (short : (line : List ℕ
 
   -- ---- both buffers
   module _ (input : List ℕ) (st : State) (out : List ℕ) (s : Standing st input out) where
-    lines-fit : Fits 65536 (handled (room most) (answered answer) (take (st .end) input) (length (take (st .end) input)) (st .next) (st .at, out) .1)
+    pub lines-fit : Fits 65536 (handled (room most) (answered answer) (take (st .end) input) (length (take (st .end) input)) (st .next) (st .at, out) .1)
     lines-fit = handled-keeps (answered answer) (room most) (Fits 65536) (fits-line 65536) (take (st .end) input) (length (take (st .end) input)) (st .next) (st .at, out) (omega (arith, s .filled, s .out-size), s .out-size)
 
-    pub lines-within : afterLines answer most input st out .0 .at ≤ length (afterLines answer most input st out .1)
-    lines-within = lines-fit .0
-
-    lines-standing : Within (afterLines answer most input st out .0)
+    pub lines-standing : Within (afterLines answer most input st out .0)
     lines-standing =
         record {
           ahead = omega (arith, there-is input st out s, handled-within (answered answer) (room most) (take (st .end) input) (length (take (st .end) input)) (st .next) (st .at, out) (omega (arith, there-is input st out s, s .within .ahead)));
           most = s .within .most;
-        }
-
-    pub flushed-within : (failed : Bool) → Within (written (afterLines answer most input st out .0) failed)
-    flushed-within failed = written-within (afterLines answer most input st out .0) failed lines-standing
-
-    pub turn-standing : (failed : Bool) (r : State) (after : List ℕ) → length after ≡ length input
-        → Refilled input (written (afterLines answer most input st out .0) failed) r after → Standing r after (afterLines answer most input st out .1)
-    turn-standing failed r after same f =
-        record {
-          within = refilled-within input (written (afterLines answer most input st out .0) failed) r after (flushed-within failed) f;
-          filled = omega (arith, refilled-at input (written (afterLines answer most input st out .0) failed) r after f, written-half (afterLines answer most input st out .0) failed);
-          input-size = same ∙ s .input-size;
-          out-size = lines-fit .1;
         }
 
     pub last-within : most ≤ 32768 → afterLast answer input st out .0 .at ≤ 65536

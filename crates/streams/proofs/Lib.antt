@@ -1,6 +1,6 @@
 pub mod Refilling
 pub mod Answers
+pub mod Turns
 pub mod Run
 pub mod Lines
-pub mod Turns
 pub mod Determined

@@ -1,17 +1,35 @@
 -- Laws of the run of any program: its output's bytes are a part of what it works on, and of the rest something holds from turn to turn. Assumes nothing.
-use mathlib.Core.Path.{_≡_, sym, ap, subst, _∙_}
-use mathlib.Core.Bool.{true, false}
+use mathlib.Core.Path.{_≡_, refl, sym, ap, subst, _∙_}
+use mathlib.Core.Bool.{Bool, true, false, _&&_, not, false≢true}
 use mathlib.Core.List.{List}
-use Prim.Native.Nat.{ℕ, _≤_, _<_}
+use Prim.Native.Nat.{ℕ, _-_, _≤_, _<_}
 use native.Mathlib.Omega.{arith}
+use lib.Dec.{ltb}
 use lib.ListN.{length}
+use borrow.Author.Tests.{ltb-true}
 use Rattle.streams.specs.declared.State.{State}
 use Rattle.streams.specs.State.{Within, Standing, started, goesOn, written, emptied}
-use Rattle.streams.specs.Refill.{Refilled}
+use Rattle.streams.specs.Refill.{whole, Refilled}
 use Rattle.streams.specs.Run.{Ran, begun, turn, Ended}
 use Rattle.streams.proofs.Refilling.{refilled-within}
 use Rattle.streams.proofs.Answers.{written-half, written-within, written-turns, refilled-at}
-use Rattle.streams.proofs.Run.{some-turns, refilled-turns}
+
+-- ---- turns
+pub some-turns : (st : State) → goesOn st ≡ true → 0 < st .turns
+some-turns st e = by (st .unread) (st .unwritten) (st .more) e
+  where
+    by : (a b c : Bool) → not a && (not b && (c && ltb 0 (st .turns))) ≡ true → 0 < st .turns
+    by false false true q = ltb-true 0 (st .turns) q
+    by false false false q = absurd (false≢true q)
+    by false true c q = absurd (false≢true q)
+    by true b c q = absurd (false≢true q)
+
+pub refilled-turns : (input : List ℕ) (st r : State) (after : List ℕ) → Refilled input st r after → r .turns ≡ st .turns - 1
+refilled-turns input st r after f = by (whole input st) refl
+  where
+    by : (t : Bool) → whole input st ≡ t → r .turns ≡ st .turns - 1
+    by true w = ap (λ (q : State). q .turns) (f .stays w .0)
+    by false w = ap (λ (q : State). q .turns) (f .reads w .state)
 
 module _ {O : Type 0} (out : O → List ℕ) (Sound : O → Type 0) where
   -- after the lines that are there: within both buffers, and as many turns are left as before

@@ -7,7 +7,7 @@ use native.Mathlib.Omega.{arith}
 use borrow.Author.Needs.{needs}
 use Rattle.streams.specs.declared.State.{State}
 use Rattle.streams.specs.State.{goesOn, emptied}
-use Rattle.streams.proofs.Run.{some-turns, refilled-turns}
+use Rattle.streams.proofs.Turns.{some-turns, refilled-turns}
 use Rattle.reports.specs.declared.Tally.{Tally}
 use Rattle.minutes.specs.Counted.{told}
 use Rattle.minutes.proofs.Turns.{Running, starts, next-within, same-turns, runs-on}

@@ -8,7 +8,7 @@ use borrow.Author.Tests.{not-true, not-false}
 use Rattle.streams.specs.State.{Within, goesOn}
 use Rattle.streams.specs.Refill.{whole}
 use Rattle.streams.proofs.Refilling.{refilled-within}
-use Rattle.streams.proofs.Run.{some-turns, refilled-turns}
+use Rattle.streams.proofs.Turns.{some-turns, refilled-turns}
 use Rattle.spans.proofs.read_line.Statement.{statement}
 use Rattle.spans.proofs.read_line.Tie as tie
 

@@ -9,7 +9,7 @@ use lib.IntN.{ℤ, pos, negsuc, negℤ, natAbs, _+ℤ_, _-ℤ_, _*ℤ_}
 use lib.Signed.{ltZ, _≤ℤ_, _<ℤ_}
 use Rattle.whole.specs.Interval.{between}
 use Rattle.whole.proofs.Decides.{Decides, decides-map, decides-and, decides-between, decides-leb, decides-ltb, decides-one, decides-no}
-use Rattle.whole.proofs.Difference.{up, dn, as-mk, mks, mk-eq, eq-mk, le-nat, lt-nat, nat-le, nat-lt, sum-nat}
+use Rattle.whole.proofs.Difference.{up, dn, as-mk, mks, mk-eq, eq-mk, le-nat, lt-nat, nat-le, nat-lt, restored, sum-nat}
 use Rattle.whole.proofs.Machine.{neg-size}
 use Rattle.geometry.specs.declared.Point.{Point}
 use Rattle.geometry.specs.Place.{moved}
@@ -76,10 +76,7 @@ inner-near (pos n) a b d s e h k = omega arith
 inner-near (negsuc n) a b d s e h k = omega arith
 
 pub less-nat : (a : ℤ) (n : ℕ) → up (a -ℤ pos n) + n + dn a ≡ up a + dn (a -ℤ pos n)
-less-nat a n = omega (arith, sum-nat a (a -ℤ pos n) n (whole a (pos n)))
-  where
-    whole : (a b : ℤ) → a ≡ (a -ℤ b) +ℤ b
-    whole a b = rw (as-mk a, as-mk b) (simp mks (mk-eq _ _ _ _ (omega arith)))
+less-nat a n = omega (arith, sum-nat a (a -ℤ pos n) n (restored a (pos n)))
 
 pub inner-decides : (l x : ℤ) (d e : ℕ) → Decides (between (l +ℤ pos e) (l +ℤ pos d -ℤ pos e) x) ((up l + dn x + e ≤ up x + dn l) × (up x + dn l + e < up l + dn x + d))
 inner-decides l x d e =

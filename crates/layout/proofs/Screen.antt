@@ -175,12 +175,3 @@ module _ {N : ℕ} {Col : ℕ → Type 0} {Buf : Type 0} {Ok : Buf → Type 0} {
   put-paint p s c b h =
       ap (put p c) (paint-is s c b) ∙ put-render N p c (λ q. cond (s q) c (get q b)) b (le-refl N) h
       ∙ render-cong N _ _ b (λ q l. over (s q) (eqb q p) c (get q b)) ∙ sym (paint-is (λ q. s q || eqb q p) c b)
-
-  -- reading after painting
-  pub get-paint : (p : ℕ) (s : ℕ → Bool) (c : ℕ) (b : Buf) → p < N → Col c → Col (get p b) → Ok b → get p (paint put N s c b) ≡ cond (s p) c (get p b)
-  get-paint p s c b h k k′ o =
-      ap (get p) (paint-is s c b) ∙ get-render p (λ q. cond (s q) c (get q b)) b h (one (s p)) o
-    where
-      one : (t : Bool) → Col (cond t c (get p b))
-      one true = k
-      one false = k′

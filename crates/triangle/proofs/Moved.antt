@@ -8,7 +8,7 @@ use lib.IntN.{ℤ, pos, _+ℤ_, _-ℤ_}
 use lib.Signed.{_≤ℤ_}
 use Rattle.whole.specs.Equal.{eqZ}
 use Rattle.whole.proofs.Decides.{decides-map, decides-one}
-use Rattle.whole.proofs.Difference.{as-mk, mks, mk-eq}
+use Rattle.whole.proofs.Difference.{as-mk, mks, mk-eq, restored}
 use Rattle.whole.proofs.Order.{le-move, move-le, lt-move, move-lt, move-eq}
 use Rattle.geometry.specs.declared.Point.{Point}
 use Rattle.geometry.specs.Place.{before, moved}
@@ -83,15 +83,12 @@ module _ (d : Point) where
         past = ap (λ (z : ℤ). z +ℤ d .0) (b .past) ∙ later (b .last) (d .0);
         at-first = to (s .0) (b .at-first);
         at-last = to (b .last) (b .at-last);
-        least = λ x q. subst (λ (z : ℤ). (s .0 +ℤ d .0) ≤ℤ z) (sym (back x (d .0))) (le-move (s .0) (x -ℤ d .0) (d .0) (b .least (x -ℤ d .0) (from (x -ℤ d .0) (subst F (back x (d .0)) q))));
-        largest = λ x q. subst (λ (z : ℤ). z ≤ℤ (b .last +ℤ d .0)) (sym (back x (d .0))) (le-move (x -ℤ d .0) (b .last) (d .0) (b .largest (x -ℤ d .0) (from (x -ℤ d .0) (subst F (back x (d .0)) q))));
+        least = λ x q. subst (λ (z : ℤ). (s .0 +ℤ d .0) ≤ℤ z) (sym (restored x (d .0))) (le-move (s .0) (x -ℤ d .0) (d .0) (b .least (x -ℤ d .0) (from (x -ℤ d .0) (subst F (restored x (d .0)) q))));
+        largest = λ x q. subst (λ (z : ℤ). z ≤ℤ (b .last +ℤ d .0)) (sym (restored x (d .0))) (le-move (x -ℤ d .0) (b .last) (d .0) (b .largest (x -ℤ d .0) (from (x -ℤ d .0) (subst F (restored x (d .0)) q))));
       }
     where
       later : (y v : ℤ) → (y +ℤ pos 1) +ℤ v ≡ (y +ℤ v) +ℤ pos 1
       later y v = rw (as-mk y, as-mk v) (simp mks (mk-eq _ _ _ _ (omega arith)))
-
-      back : (x v : ℤ) → x ≡ (x -ℤ v) +ℤ v
-      back x v = rw (as-mk x, as-mk v) (simp mks (mk-eq _ _ _ _ (omega arith)))
 
   -- ---- CONTAINMENT is the same
   module _ (v1 v2 v3 : Point) where

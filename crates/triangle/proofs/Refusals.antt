@@ -1,14 +1,12 @@
--- Laws of a triangle's refusal: what 0 says, and 5 exactly if a vertex is out of bounds. Assumes nothing.
+-- What it says that a triangle is not refused. Assumes nothing.
 use mathlib.Core.Path.{_≡_, refl, sym, subst}
-use mathlib.Core.Bool.{true, not, _&&_}
-use mathlib.Core.List.{[]}
-use mathlib.Core.Logic.{_↔_}
+use mathlib.Core.Bool.{_&&_}
 use Prim.Native.Nat.{ℕ, zero, suc}
 use lib.IntN.{ℤ, pos}
 use borrow.Author.Tests.{not-false}
 use Rattle.whole.proofs.Decides.{Decides, decides-and, decides-map}
-use Rattle.refusals.specs.First.{first, numbered, rising}
-use Rattle.refusals.proofs.First.{Fail, exactly-0, exactly-once, fails-alone}
+use Rattle.refusals.specs.First.{first}
+use Rattle.refusals.proofs.First.{fails-alone}
 use Rattle.geometry.specs.declared.Point.{Point}
 use Rattle.geometry.specs.Bound.{Bounded, inBounds}
 use Rattle.geometry.proofs.Bound.{bounded-decides}
@@ -30,23 +28,6 @@ module _ (v1 v2 v3 : Point) where
   pub is-accepted : first (vertexTests v1 v2 v3) ≡ 0 → Accepted
   unfolding vertexTests
   is-accepted z = all .yes (not-false _ (fails-alone _ _ z))
-
-  -- ---- 5 exactly when 01's table gives it; the numbers rise, so that the lowest that applies wins
-  pub vertex-numbered : numbered (vertexTests v1 v2 v3) ≡ true
-  unfolding vertexTests
-  vertex-numbered = refl
-
-  pub vertex-rising : rising 0 (vertexTests v1 v2 v3) ≡ true
-  unfolding vertexTests
-  vertex-rising = refl
-
-  pub vertex-5 : first (vertexTests v1 v2 v3) ≡ 5 ↔ (Fail [] × (not (inBounds v1 && (inBounds v2 && inBounds v3)) ≡ true))
-  unfolding vertexTests
-  vertex-5 = exactly-once [] 5 (not (inBounds v1 && (inBounds v2 && inBounds v3))) [] refl refl refl
-
-  pub vertex-0 : first (vertexTests v1 v2 v3) ≡ 0 ↔ Fail (vertexTests v1 v2 v3)
-  unfolding vertexTests
-  vertex-0 = exactly-0 (vertexTests v1 v2 v3) refl
 
 -- the sorted vertices of an accepted triangle are in bounds
 pub sorted-bounded : (v1 v2 v3 : Point) (t : Sorted) → t ≡ sorted v1 v2 v3 → Accepted v1 v2 v3 → All Bounded t

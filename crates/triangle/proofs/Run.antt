@@ -8,7 +8,7 @@ use native.Mathlib.Omega.{arith}
 use lib.IntN.{ℤ, pos, negsuc, negℤ, natAbs, _+ℤ_, _-ℤ_, _*ℤ_}
 use lib.Signed.{_≤ℤ_, _<ℤ_, leZ}
 use Rattle.whole.proofs.Decides.{decides-le, decides-yes}
-use Rattle.whole.proofs.Difference.{up, dn, mk, as-mk, mks, mk-eq, mk-lt, mk-pos, lt-mk, le-nat, lt-nat, nat-le, nat-eq, sum-nat}
+use Rattle.whole.proofs.Difference.{up, dn, mk, as-mk, mks, mk-eq, mk-lt, mk-pos, lt-mk, le-nat, lt-nat, nat-le, nat-eq, restored, sum-nat}
 use Rattle.whole.proofs.Machine.{le-yes, le-no, size-pos, size-neg}
 use Rattle.whole.proofs.Order.{le-sub, lt-sub, neg-flip-lt}
 use Rattle.geometry.specs.declared.Point.{Point}
@@ -151,8 +151,8 @@ module _ (s e : Point) (y : ℤ) (v f l : ℕ) (down : s .1 ≤ℤ e .1) (row : 
 
   pub run-left : leZ (s .0) (e .0) ≡ false → Run s e y (s .0 -ℤ pos l) (s .0 -ℤ pos f)
   run-left r =
-      let lo = sum-nat (s .0) (s .0 -ℤ pos l) l (fore (s .0) (pos l)) in
-      let hi = sum-nat (s .0) (s .0 -ℤ pos f) f (fore (s .0) (pos f)) in
+      let lo = sum-nat (s .0) (s .0 -ℤ pos l) l (restored (s .0) (pos l)) in
+      let hi = sum-nat (s .0) (s .0 -ℤ pos f) f (restored (s .0) (pos f)) in
       record {
         some = nat-le (omega (arith, o .some));
         has = λ x h.
@@ -169,9 +169,6 @@ module _ (s e : Point) (y : ℤ) (v f l : ℕ) (down : s .1 ≤ℤ e .1) (row : 
         right = λ d x k. subst (λ (z : ℤ). z <ℤ pos 0) (sym (area-left x (le-no r))) (neg-flip-lt (pos 0) _ (before-first (wide s e) (high s e) v f l o (tall d) (s .0 -ℤ x) (more x (s .0) (pos f) k)));
       }
     where
-      fore : (a z : ℤ) → a ≡ (a -ℤ z) +ℤ z
-      fore a z = rw (as-mk a, as-mk z) (simp mks (mk-eq _ _ _ _ (omega arith)))
-
       less : (x a l : ℤ) → x <ℤ (a -ℤ l) → l <ℤ (a -ℤ x)
       less x a l h =
           let g = lt-mk _ _ _ _ (simp mks at (rw (as-mk x, as-mk a, as-mk l) at h)) in

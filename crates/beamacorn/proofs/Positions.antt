@@ -41,7 +41,9 @@ pub line-length-at : (κs : _) (a : _) (r : _) (s : _) → line-length.Post κs 
 line-length-at κs a r s h = h
 
 pub line-point-at : (κs : _) (a : _) (r : _) (s : _) → line-point.Post κs a r s
-    → r ≡ plainStep (stepAnswer (first (stepTests (a .0, a .1 .0) (a .1 .1 .0, a .1 .1 .1 .0) (a .1 .1 .1 .1 .0))) (pointAt (a .0, a .1 .0) (a .1 .1 .0, a .1 .1 .1 .0) (a .1 .1 .1 .1 .0)))
+    → r
+    ≡ plainStep
+    (stepAnswer (first (stepTests (a .0, a .1 .0) (a .1 .1 .0, a .1 .1 .1 .0) (a .1 .1 .1 .1 .0))) (pointAt (a .0, a .1 .0) (a .1 .1 .0, a .1 .1 .1 .0) (a .1 .1 .1 .1 .0)))
 line-point-at κs a r s h = h
 
 pub line-has-point-at : (κs : _) (a : _) (r : _) (s : _) → line-has-point.Post κs a r s
@@ -49,15 +51,23 @@ pub line-has-point-at : (κs : _) (a : _) (r : _) (s : _) → line-has-point.Pos
 line-has-point-at κs a r s h = h
 
 pub triangle-contains-at : (κs : _) (a : _) (r : _) (s : _) → triangle-contains.Post κs a r s
-    → r ≡ verdict (first (vertexTests (a .0, a .1 .0) (a .1 .1 .0, a .1 .1 .1 .0) (a .1 .1 .1 .1 .0, a .1 .1 .1 .1 .1 .0))) (triangle.contained (a .0, a .1 .0) (a .1 .1 .0, a .1 .1 .1 .0) (a .1 .1 .1 .1 .0, a .1 .1 .1 .1 .1 .0) (a .1 .1 .1 .1 .1 .1 .0, a .1 .1 .1 .1 .1 .1 .1 .0))
+    → r
+    ≡ verdict (first (vertexTests (a .0, a .1 .0) (a .1 .1 .0, a .1 .1 .1 .0) (a .1 .1 .1 .1 .0, a .1 .1 .1 .1 .1 .0)))
+    (triangle.contained (a .0, a .1 .0) (a .1 .1 .0, a .1 .1 .1 .0) (a .1 .1 .1 .1 .0, a .1 .1 .1 .1 .1 .0) (a .1 .1 .1 .1 .1 .1 .0, a .1 .1 .1 .1 .1 .1 .1 .0))
 triangle-contains-at κs a r s h = h
 
 pub triangle-rows-at : (κs : _) (a : _) (r : _) (s : _) → triangle-rows.Post κs a r s
-    → r ≡ rowsAnswer (first (vertexTests (a .0, a .1 .0) (a .1 .1 .0, a .1 .1 .1 .0) (a .1 .1 .1 .1 .0, a .1 .1 .1 .1 .1 .0))) (firstRow (a .0, a .1 .0) (a .1 .1 .0, a .1 .1 .1 .0) (a .1 .1 .1 .1 .0, a .1 .1 .1 .1 .1 .0)) (rowCount (a .0, a .1 .0) (a .1 .1 .0, a .1 .1 .1 .0) (a .1 .1 .1 .1 .0, a .1 .1 .1 .1 .1 .0))
+    → r
+    ≡ rowsAnswer (first (vertexTests (a .0, a .1 .0) (a .1 .1 .0, a .1 .1 .1 .0) (a .1 .1 .1 .1 .0, a .1 .1 .1 .1 .1 .0)))
+    (firstRow (a .0, a .1 .0) (a .1 .1 .0, a .1 .1 .1 .0) (a .1 .1 .1 .1 .0, a .1 .1 .1 .1 .1 .0))
+    (rowCount (a .0, a .1 .0) (a .1 .1 .0, a .1 .1 .1 .0) (a .1 .1 .1 .1 .0, a .1 .1 .1 .1 .1 .0))
 triangle-rows-at κs a r s h = h
 
 pub triangle-row-span-at : (κs : _) (a : _) (r : _) (s : _) → triangle-row-span.Post κs a r s
-    → r ≡ span (first (vertexTests (a .0, a .1 .0) (a .1 .1 .0, a .1 .1 .1 .0) (a .1 .1 .1 .1 .0, a .1 .1 .1 .1 .1 .0))) (rowSpan (a .0, a .1 .0) (a .1 .1 .0, a .1 .1 .1 .0) (a .1 .1 .1 .1 .0, a .1 .1 .1 .1 .1 .0) (a .1 .1 .1 .1 .1 .1 .0) .0) (rowSpan (a .0, a .1 .0) (a .1 .1 .0, a .1 .1 .1 .0) (a .1 .1 .1 .1 .0, a .1 .1 .1 .1 .1 .0) (a .1 .1 .1 .1 .1 .1 .0) .1)
+    → r
+    ≡ span (first (vertexTests (a .0, a .1 .0) (a .1 .1 .0, a .1 .1 .1 .0) (a .1 .1 .1 .1 .0, a .1 .1 .1 .1 .1 .0)))
+    (rowSpan (a .0, a .1 .0) (a .1 .1 .0, a .1 .1 .1 .0) (a .1 .1 .1 .1 .0, a .1 .1 .1 .1 .1 .0) (a .1 .1 .1 .1 .1 .1 .0) .0)
+    (rowSpan (a .0, a .1 .0) (a .1 .1 .0, a .1 .1 .1 .0) (a .1 .1 .1 .1 .0, a .1 .1 .1 .1 .1 .0) (a .1 .1 .1 .1 .1 .1 .0) .1)
 triangle-row-span-at κs a r s h = h
 
 pub circle-contains-at : (κs : _) (a : _) (r : _) (s : _) → circle-contains.Post κs a r s
@@ -65,7 +75,9 @@ pub circle-contains-at : (κs : _) (a : _) (r : _) (s : _) → circle-contains.P
 circle-contains-at κs a r s h = h
 
 pub circle-row-span-at : (κs : _) (a : _) (r : _) (s : _) → circle-row-span.Post κs a r s
-    → r ≡ span (first (circleTests (a .0, a .1 .0) (a .1 .1 .0))) (circle.spanStart (a .0, a .1 .0) (a .1 .1 .0) (a .1 .1 .1 .0)) (circle.spanEnd (a .0, a .1 .0) (a .1 .1 .0) (a .1 .1 .1 .0))
+    → r
+    ≡ span (first (circleTests (a .0, a .1 .0) (a .1 .1 .0))) (circle.spanStart (a .0, a .1 .0) (a .1 .1 .0) (a .1 .1 .1 .0))
+    (circle.spanEnd (a .0, a .1 .0) (a .1 .1 .0) (a .1 .1 .1 .0))
 circle-row-span-at κs a r s h = h
 
 -- ---- frames: width, height, depth, and but for the size order; the buffer comes first, the colour last
@@ -78,7 +90,8 @@ pub pixel-at : (κs : _) (a : _) (r : _) (s : _) → pixel.Post κs a r s
 pixel-at κs a r s h = h
 
 pub set-pixel-at : (κs : _) (a : _) (r : _) (s : _) → set-pixel.Post κs a r s
-    → _≡_ {A = Drawn × List ℕ} (r, s .0 .now) (outcomeOn (a .1 .0) (a .1 .1 .0) (a .1 .1 .1 .0) (a .1 .1 .1 .1 .0) (pixelDrawing (a .1 .1 .1 .1 .1 .0, a .1 .1 .1 .1 .1 .1 .0) (a .1 .1 .1 .1 .1 .1 .1 .0)) (a .0 .now))
+    → _≡_ {A = Drawn × List ℕ} (r, s .0 .now)
+    (outcomeOn (a .1 .0) (a .1 .1 .0) (a .1 .1 .1 .0) (a .1 .1 .1 .1 .0) (pixelDrawing (a .1 .1 .1 .1 .1 .0, a .1 .1 .1 .1 .1 .1 .0) (a .1 .1 .1 .1 .1 .1 .1 .0)) (a .0 .now))
 set-pixel-at κs a r s h = h
 
 pub fill-at : (κs : _) (a : _) (r : _) (s : _) → fill.Post κs a r s
@@ -86,17 +99,23 @@ pub fill-at : (κs : _) (a : _) (r : _) (s : _) → fill.Post κs a r s
 fill-at κs a r s h = h
 
 pub draw-line-at : (κs : _) (a : _) (r : _) (s : _) → draw-line.Post κs a r s
-    → _≡_ {A = Drawn × List ℕ} (r, s .0 .now) (outcomeOn (a .1 .0) (a .1 .1 .0) (a .1 .1 .1 .0) (a .1 .1 .1 .1 .0) (lineDrawing (a .1 .1 .1 .1 .1 .0, a .1 .1 .1 .1 .1 .1 .0) (a .1 .1 .1 .1 .1 .1 .1 .0, a .1 .1 .1 .1 .1 .1 .1 .1 .0) (a .1 .1 .1 .1 .1 .1 .1 .1 .1 .0)) (a .0 .now))
+    → _≡_ {A = Drawn × List ℕ} (r, s .0 .now) (outcomeOn (a .1 .0) (a .1 .1 .0) (a .1 .1 .1 .0) (a .1 .1 .1 .1 .0)
+    (lineDrawing (a .1 .1 .1 .1 .1 .0, a .1 .1 .1 .1 .1 .1 .0) (a .1 .1 .1 .1 .1 .1 .1 .0, a .1 .1 .1 .1 .1 .1 .1 .1 .0) (a .1 .1 .1 .1 .1 .1 .1 .1 .1 .0)) (a .0 .now))
 draw-line-at κs a r s h = h
 
 pub draw-triangle-at : (κs : _) (a : _) (r : _) (s : _) → draw-triangle.Post κs a r s
-    → _≡_ {A = Drawn × List ℕ} (r, s .0 .now) (outcomeOn (a .1 .0) (a .1 .1 .0) (a .1 .1 .1 .0) (a .1 .1 .1 .1 .0) (triangleDrawing (a .1 .1 .1 .1 .1 .0, a .1 .1 .1 .1 .1 .1 .0) (a .1 .1 .1 .1 .1 .1 .1 .0, a .1 .1 .1 .1 .1 .1 .1 .1 .0) (a .1 .1 .1 .1 .1 .1 .1 .1 .1 .0, a .1 .1 .1 .1 .1 .1 .1 .1 .1 .1 .0) (a .1 .1 .1 .1 .1 .1 .1 .1 .1 .1 .1 .0)) (a .0 .now))
+    → _≡_ {A = Drawn × List ℕ} (r, s .0 .now) (outcomeOn (a .1 .0) (a .1 .1 .0) (a .1 .1 .1 .0) (a .1 .1 .1 .1 .0)
+    (triangleDrawing (a .1 .1 .1 .1 .1 .0, a .1 .1 .1 .1 .1 .1 .0) (a .1 .1 .1 .1 .1 .1 .1 .0, a .1 .1 .1 .1 .1 .1 .1 .1 .0)
+    (a .1 .1 .1 .1 .1 .1 .1 .1 .1 .0, a .1 .1 .1 .1 .1 .1 .1 .1 .1 .1 .0) (a .1 .1 .1 .1 .1 .1 .1 .1 .1 .1 .1 .0)) (a .0 .now))
 draw-triangle-at κs a r s h = h
 
 pub draw-outline-at : (κs : _) (a : _) (r : _) (s : _) → draw-outline.Post κs a r s
-    → _≡_ {A = Drawn × List ℕ} (r, s .0 .now) (outcomeOn (a .1 .0) (a .1 .1 .0) (a .1 .1 .1 .0) (a .1 .1 .1 .1 .0) (outlineDrawing (a .1 .1 .1 .1 .1 .0, a .1 .1 .1 .1 .1 .1 .0) (a .1 .1 .1 .1 .1 .1 .1 .0, a .1 .1 .1 .1 .1 .1 .1 .1 .0) (a .1 .1 .1 .1 .1 .1 .1 .1 .1 .0, a .1 .1 .1 .1 .1 .1 .1 .1 .1 .1 .0) (a .1 .1 .1 .1 .1 .1 .1 .1 .1 .1 .1 .0)) (a .0 .now))
+    → _≡_ {A = Drawn × List ℕ} (r, s .0 .now) (outcomeOn (a .1 .0) (a .1 .1 .0) (a .1 .1 .1 .0) (a .1 .1 .1 .1 .0)
+    (outlineDrawing (a .1 .1 .1 .1 .1 .0, a .1 .1 .1 .1 .1 .1 .0) (a .1 .1 .1 .1 .1 .1 .1 .0, a .1 .1 .1 .1 .1 .1 .1 .1 .0)
+    (a .1 .1 .1 .1 .1 .1 .1 .1 .1 .0, a .1 .1 .1 .1 .1 .1 .1 .1 .1 .1 .0) (a .1 .1 .1 .1 .1 .1 .1 .1 .1 .1 .1 .0)) (a .0 .now))
 draw-outline-at κs a r s h = h
 
 pub draw-circle-at : (κs : _) (a : _) (r : _) (s : _) → draw-circle.Post κs a r s
-    → _≡_ {A = Drawn × List ℕ} (r, s .0 .now) (outcomeOn (a .1 .0) (a .1 .1 .0) (a .1 .1 .1 .0) (a .1 .1 .1 .1 .0) (circleDrawing (a .1 .1 .1 .1 .1 .0, a .1 .1 .1 .1 .1 .1 .0) (a .1 .1 .1 .1 .1 .1 .1 .0) (a .1 .1 .1 .1 .1 .1 .1 .1 .0)) (a .0 .now))
+    → _≡_ {A = Drawn × List ℕ} (r, s .0 .now) (outcomeOn (a .1 .0) (a .1 .1 .0) (a .1 .1 .1 .0) (a .1 .1 .1 .1 .0)
+    (circleDrawing (a .1 .1 .1 .1 .1 .0, a .1 .1 .1 .1 .1 .1 .0) (a .1 .1 .1 .1 .1 .1 .1 .0) (a .1 .1 .1 .1 .1 .1 .1 .1 .0)) (a .0 .now))
 draw-circle-at κs a r s h = h

@@ -42,7 +42,8 @@ answer-lent said l h =
     by (leb (length said) 128)
     (meant-each (λ a. a .1 .0 .lent ≤ 65536) (wordOf said) (shownTable said (until 9 said + 1) l) _ (h, tt) (response-lent (wordOf said) said (until 9 said + 1) (l .0) (l .1) h))
   where
-    by : (t : Bool) → lineAnswer (wordOf said) said (until 9 said + 1) l .1 .0 .lent ≤ 65536 → cond t (lineAnswer (wordOf said) said (until 9 said + 1) l) (badLine, l) .1 .0 .lent ≤ 65536
+    by : (t : Bool) → lineAnswer (wordOf said) said (until 9 said + 1) l .1 .0 .lent ≤ 65536
+        → cond t (lineAnswer (wordOf said) said (until 9 said + 1) l) (badLine, l) .1 .0 .lent ≤ 65536
     by true r = r
     by false r = h
 

@@ -21,7 +21,8 @@ use Rattle.calls.specs.declared.screen.Turn.{Turn}
 use Rattle.calls.specs.Screen.{turn, screenOf, sizeSaid, readSaid, bufferTurn, lentTurn}
 
 -- ---- a description, and the test of its order before that of the rest
-pub is-described : {b t : Bool} {f g : Frame} (lent : ℕ) → b ≡ t → f ≡ g → _≡_ {A = Described} (record { ok = b; screen = screenOf f lent }) (record { ok = t; screen = screenOf g lent })
+pub is-described : {b t : Bool} {f g : Frame} (lent : ℕ) → b ≡ t → f ≡ g
+    → _≡_ {A = Described} (record { ok = b; screen = screenOf f lent }) (record { ok = t; screen = screenOf g lent })
 is-described lent e q = ap₂ {C = Described} (λ b f. record { ok = b; screen = screenOf f lent }) e q
 
 pub test-fails : (v most : ℕ) (rest : Bool) → most < v → false ≡ leb v most && rest
@@ -37,7 +38,8 @@ pub ruleset descriptions = (readings, is-described, test-fails, test-passes)
 pub read-said : {a found : Read} → a ≡ found → One (a .number) (Natural (a .colour)) ≡ readSaid found
 read-said e = ap readSaid e
 
-pub size-said : (s : Screen) {a found : Size} {m left : List ℕ} → a ≡ found → m ≡ left → _≡_ {A = Turn × List ℕ} (turn s (One (a .number) (Natural (a .bytes))), m) (turn s (sizeSaid found), left)
+pub size-said : (s : Screen) {a found : Size} {m left : List ℕ} → a ≡ found → m ≡ left
+    → _≡_ {A = Turn × List ℕ} (turn s (One (a .number) (Natural (a .bytes))), m) (turn s (sizeSaid found), left)
 size-said s e h = ap₂ {C = Turn × List ℕ} (λ x l. (turn s (sizeSaid x), l)) e h
 
 pub bytes-left : (r : Reply) {m left : List ℕ} → m ≡ left → _≡_ {A = Reply × List ℕ} (r, m) (r, left)
@@ -50,7 +52,8 @@ pub ruleset turns = (readings, read-said, size-said, bytes-left)
 pub turn-buffer : (s : Screen) {r : Reply} {left : List ℕ} {c : Reply × List ℕ} → _≡_ {A = Reply × List ℕ} (r, left) c → _≡_ {A = Turn × List ℕ} (turn s r, left) (bufferTurn s c)
 turn-buffer s e = ap (bufferTurn s) e
 
-pub turn-lent : (s : Screen) (m : List ℕ) {r : Reply} {left : List ℕ} {c : Reply × List ℕ} → _≡_ {A = Reply × List ℕ} (r, left) c → _≡_ {A = Turn × List ℕ} (turn s r, left ++ drop (s .lent) m) (lentTurn s m c)
+pub turn-lent : (s : Screen) (m : List ℕ) {r : Reply} {left : List ℕ} {c : Reply × List ℕ} → _≡_ {A = Reply × List ℕ} (r, left) c
+    → _≡_ {A = Turn × List ℕ} (turn s r, left ++ drop (s .lent) m) (lentTurn s m c)
 turn-lent s m e = ap (lentTurn s m) e
 
 pub turn-said : (s : Screen) (m : List ℕ) {r found : Reply} → r ≡ found → _≡_ {A = Turn × List ℕ} (turn s r, m) (turn s found, m)

@@ -124,7 +124,9 @@ pub outside : (c : Point) (d : ℕ) (p : Point) → inBox c d p ≡ false → co
 outside c d p e =
     contained-is c d p
     ∙ decides-no (decides-ltb (squares c d p) (thresholdOf d))
-    (λ h. in-box-decides c d p .no e (near-side (p .0) (c .0) d (below (away (p .0) (c .0) d) (omega arith)), near-side (p .1) (c .1) d (below (away (p .1) (c .1) d) (omega arith))))
+    (λ h.
+    in-box-decides c d p .no e
+    (near-side (p .0) (c .0) d (below (away (p .0) (c .0) d) (omega arith)), near-side (p .1) (c .1) d (below (away (p .1) (c .1) d) (omega arith))))
   where
     below : (a : ℕ) → a * a < thresholdOf d → a < d
     below a h = square-below a d (omega (arith, threshold-high d))

@@ -149,7 +149,8 @@ span-agrees c d x y = by (boxRow c d y) refl
         ∙ sym (ap₂ (λ (a b : ℤ). between a b x) (no-start c d y row) (no-end c d y row) ∙ empty x)
 
 -- so do the two answers, those to a refused circle too
-pub answers-agree : (n : ℕ) (c : Point) (d : ℕ) (x y : ℤ) → verdict n (contained c d (x, y)) .yes ≡ between (span n (spanStart c d y) (spanEnd c d y) .start) (span n (spanStart c d y) (spanEnd c d y) .end) x
+pub answers-agree : (n : ℕ) (c : Point) (d : ℕ) (x y : ℤ)
+    → verdict n (contained c d (x, y)) .yes ≡ between (span n (spanStart c d y) (spanEnd c d y) .start) (span n (spanStart c d y) (spanEnd c d y) .end) x
 answers-agree zero c d x y = span-agrees c d x y
 answers-agree (suc n) c d x y = sym (empty x)
 

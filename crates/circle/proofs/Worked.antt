@@ -27,7 +27,8 @@ end f g = plus (back (wide f)) (wide-nat g) tt
 pub twice-end : {z : ℤ} {d : ℕ} → SFits w32 z → Fits w32 d → Has w64 (toZ w64 (ofZ w64 (pos 2 *ℤ local z)) +ℤ toZ w64 d) (pos 2 *ℤ z +ℤ pos d) 8589934592
 twice-end f g = plus (back (twice f)) (wide-nat g) tt
 
-pub middle : {z : ℤ} {d : ℕ} → SFits w32 z → Fits w32 d → Has w64 (toZ w64 (ofZ w64 (toZ w64 (ofZ w64 (pos 2 *ℤ local z)) +ℤ toZ w64 d)) -ℤ pos 1) (pos 2 *ℤ z +ℤ pos d -ℤ pos 1) 8589934593
+pub middle : {z : ℤ} {d : ℕ} → SFits w32 z → Fits w32 d
+    → Has w64 (toZ w64 (ofZ w64 (toZ w64 (ofZ w64 (pos 2 *ℤ local z)) +ℤ toZ w64 d)) -ℤ pos 1) (pos 2 *ℤ z +ℤ pos d -ℤ pos 1) 8589934593
 middle f g = minus (back (twice-end f g)) (lit 1 tt) tt
 
 -- the difference of two doubled coordinates that are read, where it is small; and its square

@@ -59,6 +59,8 @@ module _ (q : Brush) (P : Placing (raster (q .frame))) (b : List ℕ) where
 
   pub steps-more : (s e : Point) (k : ℕ) → brushed q (single (pointAt s e k .0) (pointAt s e k .1)) (steps q b s e k) ≡ steps q b s e (k + 1)
   steps-more s e k =
-      painted-painted (raster (q .frame)) P (q .colour) b (heldBy (q .window) (single (pointAt s e k .0) (pointAt s e k .1))) (heldBy (q .window) (λ x y. someStep (pointAt s e) (x, y) k))
-      ∙ painted-cong (raster (q .frame)) P (q .colour) b _ _ (λ x y w h. within-swap (inWindow (q .window) (pos x) (pos y)) (someStep (pointAt s e) (pos x, pos y) k) (samePlace (pos x, pos y) (pointAt s e k)))
+      painted-painted (raster (q .frame)) P (q .colour) b (heldBy (q .window) (single (pointAt s e k .0) (pointAt s e k .1)))
+      (heldBy (q .window) (λ x y. someStep (pointAt s e) (x, y) k))
+      ∙ painted-cong (raster (q .frame)) P (q .colour) b _ _
+      (λ x y w h. within-swap (inWindow (q .window) (pos x) (pos y)) (someStep (pointAt s e) (pos x, pos y) k) (samePlace (pos x, pos y) (pointAt s e k)))
       ∙ ap (steps q b s e) (sym (add-one k))

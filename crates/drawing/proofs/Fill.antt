@@ -61,7 +61,15 @@ module _ (v1 v2 v3 : Point) where
         let to : pos u ≤ℤ r .high = more-lt-le (s .1) in
         ⊎-elim (λ z. absurd (omega (arith, le-nat (s .0), eq-nat z)))
         (λ a. ⊎-elim (λ z. absurd (omega (arith, le-nat to, eq-nat z)))
-        (λ b. record { first = r .low; last = r .high; from = s .0; to = to; at-first = subst (λ (z : ℤ). Edged z (r .low)) (sym e) (walked-edged (r .low) y a); at-last = subst (λ (z : ℤ). Edged z (r .high)) (sym e) (walked-edged (r .high) y b) })
+        (λ b.
+        record {
+          first = r .low;
+          last = r .high;
+          from = s .0;
+          to = to;
+          at-first = subst (λ (z : ℤ). Edged z (r .low)) (sym e) (walked-edged (r .low) y a);
+          at-last = subst (λ (z : ℤ). Edged z (r .high)) (sym e) (walked-edged (r .high) y b);
+        })
         (done .high-is))
         (done .low-is)
 

@@ -65,11 +65,16 @@ module _ (q : Brush) (P : Placing (raster (q .frame))) (b : List ℕ) (figure : 
       → brushed q (spanFigure y start end) (brushed q (above figure y) b) ≡ brushed q (above figure (y +ℤ pos 1)) b
   rows-turn y start end same =
       brushed-then q P b (above figure y) (spanFigure y start end)
-      ∙ painted-cong (raster (q .frame)) P (q .colour) b _ _ (λ u v hu hv. ap (λ (t : Bool). inWindow (q .window) (pos u) (pos v) && t) (row-place (pos v) y (figure (pos u) (pos v)) (spanFigure y start end (pos u) (pos v)) (λ e. span-on (leZ start (pos u) && ltZ (pos u) end) (eqZ (pos v) y) e ∙ same u v hu hv (decides-eq (pos v) y .yes e)) (λ e. span-off (leZ start (pos u) && ltZ (pos u) end) (eqZ (pos v) y) e)))
+      ∙ painted-cong (raster (q .frame)) P (q .colour) b _ _ (λ u v hu hv.
+      ap (λ (t : Bool). inWindow (q .window) (pos u) (pos v) && t) (row-place (pos v) y (figure (pos u) (pos v)) (spanFigure y start end (pos u) (pos v))
+      (λ e. span-on (leZ start (pos u) && ltZ (pos u) end) (eqZ (pos v) y) e ∙ same u v hu hv (decides-eq (pos v) y .yes e))
+      (λ e. span-off (leZ start (pos u) && ltZ (pos u) end) (eqZ (pos v) y) e)))
 
   -- no row of the figure is at y or below
   pub rows-end : (y : ℤ) → ((u v : ℕ) → y ≤ℤ pos v → figure (pos u) (pos v) ≡ false) → brushed q (above figure y) b ≡ brushed q figure b
-  rows-end y none = painted-cong (raster (q .frame)) P (q .colour) b _ _ (λ u v hu hv. ap (λ (t : Bool). inWindow (q .window) (pos u) (pos v) && t) (by (ltZ (pos v) y) (λ l. none u v (lt-no l))))
+  rows-end y none =
+      painted-cong (raster (q .frame)) P (q .colour) b _ _
+      (λ u v hu hv. ap (λ (t : Bool). inWindow (q .window) (pos u) (pos v) && t) (by (ltZ (pos v) y) (λ l. none u v (lt-no l))))
     where
       by : (l : Bool) {f : Bool} → (l ≡ false → f ≡ false) → (l && f) ≡ f
       by true h = refl

@@ -59,7 +59,9 @@ none-on o = omega (arith, o .few)
 -- the walked points of row y, edge by edge, are the edge points
 module _ (t : Sorted) (y : ℤ) where
   abbrev Walked : Bool → ℤ → Type 0
-  Walked b c = ((⊥ ⊎ OnEdge (t .p1) (t .p2) (askedPoints b (t .p1) (t .p2)) c y) ⊎ OnEdge (t .p1) (t .p3) (points (t .p1) (t .p3)) c y) ⊎ OnEdge (t .p2) (t .p3) (askedPoints b (t .p2) (t .p3)) c y
+  Walked b c =
+      ((⊥ ⊎ OnEdge (t .p1) (t .p2) (askedPoints b (t .p1) (t .p2)) c y) ⊎ OnEdge (t .p1) (t .p3) (points (t .p1) (t .p3)) c y) ⊎ OnEdge (t .p2) (t .p3)
+      (askedPoints b (t .p2) (t .p3)) c y
 
   walked-of : {c : ℤ} (b : Bool) → EdgePoint (not b) (t .p1) (t .p2) (t .p3) (c, y) → Walked b c
   walked-of true (inl h) = inl (inl (inr (has-on h)))
@@ -100,7 +102,8 @@ going {s} {e} {n} {k} {w} {l} q h ew el room =
       room = room;
     }
 
-module _ (w : Walk) (y : ℤ) (f q1 g q2 h q3 : Run) (F : FirstRun (w .a) (w .count) f) (R1 : Runs y f q1) (G : NextRun q1 (w .b) g) (R2 : Runs y g q2) (H : NextRun q2 (w .c) h) (R3 : Runs y h q3) where
+module _ (w : Walk) (y : ℤ) (f q1 g q2 h q3 : Run) (F : FirstRun (w .a) (w .count) f) (R1 : Runs y f q1) (G : NextRun q1 (w .b) g) (R2 : Runs y g q2)
+    (H : NextRun q2 (w .c) h) (R3 : Runs y h q3) where
   pub counted : q3 .count + (q1 .left + q2 .left + q3 .left) ≡ w .count + (w .a .left + w .b .left + w .c .left)
   counted = omega (arith, F .1, F .4, R1 .0, G .1, G .4, R2 .0, H .1, H .4, R3 .0)
 
@@ -160,4 +163,12 @@ pub few-points : {t : Sorted} {solid : Bool} {y : ℤ} {w : Walk} → WalkAt t s
 few-points {t} {solid} at =
     let a = at .a .here .at .stands in
     let c = at .c .here .at .stands in
-    omega (arith, at .count, asked-few solid (t .p1) (t .p2), asked-few solid (t .p2) (t .p3), points-most (a .start) (a .end), points-most (a .start) (c .end), points-most (c .start) (c .end))
+    omega (
+      arith,
+      at .count,
+      asked-few solid (t .p1) (t .p2),
+      asked-few solid (t .p2) (t .p3),
+      points-most (a .start) (a .end),
+      points-most (a .start) (c .end),
+      points-most (c .start) (c .end),
+    )

@@ -78,7 +78,9 @@ module _ {s e : Point} {n k : ℕ} {y : ℤ} {r : Run} where
         holds =
             λ j m n.
             ⊎-elim (λ h. (le-trans lower (p .holds j m h .0), le-trans (p .holds j m h .1) higher))
-            (λ h. subst (λ (u : ℕ). (t .low ≤ℤ pointAt s e u .0) × (pointAt s e u .0 ≤ℤ t .high)) h (le-trans (le-of (g .low)) (a .from-second), le-trans (b .to-second) (le-of (sym (g .high)))))
+            (λ h.
+            subst (λ (u : ℕ). (t .low ≤ℤ pointAt s e u .0) × (pointAt s e u .0 ≤ℤ t .high)) h
+            (le-trans (le-of (g .low)) (a .from-second), le-trans (b .to-second) (le-of (sym (g .high)))))
             (last-or i j n);
         low-is =
             ⊎-elim (λ h. ⊎-elim (λ z. inl (g .low ∙ h ∙ z)) (λ z. inr (z .0, z .1, (let b = z .2 in omega arith), g .low ∙ h ∙ z .3)) (p .low-is))
@@ -91,7 +93,8 @@ module _ {s e : Point} {n k : ℕ} {y : ℤ} {r : Run} where
       }
 
 -- ---- where the run stops, it has met all points of the row
-module _ {s e : Point} {n : ℕ} {y : ℤ} {r q : Run} (d : s .1 ≤ℤ e .1) (at : EdgeAt s e n y (r .walker) (r .left)) (p : Part s e n (at .k) y r q) (stop : p .i < n → ¬ (y ≡ pointAt s e (p .i) .1)) where
+module _ {s e : Point} {n : ℕ} {y : ℤ} {r q : Run} (d : s .1 ≤ℤ e .1) (at : EdgeAt s e n y (r .walker) (r .left)) (p : Part s e n (at .k) y r q)
+    (stop : p .i < n → ¬ (y ≡ pointAt s e (p .i) .1)) where
   past : (j : ℕ) → p .i ≤ j → j < n → y <ℤ pointAt s e j .1
   past j a b =
       let f = p .from in

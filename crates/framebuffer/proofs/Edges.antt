@@ -59,7 +59,8 @@ module _ (f : Frame) (len colour : ℕ) (A : Drawable f len colour) (s : f .dept
   ends-with x z =
       let p = depth-pos d (A .accepted .described .depth) in
       let e : x * d / 8 * 8 + x * d % 8 ≡ x * d = div-add-mod' (x * d) 8 in
-      let w : n * d ≡ 8 = (let k : field d * n ≡ 8 = depth-of d (A .accepted .described .depth) .whole in let j : field d * n ≡ d * n = ap (λ (i : ℕ). i * n) (thin .0) in omega arith) in
+      let w : n * d ≡ 8 =
+      (let k : field d * n ≡ 8 = depth-of d (A .accepted .described .depth) .whole in let j : field d * n ≡ d * n = ap (λ (i : ℕ). i * n) (thin .0) in omega arith) in
       let g : x * d / 8 * (n * d) ≡ x * d / 8 * 8 = ap (λ (i : ℕ). x * d / 8 * i) w in
       let h : x * d / 8 * n * d ≡ x * d = omega arith in
       sym (mul-div-cancel (x * d / 8 * n) p) ∙ ap (λ (i : ℕ). i / d) h ∙ mul-div-cancel x p
@@ -128,7 +129,9 @@ module _ (f : Frame) (len colour : ℕ) (A : Drawable f len colour) (s : 8 ≤ f
 
   -- the byte of a pixel, by whole pixels
   place : (x : ℕ) → x * f .depth / 8 ≡ x * parts (f .depth)
-  place x = column (f .depth) (depth-of (f .depth) (A .accepted .described .depth)) x ∙ ap (λ (k : ℕ). x / k * parts (f .depth)) alone ∙ ap (λ (k : ℕ). k * parts (f .depth)) (div-one x)
+  place x =
+      column (f .depth) (depth-of (f .depth) (A .accepted .described .depth)) x ∙ ap (λ (k : ℕ). x / k * parts (f .depth)) alone
+      ∙ ap (λ (k : ℕ). k * parts (f .depth)) (div-one x)
 
   -- columns take up room for a pixel at least
   pub pixels-apart : (y x z : ℕ) {a e : ℕ} → x < z → a ≡ y * packed f .distance + x * f .depth / 8 → e ≡ y * packed f .distance + z * f .depth / 8 → a + parts (f .depth) ≤ e
@@ -141,5 +144,6 @@ module _ (f : Frame) (len colour : ℕ) (A : Drawable f len colour) (s : 8 ≤ f
       → t ≡ take k (drop a b) → t′ ≡ setRun 0 (length t) (fullByte (f .depth) (f .big) colour) t
       → take a b ++ (t′ ++ drop k (drop a b)) ≡ painted (raster f) (columns y x z) colour b
   pixels-are y x z b t t′ a k hy v h w ea ek l e e′ =
-      groups-filled (packed f) (spaced f (A .accepted .described)) colour (A .below) y x z b t t′ a k h (subst (λ (i : ℕ). i ≤ f .width) (sym (one z)) w) hy (ea ∙ ap (λ (i : ℕ). y * packed f .distance + i) (place x)) (ek ∙ ap (λ (i : ℕ). y * packed f .distance + i) (place z)) l v e e′
+      groups-filled (packed f) (spaced f (A .accepted .described)) colour (A .below) y x z b t t′ a k h (subst (λ (i : ℕ). i ≤ f .width) (sym (one z)) w) hy
+      (ea ∙ ap (λ (i : ℕ). y * packed f .distance + i) (place x)) (ek ∙ ap (λ (i : ℕ). y * packed f .distance + i) (place z)) l v e e′
       ∙ ap₂ (λ (i j : ℕ). painted (raster f) (columns y i j) colour b) (one x) (one z)

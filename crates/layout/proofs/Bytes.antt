@@ -76,7 +76,9 @@ full-one d big c j e h =
     one-mod = omega arith
 
 at-least : (i k : ℕ) → leb i k && true ≡ not (ltb k i)
-at-least i k = ⊎-elim (λ l. ap (λ (t : Bool). t && true) (lt-leb i k l) ∙ sym (ap not (lt-ltb k i l))) (λ l. ap (λ (t : Bool). t && true) (le-leb i k l) ∙ sym (ap not (le-ltb k i l))) (lt-or-ge k i)
+at-least i k =
+    ⊎-elim (λ l. ap (λ (t : Bool). t && true) (lt-leb i k l) ∙ sym (ap not (lt-ltb k i l))) (λ l. ap (λ (t : Bool). t && true) (le-leb i k l) ∙ sym (ap not (le-ltb k i l)))
+    (lt-or-ge k i)
 
 module _ (r : Packed) (S : Sound r) (c : ℕ) where
   abbrev d : ℕ
@@ -231,7 +233,8 @@ module _ (r : Packed) (S : Sound r) (c : ℕ) where
       here k = ap (λ (j : ℕ). set b (y * row + j) (merged (getD b (y * row + j) 0) k)) (sym (byte-at x))
 
       -- from x to the end of its byte
-      pub head : (x / n + 1) * n ≤ r .width → painted (laid r) (columns y x ((x / n + 1) * n)) c b ≡ set b (y * row + x * d / 8) (merged (getD b (y * row + x * d / 8) 0) (onward x))
+      pub head : (x / n + 1) * n ≤ r .width
+          → painted (laid r) (columns y x ((x / n + 1) * n)) c b ≡ set b (y * row + x * d / 8) (merged (getD b (y * row + x * d / 8) 0) (onward x))
       head w =
           let h = mod-lt x (per-pos d D) in
           let e : x / n * n + x % n ≡ x = div-add-mod' x n in
@@ -356,7 +359,8 @@ module _ (r : Packed) (S : Sound r) (c : ℕ) where
           here : getD (puts (suc k)) (s + turned (r .big) m k) 0 ≡ digit B k c
           here =
               getD-set-same (puts k) (s + turned (r .big) m k) _ 0
-              (subst (λ (x : ℕ). s + turned (r .big) m k < x) (sym (puts-len B (pow-pos (field d)) (λ j. s + turned (r .big) m j) (λ j. 0) k c b)) (let t = turned-below (r .big) m k g in omega arith))
+              (subst (λ (x : ℕ). s + turned (r .big) m k < x) (sym (puts-len B (pow-pos (field d)) (λ j. s + turned (r .big) m j) (λ j. 0) k c b))
+              (let t = turned-below (r .big) m k g in omega arith))
               ∙ ap₂ (λ (x y : ℕ). x * B + y) fresh (mod-eq-of-lt (digit-lt B (pow-pos (field d)) k c))
               ∙ omega arith
 
@@ -402,7 +406,8 @@ module _ (r : Packed) (S : Sound r) (c : ℕ) where
       pixel-stored s′ e′ =
           run-part a k (length s) b s s′ _ l e (le-refl (length s)) e′
           ∙ ap₂ (λ (i j : ℕ). setRun i j (λ t. digit 256 (turned (r .big) j t) c) b) (ea ∙ ap (λ (i : ℕ). y * row + i) (start x)) part-length
-          ∙ run-cong (y * row + x * m) m _ _ b (λ j h. ap (λ (i : ℕ). digit i (turned (r .big) m j) c) (sym base) ∙ sym (full-large j ∙ ap (λ (i : ℕ). digit B (turned (r .big) m i) c) (mod-eq-of-lt h)))
+          ∙ run-cong (y * row + x * m) m _ _ b
+          (λ j h. ap (λ (i : ℕ). digit i (turned (r .big) m j) c) (sym base) ∙ sym (full-large j ∙ ap (λ (i : ℕ). digit B (turned (r .big) m i) c) (mod-eq-of-lt h)))
           ∙ sym (pixel-run x y b (subst (λ (i : ℕ). y * row + i + m ≤ length b) (start x) (omega arith)) v)
 
       pub pixel-loaded : value 256 (length s) (λ i. getD s (turned (r .big) (length s) i) 0) ≡ getPixel (laid r) x y b
@@ -469,7 +474,8 @@ module _ (r : Packed) (S : Sound r) (c : ℕ) where
         ap (λ (x : ℕ). painted (laid r) (columns y (q * n) x) c b) (sym f)
         ∙ sym (span-then (laid r) (placing r S) c b y (q * n) ((q + k) * n) ((q + k) * n + n) (mul-le-mul-right n (omega arith)) (omega arith))
         ∙ ap (painted (laid r) (columns y ((q + k) * n) ((q + k) * n + n)) c) (whole-bytes y q k b (omega arith) hy (omega arith) v)
-        ∙ group y (q + k) b′ (omega arith) hy (subst (λ (x : ℕ). y * row + (q + k) * m + m ≤ x) (sym (run-length (y * row + q * m) (k * m) g b)) (omega arith)) (run-bytes (y * row + q * m) (k * m) g b v full-byte)
+        ∙ group y (q + k) b′ (omega arith) hy (subst (λ (x : ℕ). y * row + (q + k) * m + m ≤ x) (sym (run-length (y * row + q * m) (k * m) g b)) (omega arith))
+        (run-bytes (y * row + q * m) (k * m) g b v full-byte)
         ∙ ap (λ (x : ℕ). setRun x m g b′) e
         ∙ sym (run-cong (y * row + q * m + k * m) m (λ j. g (k * m + j)) g b′ (λ j h. again k j (parts-pos d (S .depth))))
         ∙ run-then (y * row + q * m) (k * m) m g b
@@ -493,7 +499,8 @@ module _ (r : Packed) (S : Sound r) (c : ℕ) where
     all-rows : (k : ℕ) (b : List ℕ) → r .width ≡ k * n → row ≡ k * m → row * r .height ≤ length b → Bytes b
         → painted (laid r) everywhere c b ≡ setRun 0 (row * r .height) (fullByte d (r .big) c) b
     all-rows k b w e l v =
-        sym (rows-end (laid r) (placing r S) c b (r .height) (le-refl (r .height))) ∙ go (r .height) (le-refl (r .height)) ∙ ap (λ (x : ℕ). setRun 0 x (fullByte d (r .big) c) b) (mul-comm (r .height) row)
+        sym (rows-end (laid r) (placing r S) c b (r .height) (le-refl (r .height))) ∙ go (r .height) (le-refl (r .height))
+        ∙ ap (λ (x : ℕ). setRun 0 x (fullByte d (r .big) c) b) (mul-comm (r .height) row)
       where
         go : (y : ℕ) → y ≤ r .height → painted (laid r) (λ u v. ltZ v (pos y)) c b ≡ setRun 0 (y * row) (fullByte d (r .big) c) b
         go zero h = rows-start (laid r) (placing r S) c b ∙ ap (λ (x : ℕ). setRun 0 x (fullByte d (r .big) c) b) none
@@ -514,9 +521,11 @@ module _ (r : Packed) (S : Sound r) (c : ℕ) where
             ∙ sym (rows-then (laid r) (placing r S) c b y)
             ∙ ap (painted (laid r) (columns y 0 (r .width)) c) (go y (omega arith))
             ∙ sym (ap₂ (λ (i j : ℕ). painted (laid r) (columns y i j) c b′) z q)
-            ∙ whole-bytes y 0 k b′ (omega arith) h (subst (λ (x : ℕ). y * row + (0 + k) * m ≤ x) (sym (run-length 0 (y * row) g b)) (omega arith)) (run-bytes 0 (y * row) g b v full-byte)
+            ∙ whole-bytes y 0 k b′ (omega arith) h (subst (λ (x : ℕ). y * row + (0 + k) * m ≤ x) (sym (run-length 0 (y * row) g b)) (omega arith))
+            (run-bytes 0 (y * row) g b v full-byte)
             ∙ ap (λ (x : ℕ). setRun x (k * m) g b′) s
-            ∙ sym (run-cong (0 + y * row) (k * m) (λ j. g (y * row + j)) g b′ (λ j t. ap (λ (x : ℕ). g (x + j)) (ap (λ (x : ℕ). y * x) e ∙ assoc y k) ∙ again (y * k) j (parts-pos d (S .depth))))
+            ∙ sym (run-cong (0 + y * row) (k * m) (λ j. g (y * row + j)) g b′
+            (λ j t. ap (λ (x : ℕ). g (x + j)) (ap (λ (x : ℕ). y * x) e ∙ assoc y k) ∙ again (y * k) j (parts-pos d (S .depth))))
             ∙ run-then 0 (y * row) (k * m) g b
             ∙ ap (λ (x : ℕ). setRun 0 x g b) f
           where

@@ -43,7 +43,9 @@ module _ (r : Packed) (g : goodDepth (r .depth) ≡ true) (h : r .depth ≤ 8) w
       step true p a = put-order (p % r .width) (p / r .width) c a
       step false p a = refl
 
-      go : (n : ℕ) → paint (putNo (laid (ordered true r))) n (λ p. s (pos (p % r .width)) (pos (p / r .width))) c b ≡ paint (putNo (laid (ordered false r))) n (λ p. s (pos (p % r .width)) (pos (p / r .width))) c b
+      go : (n : ℕ)
+          → paint (putNo (laid (ordered true r))) n (λ p. s (pos (p % r .width)) (pos (p / r .width))) c b
+          ≡ paint (putNo (laid (ordered false r))) n (λ p. s (pos (p % r .width)) (pos (p / r .width))) c b
       go zero = refl
       go (suc n) =
           ap (putIf (putNo (laid (ordered true r))) (s (pos (n % r .width)) (pos (n / r .width))) n c) (go n) ∙ step (s (pos (n % r .width)) (pos (n / r .width))) n _

@@ -52,7 +52,8 @@ module _ {N : ℕ} {Col : ℕ → Type 0} {Buf : Type 0} {Ok : Buf → Type 0} {
   put-render zero p v f b l h = absurd (not-suc-le-zero h)
   put-render (suc n) p v f b l h = pick (put-render n p v f b (omega arith)) (eq-or-lt-of-le (le-of-suc-le-suc h))
     where
-      pick : (p < n → put p v (render put n f b) ≡ render put n (upd f p v) b) → (p ≡ n) ⊎ (p < n) → put p v (put n (f n) (render put n f b)) ≡ put n (upd f p v n) (render put n (upd f p v) b)
+      pick : (p < n → put p v (render put n f b) ≡ render put n (upd f p v) b) → (p ≡ n) ⊎ (p < n)
+          → put p v (put n (f n) (render put n f b)) ≡ put n (upd f p v n) (render put n (upd f p v) b)
       pick ih (inl e) =
           subst (λ (q : ℕ). put q v (put n (f n) (render put n f b)) ≡ put n (upd f q v n) (render put n (upd f q v) b)) (sym e)
           (L .twice n v (f n) (render put n f b) l

@@ -126,13 +126,18 @@ module _ (s e : Point) where
   unfolding pointAt xMoves yMoves
   neighbours k = by (steep s e)
     where
-      by : (t : Bool) → Neighbours t (s .0 +ℤ toward (s .0) (e .0) *ℤ pos (cond t (moves (major s e) (minor s e) k) k), s .1 +ℤ toward (s .1) (e .1) *ℤ pos (cond t k (moves (major s e) (minor s e) k)))
-          (s .0 +ℤ toward (s .0) (e .0) *ℤ pos (cond t (moves (major s e) (minor s e) (k + 1)) (k + 1)), s .1 +ℤ toward (s .1) (e .1) *ℤ pos (cond t (k + 1) (moves (major s e) (minor s e) (k + 1))))
+      by : (t : Bool)
+          → Neighbours t
+          (s .0 +ℤ toward (s .0) (e .0) *ℤ pos (cond t (moves (major s e) (minor s e) k) k), s .1 +ℤ toward (s .1) (e .1) *ℤ pos (cond t k (moves (major s e) (minor s e) k))) (
+            s .0 +ℤ toward (s .0) (e .0) *ℤ pos (cond t (moves (major s e) (minor s e) (k + 1)) (k + 1)),
+            s .1 +ℤ toward (s .1) (e .1) *ℤ pos (cond t (k + 1) (moves (major s e) (minor s e) (k + 1))),
+          )
       by true = record { major = gap (s .1) (e .1) k 1; minor = one-more (s .0) (e .0) k }
       by false = record { major = gap (s .0) (e .0) k 1; minor = one-more (s .1) (e .1) k }
 
   -- ---- within half a pixel: at step k the ideal line is minor · k / major along the minor axis
-  pub half-pixel : (k : ℕ) → k ≤ major s e → (2 * major s e * moves (major s e) (minor s e) k ≤ 2 * minor s e * k + major s e) × (2 * minor s e * k ≤ 2 * major s e * moves (major s e) (minor s e) k + major s e)
+  pub half-pixel : (k : ℕ) → k ≤ major s e
+      → (2 * major s e * moves (major s e) (minor s e) k ≤ 2 * minor s e * k + major s e) × (2 * minor s e * k ≤ 2 * major s e * moves (major s e) (minor s e) k + major s e)
   half-pixel k h =
       let b = moves-band (major s e) (minor s e) k (narrow s e) h in
       (omega (arith, b .low), b .high)
@@ -163,7 +168,9 @@ module _ (s e v : Point) where
   same-apart a b v = rw (as-mk a, as-mk b, as-mk v) (simp mks (mk-eq _ _ _ _ (omega arith)))
 
   same-way : (a b v : ℤ) → toward (a +ℤ v) (b +ℤ v) ≡ toward a b
-  same-way a b v = ap (λ (t : Bool). cond t (pos 1) (negsuc 0)) (decides-one (leZ (a +ℤ v) (b +ℤ v)) (leZ a b) (decides-le (a +ℤ v) (b +ℤ v)) (decides-map (decides-le a b) (le-move a b v) (move-le a b v)))
+  same-way a b v =
+      ap (λ (t : Bool). cond t (pos 1) (negsuc 0))
+      (decides-one (leZ (a +ℤ v) (b +ℤ v)) (leZ a b) (decides-le (a +ℤ v) (b +ℤ v)) (decides-map (decides-le a b) (le-move a b v) (move-le a b v)))
 
   wide-moved : wide (moved v s) (moved v e) ≡ wide s e
   unfolding wide

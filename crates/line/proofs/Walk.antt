@@ -78,17 +78,30 @@ module _ {s e : Point} {k m : ℕ} {w : Walker} (h : Stands s e k m w) where
   pub x-read : k ≤ major s e + 1 → Has w32 (toZ w32 (ofZ w32 (w .x))) (w .x) 655362
   x-read l =
       read-as (h .x)
-      (omega (arith, place-size (s .0) (w .course .xmajor) (w .course .xminor) k m (xmajor-read (h .course) .size) (xminor-read (h .course) .size), coord-size (h .start .x), major-size (h .start) (h .end), h .few)) tt
+      (omega (
+        arith,
+        place-size (s .0) (w .course .xmajor) (w .course .xminor) k m (xmajor-read (h .course) .size) (xminor-read (h .course) .size),
+        coord-size (h .start .x),
+        major-size (h .start) (h .end),
+        h .few,
+      )) tt
 
   pub y-read : k ≤ major s e + 1 → Has w32 (toZ w32 (ofZ w32 (w .y))) (w .y) 655362
   y-read l =
       read-as (h .y)
-      (omega (arith, place-size (s .1) (w .course .ymajor) (w .course .yminor) k m (ymajor-read (h .course) .size) (yminor-read (h .course) .size), coord-size (h .start .y), major-size (h .start) (h .end), h .few)) tt
+      (omega (
+        arith,
+        place-size (s .1) (w .course .ymajor) (w .course .yminor) k m (ymajor-read (h .course) .size) (yminor-read (h .course) .size),
+        coord-size (h .start .y),
+        major-size (h .start) (h .end),
+        h .few,
+      )) tt
 
   pub error-read : 2 * minor s e * k ≤ 2 * major s e * m + major s e + 2 * minor s e → Has w32 (toZ w32 (ofZ w32 (w .error))) (w .error) 786432
   error-read u =
       read-as (h .error)
-      (minus-within (2 * minor s e * k) (2 * major s e * m) 786432 (omega (arith, h .low, major-size (h .start) (h .end), minor-size (h .start) (h .end))) (omega (arith, h .low, major-size (h .start) (h .end)))) tt
+      (minus-within (2 * minor s e * k) (2 * major s e * m) 786432 (omega (arith, h .low, major-size (h .start) (h .end), minor-size (h .start) (h .end)))
+      (omega (arith, h .low, major-size (h .start) (h .end)))) tt
 
 -- ---- the point it stands at
 axis-x : (b : Bool) (s d : ℤ) (k m : ℕ) → s +ℤ cond b (pos 0) d *ℤ pos k +ℤ cond b d (pos 0) *ℤ pos m ≡ s +ℤ d *ℤ pos (cond b m k)
@@ -195,8 +208,12 @@ module _ {s e : Point} {k : ℕ} {w r : Walker} (same : r .course ≡ w .course)
           start = st .start;
           end = st .end;
           course = subst (CourseOf s e) (sym same) (st .course);
-          x = rx ∙ ap (λ (z : ℤ). z +ℤ w .course .xminor) (st .x) ∙ more-minor (s .0) (w .course .xmajor) (w .course .xminor) (pos k) (pos m) ∙ ap (λ (c : Course). s .0 +ℤ c .xmajor *ℤ pos k +ℤ c .xminor *ℤ pos (m + 1)) (sym same);
-          y = ry ∙ ap (λ (z : ℤ). z +ℤ w .course .yminor) (st .y) ∙ more-minor (s .1) (w .course .ymajor) (w .course .yminor) (pos k) (pos m) ∙ ap (λ (c : Course). s .1 +ℤ c .ymajor *ℤ pos k +ℤ c .yminor *ℤ pos (m + 1)) (sym same);
+          x =
+              rx ∙ ap (λ (z : ℤ). z +ℤ w .course .xminor) (st .x) ∙ more-minor (s .0) (w .course .xmajor) (w .course .xminor) (pos k) (pos m)
+              ∙ ap (λ (c : Course). s .0 +ℤ c .xmajor *ℤ pos k +ℤ c .xminor *ℤ pos (m + 1)) (sym same);
+          y =
+              ry ∙ ap (λ (z : ℤ). z +ℤ w .course .yminor) (st .y) ∙ more-minor (s .1) (w .course .ymajor) (w .course .yminor) (pos k) (pos m)
+              ∙ ap (λ (c : Course). s .1 +ℤ c .ymajor *ℤ pos k +ℤ c .yminor *ℤ pos (m + 1)) (sym same);
           error = re ∙ ap₂ _-ℤ_ (st .error) (st .course .down) ∙ less (pos (2 * n * k)) (pos (2 * M * m)) (pos (2 * M)) ∙ ap (λ (a : ℕ). pos (2 * n * k) -ℤ pos a) (twice-more M m);
           few = still-few M n k m (narrow s e) due;
           low = still-low M n k m due;
@@ -217,8 +234,12 @@ module _ {s e : Point} {k : ℕ} {w r : Walker} (same : r .course ≡ w .course)
           start = st .start;
           end = st .end;
           course = subst (CourseOf s e) (sym same) (st .course);
-          x = rx ∙ ap (λ (z : ℤ). z +ℤ w .course .xmajor) (st .x) ∙ more-major (s .0) (w .course .xmajor) (w .course .xminor) (pos k) (pos m) ∙ ap (λ (c : Course). s .0 +ℤ c .xmajor *ℤ pos (k + 1) +ℤ c .xminor *ℤ pos m) (sym same);
-          y = ry ∙ ap (λ (z : ℤ). z +ℤ w .course .ymajor) (st .y) ∙ more-major (s .1) (w .course .ymajor) (w .course .yminor) (pos k) (pos m) ∙ ap (λ (c : Course). s .1 +ℤ c .ymajor *ℤ pos (k + 1) +ℤ c .yminor *ℤ pos m) (sym same);
+          x =
+              rx ∙ ap (λ (z : ℤ). z +ℤ w .course .xmajor) (st .x) ∙ more-major (s .0) (w .course .xmajor) (w .course .xminor) (pos k) (pos m)
+              ∙ ap (λ (c : Course). s .0 +ℤ c .xmajor *ℤ pos (k + 1) +ℤ c .xminor *ℤ pos m) (sym same);
+          y =
+              ry ∙ ap (λ (z : ℤ). z +ℤ w .course .ymajor) (st .y) ∙ more-major (s .1) (w .course .ymajor) (w .course .yminor) (pos k) (pos m)
+              ∙ ap (λ (c : Course). s .1 +ℤ c .ymajor *ℤ pos (k + 1) +ℤ c .yminor *ℤ pos m) (sym same);
           error = re ∙ ap₂ _+ℤ_ (st .error) (st .course .up) ∙ more (pos (2 * n * k)) (pos (2 * M * m)) (pos (2 * n)) ∙ ap (λ (a : ℕ). pos a -ℤ pos (2 * M * m)) (twice-more n k);
           few = omega (arith, st .few);
           low = later-low M n k m (st .low);

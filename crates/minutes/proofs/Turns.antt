@@ -29,7 +29,8 @@ module _ (first : List ℕ) where
   pub starts : (st : State) (input : List ℕ) (t : Tally) → st ≡ started → t ≡ fresh → length input ≡ 65536 → Running st input t
   starts st input t e f i =
       subst (λ (q : State). Running q input t) (sym e)
-      (subst (λ (u : Tally). Running started input u) (sym f) (record { within = record { ahead = omega arith; most = omega arith }; size = i; few = omega arith; ran = begun input }))
+      (subst (λ (u : Tally). Running started input u) (sym f)
+      (record { within = record { ahead = omega arith; most = omega arith }; size = i; few = omega arith; ran = begun input }))
 
   module _ (st : State) (input : List ℕ) (t : Tally) (run : Running st input t) where
     pub there-is : length (take (st .end) input) ≡ st .end
@@ -42,7 +43,15 @@ module _ (first : List ℕ) where
       pub next-within : Within w
       next-within =
           subst Within (sym is)
-          (record { ahead = omega (arith, there-is, handled-within takeLine always (take (st .end) input) (length (take (st .end) input)) (st .next) t (omega (arith, there-is, run .within .ahead))); most = run .within .most })
+          (record {
+            ahead =
+                omega (
+                  arith,
+                  there-is,
+                  handled-within takeLine always (take (st .end) input) (length (take (st .end) input)) (st .next) t (omega (arith, there-is, run .within .ahead)),
+                );
+            most = run .within .most;
+          })
 
       pub same-turns : w .turns ≡ st .turns
       same-turns = ap (λ (q : State). q .turns) is

@@ -77,7 +77,10 @@ unfolding answer
 answer-short line = by (leb (length line) 128) (readVertices (fields line) .ok) (readPlace (fields line) .ok) (eqb (nextU32 line 0 .next) (length line + 1))
   where
     by : (a b c d : Bool)
-        → length (cond a (cond b (verticesLine (readVertices (fields line))) (cond c (placeLine (readPlace (fields line))) (cond d (numbered (nextU32 line 0 .value) 10) badLine))) badLine) ≤ 72
+        → length
+        (cond a (cond b (verticesLine (readVertices (fields line))) (cond c (placeLine (readPlace (fields line))) (cond d (numbered (nextU32 line 0 .value) 10) badLine)))
+        badLine)
+        ≤ 72
     by false b c d = omega arith
     by true true c d = vertices-short (fields line)
     by true false true d = omega (arith, place-short (fields line))

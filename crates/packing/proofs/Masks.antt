@@ -29,7 +29,8 @@ module _ (d x : ℕ) (g : goodDepth d ≡ true) (s : d < 8) where
   above =
       let e = div-add-mod' x (per d) in
       let f : x * d ≡ x / per d * 8 + x % per d * d =
-      ap (λ (k : ℕ). k * d) (sym e) ∙ (let m : (x / per d * per d + x % per d) * d ≡ x / per d * (per d * d) + x % per d * d = omega arith in m) ∙ ap (λ (k : ℕ). x / per d * k + x % per d * d) eight in
+      ap (λ (k : ℕ). k * d) (sym e) ∙ (let m : (x / per d * per d + x % per d) * d ≡ x / per d * (per d * d) + x % per d * d = omega arith in m)
+      ∙ ap (λ (k : ℕ). x / per d * k + x % per d * d) eight in
       ap (λ (k : ℕ). k % 8) f ∙ digits-mod (x / per d) low
     where
       low : x % per d * d < 8

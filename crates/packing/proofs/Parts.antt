@@ -106,7 +106,8 @@ whole-pixels (suc (suc (suc (suc zero)))) j h l = omega arith
 whole-pixels (suc (suc (suc (suc (suc p))))) j h l = absurd (omega arith)
 
 -- a pixel is stored at the front, repeated within the first bytes, and these to the end
-module _ (b s : List ℕ) (p colour : ℕ) (big : Bool) (h0 : 0 < p) (h4 : p ≤ 4) (hp : p ≤ length b) (es : s ≡ setRun 0 (length (take p b)) (λ j. digit 256 (turned big (length (take p b)) j) colour) (take p b)) where
+module _ (b s : List ℕ) (p colour : ℕ) (big : Bool) (h0 : 0 < p) (h4 : p ≤ 4) (hp : p ≤ length b)
+    (es : s ≡ setRun 0 (length (take p b)) (λ j. digit 256 (turned big (length (take p b)) j) colour) (take p b)) where
   stored-length : length s ≡ p
   stored-length = ap length es ∙ run-length 0 (length (take p b)) _ (take p b) ∙ length-take-le p b hp
 

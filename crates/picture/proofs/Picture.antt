@@ -16,7 +16,8 @@ use Rattle.refusals.proofs.First.{refused, both-pass, fails-alone}
 use Rattle.layout.specs.Layout.{Layout, Picture, shown, rendered}
 use Rattle.layout.specs.Packed.{field, parts}
 use Rattle.layout.proofs.Fields.{pow-mul}
-use Rattle.layout.proofs.Pictures.{Colour, Everywhere, Agree, rendered-length, rendered-cong, rendered-again, rendered-shown, shown-rendered, shown-colour, shown-zeros, one-picture}
+use Rattle.layout.proofs.Pictures.{Colour, Everywhere, Agree, rendered-length, rendered-cong}
+use Rattle.layout.proofs.Pictures.{rendered-again, rendered-shown, shown-rendered, shown-colour, shown-zeros, one-picture}
 use Rattle.layout.proofs.Places.{depth-of}
 use Rattle.layout.proofs.Placing.{Placing}
 use Rattle.framebuffer.specs.declared.Frame.{Frame}
@@ -25,7 +26,8 @@ use Rattle.framebuffer.specs.Drawing.{Drawing, pixelDrawing, fillDrawing}
 use Rattle.framebuffer.specs.Judged.{Described, Accepted}
 use Rattle.framebuffer.proofs.Refusals.{is-accepted, frame-numbered, sound}
 use Rattle.drawing.specs.Drawing.{lineDrawing, triangleDrawing, outlineDrawing, circleDrawing}
-use Rattle.picture.specs.Calls.{Call, setPixel, fillFrame, drawLine, drawTriangle, drawOutline, drawCircle, Change, draws, changeOf, numberOf, blank, shownAfter, pictureAfter, afterCall, afterCalls}
+use Rattle.picture.specs.Calls.{Call, setPixel, fillFrame, drawLine, drawTriangle, drawOutline, drawCircle, Change}
+use Rattle.picture.specs.Calls.{draws, changeOf, numberOf, blank, shownAfter, pictureAfter, afterCall, afterCalls}
 
 -- a zero-filled buffer of n bytes
 abbrev pub zeros : ℕ → List ℕ
@@ -87,7 +89,8 @@ module _ (f : Frame) (n : ℕ) where
         a : List ℕ
         a = rendered (raster f) g b
 
-        by : (t : Bool) → cond t (rendered (raster f) (changeOf o .changes f (shown (raster f) a)) a) a ≡ rendered (raster f) (λ x y. cond t (changeOf o .changes f g x y) (g x y)) b
+        by : (t : Bool)
+            → cond t (rendered (raster f) (changeOf o .changes f (shown (raster f) a)) a) a ≡ rendered (raster f) (λ x y. cond t (changeOf o .changes f g x y) (g x y)) b
         by true =
             rendered-again (raster f) P (changeOf o .changes f (shown (raster f) a)) g b
             ∙ rendered-cong (raster f) P _ _ b (lawful f o .local (shown (raster f) a) g (λ x y hx hy. shown-rendered (raster f) P g b (room b e) x y hx hy (c x y hx hy)))
@@ -125,7 +128,9 @@ module _ (f : Frame) (n : ℕ) where
 
     accepted-case : (xs ys : List Call) → (afterCalls f xs (zeros n) ≡ afterCalls f ys (zeros n)) ↔ Agree (raster f) (pictureAfter f n xs blank) (pictureAfter f n ys blank)
     accepted-case xs ys =
-        let h = one-picture (raster f) P (pictureAfter f n xs blank) (pictureAfter f n ys blank) (zeros n) (room (zeros n) (length-replicate n 0)) (colours-after-calls xs blank blank-colours) (colours-after-calls ys blank blank-colours) in
+        let h =
+        one-picture (raster f) P (pictureAfter f n xs blank) (pictureAfter f n ys blank) (zeros n) (room (zeros n) (length-replicate n 0))
+        (colours-after-calls xs blank blank-colours) (colours-after-calls ys blank blank-colours) in
         (λ e. h .0 (sym (zeros-after xs) ∙ e ∙ zeros-after ys), λ a. zeros-after xs ∙ h .1 a ∙ sym (zeros-after ys))
 
   -- ---- another description, or too short a buffer: every call is refused

@@ -65,7 +65,8 @@ set-pixel-does κs a r s h = draws-does _ _ _ _ refl h
 pub fill-does : (κs : _) (a : _) (r : _) (s : _) → fill.Post κs a r s → Does (a .1 .0) (fillFrame (a .1 .1 .0)) (now (a .0)) r (now (s .0))
 fill-does κs a r s h = draws-does _ _ _ _ refl h
 
-pub draw-line-does : (κs : _) (a : _) (r : _) (s : _) → draw-line.Post κs a r s → Does (a .1 .0) (drawLine (a .1 .1 .0) (a .1 .1 .1 .0) (a .1 .1 .1 .1 .0)) (now (a .0)) r (now (s .0))
+pub draw-line-does : (κs : _) (a : _) (r : _) (s : _) → draw-line.Post κs a r s
+    → Does (a .1 .0) (drawLine (a .1 .1 .0) (a .1 .1 .1 .0) (a .1 .1 .1 .1 .0)) (now (a .0)) r (now (s .0))
 draw-line-does κs a r s h = draws-does _ _ _ _ refl h
 
 pub draw-triangle-does : (κs : _) (a : _) (r : _) (s : _) → draw-triangle.Post κs a r s

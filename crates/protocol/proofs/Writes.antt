@@ -17,7 +17,8 @@ use Rattle.text.proofs.Writing.{Wrote, at-field, wrote-then}
 abbrev pub Short : ℕ → List ℕ → ℕ → List ℕ → ℕ → List ℕ → Type 0
 Short most buf at s r out = (r ≡ at + length s) × (out ≡ sets buf at s) × (r ≤ at + most)
 
-pub short-then : (m n : ℕ) (buf : List ℕ) (at : ℕ) (s t : List ℕ) {p r : ℕ} {mid out : List ℕ} → Short m buf at s p mid → Short n mid p t r out → Short (m + n) buf at (s ++ t) r out
+pub short-then : (m n : ℕ) (buf : List ℕ) (at : ℕ) (s t : List ℕ) {p r : ℕ} {mid out : List ℕ} → Short m buf at s p mid → Short n mid p t r out
+    → Short (m + n) buf at (s ++ t) r out
 short-then m n buf at s t a b =
     let w = wrote-then buf at s t (a .0, a .1) (b .0, b .1) in
     (w .0, w .1, omega (arith, a .2, b .2))

@@ -40,7 +40,8 @@ module _ (input : List ℕ) (st : State) (o : Work) (s : Standing st input (o .0
   lines-sound : afterLines input st o .1 .1 .0 .lent ≤ 65536
   lines-sound = lines-lent (take (st .end) input) (length (take (st .end) input)) (st .next) ((st .at, o .0), o .1) (h .0)
 
-  pub lines-keep : (p : State × Work) → p ≡ afterLines input st o → p .0 .at ≤ 65536 → length (p .1 .0) ≡ length (o .0) → length (p .1 .1 .1) ≡ length (o .1 .1) → Kept bytes Sound st p
+  pub lines-keep : (p : State × Work) → p ≡ afterLines input st o → p .0 .at ≤ 65536 → length (p .1 .0) ≡ length (o .0) → length (p .1 .1 .1) ≡ length (o .1 .1)
+      → Kept bytes Sound st p
   lines-keep p e few b m =
       record {
         within = subst (λ (x : State × Work). Within (x .0)) (sym e) lines-within;

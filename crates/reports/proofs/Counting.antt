@@ -29,7 +29,8 @@ use Rattle.reports.specs.declared.Count.{Count}
 use Rattle.reports.specs.declared.Tally.{Tally}
 use Rattle.reports.specs.Words.{tooLong, refused, badTab, inside}
 use Rattle.reports.specs.Corners.{corner1, corner2, corner3, cornersRefusal}
-use Rattle.reports.specs.Minutes.{overlong, refusedBy, badAt, tally, counting, insideOne, withSample, withLine, wedge, behindFirst, unless, minutes, fresh, withWedge, takeLine, pairLine, countLine}
+use Rattle.reports.specs.Minutes.{overlong, refusedBy, badAt, tally, counting, insideOne, withSample, withLine}
+use Rattle.reports.specs.Minutes.{wedge, behindFirst, unless, minutes, fresh, withWedge, takeLine, pairLine, countLine}
 
 -- ---- a line more
 module _ (v : Vertices) (k : Count) where
@@ -78,7 +79,9 @@ Few t = t .count .inside ≤ t .count .samples
 
 pub take-few : (t : Tally) (line : List ℕ) → Few t → Few (takeLine t line)
 unfolding takeLine withLine
-take-few t line h = by (t .begun) (counting (t .count)) (readPlace (fields line) .ok) (ltb (t .count .samples) 4294967295) (readVertices (fields line) .ok) (cornersRefusal (readVertices (fields line)))
+take-few t line h =
+    by (t .begun) (counting (t .count)) (readPlace (fields line) .ok) (ltb (t .count .samples) 4294967295) (readVertices (fields line) .ok)
+    (cornersRefusal (readVertices (fields line)))
   where
     v : Vertices
     v = readVertices (fields line)
@@ -87,7 +90,8 @@ take-few t line h = by (t .begun) (counting (t .count)) (readPlace (fields line)
     k = t .count
 
     by : (a b c d e : Bool) (n : ℕ)
-        → Few (cond a (record { begun = true; wedge = t .wedge; count = cond b (cond c (cond d (tally (t .count .inside + insideOne (t .wedge) (readPlace (fields line))) (t .count .samples + 1)) overlong) (badAt (t .count .samples + 2) (badField 2 line))) (t .count) })
+        → Few (cond a
+        (record { begun = true; wedge = t .wedge; count = cond b (cond c (cond d (tally (t .count .inside + insideOne (t .wedge) (readPlace (fields line))) (t .count .samples + 1)) overlong) (badAt (t .count .samples + 2) (badField 2 line))) (t .count) })
         (record { begun = true; wedge = readVertices (fields line); count = cond e (unless n (tally 0 0)) (badAt 1 (badField 6 line)) }))
     by true true true true e n = omega (arith, inside-most (t .wedge) (readPlace (fields line)))
     by true true true false e n = omega arith
@@ -128,7 +132,12 @@ noWedge = record { ok = false; x1 = pos 0; y1 = pos 0; x2 = pos 0; y2 = pos 0; x
 
 long-is : (t : Tally) (line : List ℕ) → 128 < length line
     → takeLine t line
-    ≡ cond (t .begun) (record { begun = true; wedge = t .wedge; count = cond (counting (t .count)) (badAt (t .count .samples + 2) 0) (t .count) }) (record { begun = true; wedge = noWedge; count = badAt 1 0 })
+    ≡ cond (t .begun) (record {
+      begun =
+          true;
+      wedge = t .wedge;
+      count = cond (counting (t .count)) (badAt (t .count .samples + 2) 0) (t .count);
+    }) (record { begun = true; wedge = noWedge; count = badAt 1 0 })
 unfolding takeLine withLine
 long-is t line h =
     rw (← no-place (fields line) (too-long 2 line (omega arith)), ← no-vertices (fields line) (too-long 6 line (omega arith)), ← amiss-long 2 line h, ← amiss-long 6 line h)

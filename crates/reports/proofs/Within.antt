@@ -61,7 +61,8 @@ module _ (y : ℤ) (n m : ℕ) (some : m ≤ n) (below : (y +ℤ pos n) ≤ℤ p
 module _ (v1 v2 v3 : Point) (y : ℤ) (a : Accepted v1 v2 v3) where
   edge-coord : (x : ℤ) → EdgePoint (flat v1 v2 v3) (p1 v1 v2 v3) (p2 v1 v2 v3) (p3 v1 v2 v3) (x, y) → Coord x
   edge-coord x e =
-      let c : contained v1 v2 v3 (x, y) ≡ true = decides-yes (contained-decides v1 v2 v3 (x, y)) (record { first = x; last = x; from = le-self x; to = le-self x; at-first = e; at-last = e }) in
+      let c : contained v1 v2 v3 (x, y) ≡ true =
+      decides-yes (contained-decides v1 v2 v3 (x, y)) (record { first = x; last = x; from = le-self x; to = le-self x; at-first = e; at-last = e }) in
       record {
         low = box-left v1 v2 v3 (x, y) c (negsuc 131071) (a .0 .x .low) (a .1 .x .low) (a .2 .x .low);
         high = box-right v1 v2 v3 (x, y) c (pos 131071) (a .0 .x .high) (a .1 .x .high) (a .2 .x .high);
@@ -70,7 +71,8 @@ module _ (v1 v2 v3 : Point) (y : ℤ) (a : Accepted v1 v2 v3) where
   pub span-fits : SFits w32 (rowSpan v1 v2 v3 y .0) × SFits w32 (rowSpan v1 v2 v3 y .1)
   span-fits = by (row-spans v1 v2 v3 y)
     where
-      by : Spans (λ x. EdgePoint (flat v1 v2 v3) (p1 v1 v2 v3) (p2 v1 v2 v3) (p3 v1 v2 v3) (x, y)) (rowSpan v1 v2 v3 y) → SFits w32 (rowSpan v1 v2 v3 y .0) × SFits w32 (rowSpan v1 v2 v3 y .1)
+      by : Spans (λ x. EdgePoint (flat v1 v2 v3) (p1 v1 v2 v3) (p2 v1 v2 v3) (p3 v1 v2 v3) (x, y)) (rowSpan v1 v2 v3 y)
+          → SFits w32 (rowSpan v1 v2 v3 y .0) × SFits w32 (rowSpan v1 v2 v3 y .1)
       by (inl b) =
           let last : Coord (b .last) = edge-coord (b .last) (b .at-last) in (
             coord-fits (edge-coord (rowSpan v1 v2 v3 y .0) (b .at-first)),
@@ -83,7 +85,8 @@ unfolding rowOf
 row-fits v y = by (cornersRefusal v) refl
   where
     by : (n : ℕ) → cornersRefusal v ≡ n
-        → SFits w32 (span n (rowSpan (corner1 v) (corner2 v) (corner3 v) y .0) (rowSpan (corner1 v) (corner2 v) (corner3 v) y .1) .start) × SFits w32 (span n (rowSpan (corner1 v) (corner2 v) (corner3 v) y .0) (rowSpan (corner1 v) (corner2 v) (corner3 v) y .1) .end)
+        → SFits w32 (span n (rowSpan (corner1 v) (corner2 v) (corner3 v) y .0) (rowSpan (corner1 v) (corner2 v) (corner3 v) y .1) .start)
+        × SFits w32 (span n (rowSpan (corner1 v) (corner2 v) (corner3 v) y .0) (rowSpan (corner1 v) (corner2 v) (corner3 v) y .1) .end)
     by zero e = span-fits (corner1 v) (corner2 v) (corner3 v) y (is-accepted (corner1 v) (corner2 v) (corner3 v) e)
     by (suc n) e = (zero-fits, zero-fits)
 
@@ -93,7 +96,13 @@ row-short v y f = let s = row-fits v y in triple-short y (rowOf v y .start) (row
 pub rows-short : (v : Vertices) (y : ℤ) (n : ℕ) → SFits w32 y → (y +ℤ pos n) ≤ℤ pos 131072 → length (rowLines v y n) ≤ 36 * n
 rows-short v y zero f h = omega arith
 rows-short v y (suc n) f h =
-    omega (arith, row-short v y f, length-append (rowLine v y) (rowLines v (y +ℤ pos 1) n), rows-short v (y +ℤ pos 1) n (further-fits y (suc n) 1 (omega arith) h f) (subst (λ (k : ℕ). ((y +ℤ pos 1) +ℤ pos k) ≤ℤ pos 131072) less (further-below y (suc n) 1 (omega arith) h)))
+    omega (
+      arith,
+      row-short v y f,
+      length-append (rowLine v y) (rowLines v (y +ℤ pos 1) n),
+      rows-short v (y +ℤ pos 1) n (further-fits y (suc n) 1 (omega arith) h f)
+          (subst (λ (k : ℕ). ((y +ℤ pos 1) +ℤ pos k) ≤ℤ pos 131072) less (further-below y (suc n) 1 (omega arith) h)),
+    )
   where
     less : suc n - 1 ≡ n
     less = omega arith
@@ -159,7 +168,9 @@ heading-short v = by (v .ok) (cornersRefusal v) refl
     by true zero e =
         let few : rowCount (corner1 v) (corner2 v) (corner3 v) ≤ 262145 = rows-few (corner1 v) (corner2 v) (corner3 v) (is-accepted (corner1 v) (corner2 v) (corner3 v) e) in
         omega (arith, counted-short rows (rowCount (corner1 v) (corner2 v) (corner3 v)) (record { fits = omega arith }))
-    by true (suc n) e = rw (ne-eqb (suc n) 0 (λ q. omega arith)) (omega (arith, counted-short refused (suc n) (record { fits = omega (arith, refusal-few (corner1 v) (corner2 v) (corner3 v)) })))
+    by true (suc n) e =
+        rw (ne-eqb (suc n) 0 (λ q. omega arith))
+        (omega (arith, counted-short refused (suc n) (record { fits = omega (arith, refusal-few (corner1 v) (corner2 v) (corner3 v)) })))
     by false n e = omega arith
 
 -- a report's length fits a machine number
@@ -167,4 +178,11 @@ pub report-short : (v : Vertices) → length (report v) ≤ 100000000000
 report-short v =
     let y = rowsOf v .first in
     let n = rowsOf v .count in
-    omega (arith, length-append (heading (v .ok) (rowsOf v)) (rowLines v y n), heading-short v, rows-short v y n (first-fits v) (rows-below v), part y n n (omega arith) (rows-below v), fits-dn w32 y (first-fits v))
+    omega (
+      arith,
+      length-append (heading (v .ok) (rowsOf v)) (rowLines v y n),
+      heading-short v,
+      rows-short v y n (first-fits v) (rows-below v),
+      part y n n (omega arith) (rows-below v),
+      fits-dn w32 y (first-fits v),
+    )

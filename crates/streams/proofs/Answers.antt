@@ -27,7 +27,8 @@ blind answer bad long line = by (leb (length line) 128) refl
         ∙ long (take 129 line) (omega (arith, leb-false (length line) 128 e, length-take 129 line))
 
 -- so the parts do not matter
-pub any-parts : (answer : List ℕ → List ℕ) → ((line : List ℕ) → answer line ≡ answer (take 129 line)) → (parts : List (List ℕ)) → streamed (said answer) 129 [] [] parts ≡ output answer (whole parts)
+pub any-parts : (answer : List ℕ → List ℕ) → ((line : List ℕ) → answer line ≡ answer (take 129 line)) → (parts : List (List ℕ))
+    → streamed (said answer) 129 [] [] parts ≡ output answer (whole parts)
 any-parts answer enough parts = streamed-is (said answer) 128 (λ out line. ap (λ (a : List ℕ). out ++ a) (enough line)) [] [] parts
 
 -- ---- a write leaves less than half of the output's buffer filled
@@ -76,12 +77,20 @@ module _ (answer : List ℕ → List ℕ) (most : ℕ) (short : (line : List ℕ
   -- ---- both buffers
   module _ (input : List ℕ) (st : State) (out : List ℕ) (s : Standing st input out) where
     pub lines-fit : Fits 65536 (handled (room most) (answered answer) (take (st .end) input) (length (take (st .end) input)) (st .next) (st .at, out) .1)
-    lines-fit = handled-keeps (answered answer) (room most) (Fits 65536) (fits-line 65536) (take (st .end) input) (length (take (st .end) input)) (st .next) (st .at, out) (omega (arith, s .filled, s .out-size), s .out-size)
+    lines-fit =
+        handled-keeps (answered answer) (room most) (Fits 65536) (fits-line 65536) (take (st .end) input) (length (take (st .end) input)) (st .next) (st .at, out)
+        (omega (arith, s .filled, s .out-size), s .out-size)
 
     pub lines-standing : Within (afterLines answer most input st out .0)
     lines-standing =
         record {
-          ahead = omega (arith, there-is input st out s, handled-within (answered answer) (room most) (take (st .end) input) (length (take (st .end) input)) (st .next) (st .at, out) (omega (arith, there-is input st out s, s .within .ahead)));
+          ahead =
+              omega (
+                arith,
+                there-is input st out s,
+                handled-within (answered answer) (room most) (take (st .end) input) (length (take (st .end) input)) (st .next) (st .at, out)
+                    (omega (arith, there-is input st out s, s .within .ahead)),
+              );
           most = s .within .most;
         }
 

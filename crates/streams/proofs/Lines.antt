@@ -34,7 +34,8 @@ module _ (answer : List ℕ → List ℕ) (most : ℕ) (input : List ℕ) (from 
     no-room r = sym (handled-full (answered answer) (room most) input (length input) next (filled, out) r) ∙ g .same
 
     -- the line is answered, and the next place is behind its LF
-    pub goes : end < length input → room most (filled, out) ≡ true → (k : ℕ) (o : List ℕ) → Wrote out filled (answer (take (end - next) (drop next input))) k o → length o ≡ length out → Going (end + 1) k o
+    pub goes : end < length input → room most (filled, out) ≡ true → (k : ℕ) (o : List ℕ) → Wrote out filled (answer (take (end - next) (drop next input))) k o
+        → length o ≡ length out → Going (end + 1) k o
     goes h r k o w l =
         let inside : lineEnd input next < length input = omega arith in
         let v : Wrote out filled (answer (lineAt input next)) k o = wrote-as out filled (ap answer (line-is input next end e)) w in
@@ -42,7 +43,8 @@ module _ (answer : List ℕ → List ℕ) (most : ℕ) (input : List ℕ) (from 
           ahead = omega arith;
           size = l ∙ g .size;
           same =
-              ap₂ (λ (n : ℕ) (p : ℕ × List ℕ). handled (room most) (answered answer) input (length input) n p) (ap (λ (n : ℕ). n + 1) e) (ap₂ (λ (n : ℕ) (p : List ℕ). (n, p)) (v .0) (v .1))
+              ap₂ (λ (n : ℕ) (p : ℕ × List ℕ). handled (room most) (answered answer) input (length input) n p) (ap (λ (n : ℕ). n + 1) e)
+              (ap₂ (λ (n : ℕ) (p : List ℕ). (n, p)) (v .0) (v .1))
               ∙ sym (handled-turn (answered answer) (room most) input next (filled, out) inside r)
               ∙ g .same;
         }

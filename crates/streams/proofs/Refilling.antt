@@ -34,6 +34,8 @@ pub refilled-within : (input : List ℕ) (st r : State) (after : List ℕ) → W
 refilled-within input st r after h f = by (whole input st) refl
   where
     by : (t : Bool) → whole input st ≡ t → Within r
-    by true w = let e = f .stays w .0 in record { ahead = omega (arith, h .ahead, ap (λ (q : State). q .next) e, ap (λ (q : State). q .end) e); most = omega (arith, h .most, ap (λ (q : State). q .end) e) }
+    by true w =
+        let e = f .stays w .0 in
+        record { ahead = omega (arith, h .ahead, ap (λ (q : State). q .next) e, ap (λ (q : State). q .end) e); most = omega (arith, h .most, ap (λ (q : State). q .end) e) }
     by false w = let o = f .reads w in
         record { ahead = omega (arith, ap (λ (q : State). q .next) (o .state)); most = omega (arith, o .room, ap (λ (q : State). q .end) (o .state)) }

@@ -56,7 +56,8 @@ module _ {O : Type 0} (out : O → List ℕ) (Sound : O → Type 0) where
           ran = begun input;
         })
 
-    module _ (st : State) (input : List ℕ) (o : O) (g : Going st input o) (on : goesOn st ≡ true) (p : State × O) (e : p ≡ lines input st o) (k : Kept st p) (w : State) (f : w ≡ written (p .0) (w .unwritten)) where
+    module _ (st : State) (input : List ℕ) (o : O) (g : Going st input o) (on : goesOn st ≡ true) (p : State × O) (e : p ≡ lines input st o) (k : Kept st p) (w : State)
+        (f : w ≡ written (p .0) (w .unwritten)) where
       turns-left : w .turns ≡ st .turns
       turns-left = ap (λ (q : State). q .turns) f ∙ written-turns (p .0) (w .unwritten) ∙ k .turns
 

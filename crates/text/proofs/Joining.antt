@@ -113,7 +113,12 @@ pub numbers-line : (k : ℕ) (line : List ℕ) → exactly k (fields line) ≡ t
 numbers-line k line e =
     let all : length (fields line) ≡ k = eqb-true (length (fields line)) k (and-second (numbers k (fields line)) (eqb (length (fields line)) k) e) in
     let n : numbers k (fields line) ≡ true = exactly-numbers k (fields line) e in
-    omega (arith, line-total line, total-short (fields line) (λ i h. number-short (getD (fields line) i []) (each-number k (fields line) n i (omega arith))), ap (λ (m : ℕ). m * 12) all)
+    omega (
+      arith,
+      line-total line,
+      total-short (fields line) (λ i h. number-short (getD (fields line) i []) (each-number k (fields line) n i (omega arith))),
+      ap (λ (m : ℕ). m * 12) all,
+    )
 
 -- so a longer one is none
 pub too-long : (k : ℕ) (line : List ℕ) → k * 12 ≤ length line → exactly k (fields line) ≡ false

@@ -145,7 +145,8 @@ no-minus (b ∷ s) h e q = true≢false (sym e ∙ rw q)
 pub reads-back-i32 : (z : ℤ) → SFits w32 z → readI32 (shownSigned z) ≡ record { ok = true; value = z }
 unfolding readSigned
 reads-back-i32 (pos n) f =
-    sym (signed-plain 10 (shown n) (unsigned true n) (no-minus (shown n) (shown-some n) (shown-digits n)) (sym (reads-back 2147483647 n (omega (arith, f .sfits)) (omega (arith, f .sfits)))))
+    sym (signed-plain 10 (shown n) (unsigned true n) (no-minus (shown n) (shown-some n) (shown-digits n))
+    (sym (reads-back 2147483647 n (omega (arith, f .sfits)) (omega (arith, f .sfits)))))
 reads-back-i32 (negsuc n) f = ap negated (reads-back 2147483648 (suc n) (f .sfits) (omega (arith, f .sfits)))
 
 -- ---- by the sign

@@ -90,7 +90,9 @@ at-triple buf at a b c stop {r} {out} p q s w =
 
 -- how long three numbers are
 pub triple-parts : (a b c : ℤ) (stop : ℕ) → length (triple a b c stop) ≡ length (numberField a 9) + (length (numberField b 9) + length (numberField c stop))
-triple-parts a b c stop = length-append (numberField a 9) (numberField b 9 ++ numberField c stop) ∙ ap (λ (n : ℕ). length (numberField a 9) + n) (length-append (numberField b 9) (numberField c stop))
+triple-parts a b c stop =
+    length-append (numberField a 9) (numberField b 9 ++ numberField c stop)
+    ∙ ap (λ (n : ℕ). length (numberField a 9) + n) (length-append (numberField b 9) (numberField c stop))
 
 pub wrote-byte : (buf : List ℕ) (at : ℕ) (s : List ℕ) (b : ℕ) {p : ℕ} {mid : List ℕ} → Wrote buf at s p mid → Wrote buf at (s ++ (b ∷ [])) (p + 1) (set mid p b)
 wrote-byte buf at s b {p} {mid} a = wrote-then buf at s (b ∷ []) a (refl, refl)

@@ -155,7 +155,8 @@ module _ (p1 p2 p3 p : Point) (u : p1 .1 ≤ℤ p2 .1) (l : p2 .1 ≤ℤ p3 .1) 
   halves : p1 .1 ≤ℤ p .1 → p .1 ≤ℤ p3 .1 → Upper ⊎ Lower
   halves a b = by (leZ (p .1) (p2 .1)) (ltZ (p1 .1) (p2 .1)) (ltZ (p2 .1) (p3 .1)) le-yes le-no lt-yes lt-no lt-yes lt-no
     where
-      by : (s t r : Bool) → (s ≡ true → p .1 ≤ℤ p2 .1) → (s ≡ false → p2 .1 <ℤ p .1) → (t ≡ true → p1 .1 <ℤ p2 .1) → (t ≡ false → p2 .1 ≤ℤ p1 .1) → (r ≡ true → p2 .1 <ℤ p3 .1) → (r ≡ false → p3 .1 ≤ℤ p2 .1) → Upper ⊎ Lower
+      by : (s t r : Bool) → (s ≡ true → p .1 ≤ℤ p2 .1) → (s ≡ false → p2 .1 <ℤ p .1) → (t ≡ true → p1 .1 <ℤ p2 .1) → (t ≡ false → p2 .1 ≤ℤ p1 .1)
+          → (r ≡ true → p2 .1 <ℤ p3 .1) → (r ≡ false → p3 .1 ≤ℤ p2 .1) → Upper ⊎ Lower
       by true true r c d e f g h = inl (c refl, e refl)
       by true false true c d e f g h = inr (le-trans (f refl) a, g refl)
       by true false false c d e f g h = absurd (not-level (le-trans (h refl) (f refl)))
@@ -217,7 +218,8 @@ module _ (p1 p2 p3 p : Point) (u : p1 .1 ≤ℤ p2 .1) (l : p2 .1 ≤ℤ p3 .1) 
     out-lower : Lower → InRow false p1 p2 p3 p → Inside p1 p2 p3 p ⊎ EdgePoint false p1 p2 p3 p
     out-lower h w =
         ⊎-elim (λ q. inr (around q)) (λ q. inl (inside (lt-unless (λ k. at-apex (le-antisym k b) q)) (q .sides)))
-        (on-or-parted p2 p3 p1 p3 (p .0) (p .1) (run-on p2 p3 (p .1) (h .0) b) long (h .1) tall p1 p2 u meets (w .first) (w .last) (w .from) (w .to) (around (w .at-first)) (around (w .at-last)))
+        (on-or-parted p2 p3 p1 p3 (p .0) (p .1) (run-on p2 p3 (p .1) (h .0) b) long (h .1) tall p1 p2 u meets (w .first) (w .last) (w .from) (w .to) (around (w .at-first))
+        (around (w .at-last)))
       where
         around : {P Q R : Type 0} → P ⊎ (Q ⊎ R) → R ⊎ (Q ⊎ P)
         around (inl q) = inr (inr q)

@@ -24,7 +24,8 @@ pub record Same (a b c d e f : Point) : Type 0 where
   pub count : rowCount a b c ≡ rowCount d e f
 
 -- from the same refusal, sorted vertices and tests
-same-by : (a b c d e f : Point) → first (vertexTests a b c) ≡ first (vertexTests d e f) → sorted a b c ≡ sorted d e f → isFlat a b c ≡ isFlat d e f → ((p : Point) → isInside a b c p ≡ isInside d e f p) → Same a b c d e f
+same-by : (a b c d e f : Point) → first (vertexTests a b c) ≡ first (vertexTests d e f) → sorted a b c ≡ sorted d e f → isFlat a b c ≡ isFlat d e f
+    → ((p : Point) → isInside a b c p ≡ isInside d e f p) → Same a b c d e f
 unfolding contained rowSpan firstRow rowCount
 same-by a b c d e f r s z t =
     record {
@@ -36,16 +37,25 @@ same-by a b c d e f r s z t =
     }
 
 same-then : {a b c d e f g h k : Point} → Same a b c d e f → Same d e f g h k → Same a b c g h k
-same-then s t = record { refusal = s .refusal ∙ t .refusal; contains = λ p. s .contains p ∙ t .contains p; span = λ y. s .span y ∙ t .span y; first = s .first ∙ t .first; count = s .count ∙ t .count }
+same-then s t =
+    record {
+      refusal = s .refusal ∙ t .refusal;
+      contains = λ p. s .contains p ∙ t .contains p;
+      span = λ y. s .span y ∙ t .span y;
+      first = s .first ∙ t .first;
+      count = s .count ∙ t .count;
+    }
 
 module _ (a b c : Point) where
   pub order-bac : Same b a c a b c
   unfolding vertexTests
-  order-bac = same-by b a c a b c (ap (λ (t : Bool). cond (not t) 5 0) (and-swap (inBounds a) (inBounds b) (inBounds c))) (sorted-swap a b c) (flat-swap a b c) (isInside-swap a b c)
+  order-bac =
+      same-by b a c a b c (ap (λ (t : Bool). cond (not t) 5 0) (and-swap (inBounds a) (inBounds b) (inBounds c))) (sorted-swap a b c) (flat-swap a b c) (isInside-swap a b c)
 
   pub order-bca : Same b c a a b c
   unfolding vertexTests
-  order-bca = same-by b c a a b c (ap (λ (t : Bool). cond (not t) 5 0) (and-turn (inBounds a) (inBounds b) (inBounds c))) (sorted-turn a b c) (flat-turn a b c) (isInside-turn a b c)
+  order-bca =
+      same-by b c a a b c (ap (λ (t : Bool). cond (not t) 5 0) (and-turn (inBounds a) (inBounds b) (inBounds c))) (sorted-turn a b c) (flat-turn a b c) (isInside-turn a b c)
 
 module _ (a b c : Point) where
   pub order-cab : Same c a b a b c

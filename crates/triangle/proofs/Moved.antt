@@ -58,7 +58,9 @@ module _ (d : Point) where
   placed-moved : (a b c : Point) → placed (moved d a) (moved d b) (moved d c) ≡ all-moved (placed a b c)
   unfolding all-moved
   placed-moved a b c =
-      (λ i. cond (before-same c a i) (three (moved d c) (moved d a) (moved d b)) (cond (before-same c b i) (three (moved d a) (moved d c) (moved d b)) (three (moved d a) (moved d b) (moved d c))))
+      (λ i.
+      cond (before-same c a i) (three (moved d c) (moved d a) (moved d b))
+      (cond (before-same c b i) (three (moved d a) (moved d c) (moved d b)) (three (moved d a) (moved d b) (moved d c))))
       ∙ by (before c a) (before c b)
     where
       by : (s t : Bool) → cond s (three (moved d c) (moved d a) (moved d b)) (cond t (three (moved d a) (moved d c) (moved d b)) (three (moved d a) (moved d b) (moved d c)))
@@ -83,8 +85,14 @@ module _ (d : Point) where
         past = ap (λ (z : ℤ). z +ℤ d .0) (b .past) ∙ later (b .last) (d .0);
         at-first = to (s .0) (b .at-first);
         at-last = to (b .last) (b .at-last);
-        least = λ x q. subst (λ (z : ℤ). (s .0 +ℤ d .0) ≤ℤ z) (sym (restored x (d .0))) (le-move (s .0) (x -ℤ d .0) (d .0) (b .least (x -ℤ d .0) (from (x -ℤ d .0) (subst F (restored x (d .0)) q))));
-        largest = λ x q. subst (λ (z : ℤ). z ≤ℤ (b .last +ℤ d .0)) (sym (restored x (d .0))) (le-move (x -ℤ d .0) (b .last) (d .0) (b .largest (x -ℤ d .0) (from (x -ℤ d .0) (subst F (restored x (d .0)) q))));
+        least =
+            λ x q.
+            subst (λ (z : ℤ). (s .0 +ℤ d .0) ≤ℤ z) (sym (restored x (d .0)))
+            (le-move (s .0) (x -ℤ d .0) (d .0) (b .least (x -ℤ d .0) (from (x -ℤ d .0) (subst F (restored x (d .0)) q))));
+        largest =
+            λ x q.
+            subst (λ (z : ℤ). z ≤ℤ (b .last +ℤ d .0)) (sym (restored x (d .0)))
+            (le-move (x -ℤ d .0) (b .last) (d .0) (b .largest (x -ℤ d .0) (from (x -ℤ d .0) (subst F (restored x (d .0)) q))));
       }
     where
       later : (y v : ℤ) → (y +ℤ pos 1) +ℤ v ≡ (y +ℤ v) +ℤ pos 1
@@ -112,7 +120,9 @@ module _ (d : Point) where
     contained-moved p =
         let s = sorted-moved v1 v2 v3 in
         (λ i. cond (flat-same i) (hasPoint (s i .p1) (s i .p3) (moved d p)) (inside-same p i || onEdge (s i .p1) (s i .p2) (s i .p3) (moved d p)))
-        ∙ (λ i. cond (isFlat v1 v2 v3) (has-same (t .p1) (t .p3) p i) (isInside v1 v2 v3 p || (has-same (t .p1) (t .p2) p i || (has-same (t .p1) (t .p3) p i || has-same (t .p2) (t .p3) p i))))
+        ∙ (λ i.
+        cond (isFlat v1 v2 v3) (has-same (t .p1) (t .p3) p i)
+        (isInside v1 v2 v3 p || (has-same (t .p1) (t .p2) p i || (has-same (t .p1) (t .p3) p i || has-same (t .p2) (t .p3) p i))))
 
     -- ---- THE SPAN of a row that the triangle has moves along
     edge-moved : (b : Bool) (p : Point) → EdgePoint b (t .p1) (t .p2) (t .p3) p → EdgePoint b (moved d (t .p1)) (moved d (t .p2)) (moved d (t .p3)) (moved d p)
@@ -127,10 +137,13 @@ module _ (d : Point) where
     edge-unmoved false p (inr (inl q)) = inr (inl (unmoved (t .p1) (t .p3) p q))
     edge-unmoved false p (inr (inr q)) = inr (inr (unmoved (t .p2) (t .p3) p q))
 
-    pub span-moved : (y : ℤ) → t .p1 .1 ≤ℤ y → y ≤ℤ t .p3 .1 → rowSpan (moved d v1) (moved d v2) (moved d v3) (y +ℤ d .1) ≡ (rowSpan v1 v2 v3 y .0 +ℤ d .0, rowSpan v1 v2 v3 y .1 +ℤ d .0)
+    pub span-moved : (y : ℤ) → t .p1 .1 ≤ℤ y → y ≤ℤ t .p3 .1
+        → rowSpan (moved d v1) (moved d v2) (moved d v3) (y +ℤ d .1) ≡ (rowSpan v1 v2 v3 y .0 +ℤ d .0, rowSpan v1 v2 v3 y .1 +ℤ d .0)
     unfolding all-moved
     span-moved y a b =
         let s = sorted-moved v1 v2 v3 in
         span-one (λ x. EdgePoint (isFlat v1 v2 v3) (moved d (t .p1)) (moved d (t .p2)) (moved d (t .p3)) (x, y +ℤ d .1)) _ _
-        (subst (λ (E : ℤ → Type 0). Spans E (rowSpan (moved d v1) (moved d v2) (moved d v3) (y +ℤ d .1))) (λ i x. EdgePoint (flat-same i) (s i .p1) (s i .p2) (s i .p3) (x, y +ℤ d .1)) (row-spans (moved d v1) (moved d v2) (moved d v3) (y +ℤ d .1)))
-        (inl (bounds-moved (λ x. EdgePoint (isFlat v1 v2 v3) (t .p1) (t .p2) (t .p3) (x, y)) _ (rowSpan v1 v2 v3 y) (λ x. edge-moved (isFlat v1 v2 v3) (x, y)) (λ x. edge-unmoved (isFlat v1 v2 v3) (x, y)) (row-bounds v1 v2 v3 y a b)))
+        (subst (λ (E : ℤ → Type 0). Spans E (rowSpan (moved d v1) (moved d v2) (moved d v3) (y +ℤ d .1)))
+        (λ i x. EdgePoint (flat-same i) (s i .p1) (s i .p2) (s i .p3) (x, y +ℤ d .1)) (row-spans (moved d v1) (moved d v2) (moved d v3) (y +ℤ d .1)))
+        (inl (bounds-moved (λ x. EdgePoint (isFlat v1 v2 v3) (t .p1) (t .p2) (t .p3) (x, y)) _ (rowSpan v1 v2 v3 y) (λ x. edge-moved (isFlat v1 v2 v3) (x, y))
+        (λ x. edge-unmoved (isFlat v1 v2 v3) (x, y)) (row-bounds v1 v2 v3 y a b)))

@@ -19,7 +19,8 @@ pub record Ordered (t : Sorted) : Type 0 where
 placed-ordered : (a b c : Point) → Before a b → Ordered (placed a b c)
 placed-ordered a b c s = by (before c a) (before c b) (before-yes c a) (before-no c a) (before-yes c b) (before-no c b)
   where
-    by : (p q : Bool) → (p ≡ true → Before c a) → (p ≡ false → Before a c) → (q ≡ true → Before c b) → (q ≡ false → Before b c) → Ordered (cond p (three c a b) (cond q (three a c b) (three a b c)))
+    by : (p q : Bool) → (p ≡ true → Before c a) → (p ≡ false → Before a c) → (q ≡ true → Before c b) → (q ≡ false → Before b c)
+        → Ordered (cond p (three c a b) (cond q (three a c b) (three a b c)))
     by true q f g h k = record { upper = f refl; lower = s }
     by false true f g h k = record { upper = g refl; lower = h refl }
     by false false f g h k = record { upper = s; lower = k refl }

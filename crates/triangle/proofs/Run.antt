@@ -56,7 +56,8 @@ module _ (w h v f l : ℕ) (o : Offsets w h v f l) (tall : 0 < h) where
 
   before-first : (z : ℤ) → z <ℤ pos f → pos 0 <ℤ (pos (w * v) -ℤ pos h *ℤ z)
   before-first (pos t) k = subst (λ (u : ℤ). pos 0 <ℤ u) (sym (as-difference (pos t))) (rw mk-pos (mk-lt _ _ _ _ (omega (arith, o .before t (omega (arith, lt-nat k))))))
-  before-first (negsuc n) k = subst (λ (u : ℤ). pos 0 <ℤ u) (sym (as-difference (negsuc n))) (rw mk-pos (mk-lt _ _ _ _ (omega (arith, mul-pos {m = h} {n = suc n} tall (omega arith)))))
+  before-first (negsuc n) k =
+      subst (λ (u : ℤ). pos 0 <ℤ u) (sym (as-difference (negsuc n))) (rw mk-pos (mk-lt _ _ _ _ (omega (arith, mul-pos {m = h} {n = suc n} tall (omega arith)))))
 
   past-last : (z : ℤ) → pos l <ℤ z → (pos (w * v) -ℤ pos h *ℤ z) <ℤ pos 0
   past-last (pos t) k = subst (λ (u : ℤ). u <ℤ pos 0) (sym (as-difference (pos t))) (rw mk-pos (mk-lt _ _ _ _ (omega (arith, o .past tall t (omega (arith, lt-nat k))))))
@@ -165,8 +166,14 @@ module _ (s e : Point) (y : ℤ) (v f l : ℕ) (down : s .1 ≤ℤ e .1) (row : 
             let ct = sum-nat (s .0) (col (natAbs (s .0 -ℤ x))) (natAbs (s .0 -ℤ x)) (leftward (s .0) (e .0) (natAbs (s .0 -ℤ x)) r) in
             subst (λ (z : ℤ). HasPoint s e (z, y)) (nat-eq (omega arith))
             (has-col (natAbs (s .0 -ℤ x)) (omega (arith, le-nat b)) (omega (arith, le-nat a)));
-        left = λ d x k. subst (λ (z : ℤ). pos 0 <ℤ z) (sym (area-left x (le-no r))) (neg-flip-lt _ (pos 0) (past-last (wide s e) (high s e) v f l o (tall d) (s .0 -ℤ x) (less x (s .0) (pos l) k)));
-        right = λ d x k. subst (λ (z : ℤ). z <ℤ pos 0) (sym (area-left x (le-no r))) (neg-flip-lt (pos 0) _ (before-first (wide s e) (high s e) v f l o (tall d) (s .0 -ℤ x) (more x (s .0) (pos f) k)));
+        left =
+            λ d x k.
+            subst (λ (z : ℤ). pos 0 <ℤ z) (sym (area-left x (le-no r)))
+            (neg-flip-lt _ (pos 0) (past-last (wide s e) (high s e) v f l o (tall d) (s .0 -ℤ x) (less x (s .0) (pos l) k)));
+        right =
+            λ d x k.
+            subst (λ (z : ℤ). z <ℤ pos 0) (sym (area-left x (le-no r)))
+            (neg-flip-lt (pos 0) _ (before-first (wide s e) (high s e) v f l o (tall d) (s .0 -ℤ x) (more x (s .0) (pos f) k)));
       }
     where
       less : (x a l : ℤ) → x <ℤ (a -ℤ l) → l <ℤ (a -ℤ x)

@@ -147,10 +147,12 @@ module _ (a b c p : Point) (solid : Flat a b c → ⊥) (h : NoneBelow a b c p) 
       nat-lt (omega (arith, le-nat s))
 
   below-top : (z : ℤ) → z ≤ℤ a .1 → z ≤ℤ b .1 → z ≤ℤ c .1 → z ≤ℤ p .1
-  below-top z ha hb hc = sub-le z (p .1) (weigh _ _ _ _ _ _ _ _ (weighed-below a b c p z) (h .bc) (h .ca) (h .ab) whole (le-sub z (a .1) ha) (le-sub z (b .1) hb) (le-sub z (c .1) hc))
+  below-top z ha hb hc =
+      sub-le z (p .1) (weigh _ _ _ _ _ _ _ _ (weighed-below a b c p z) (h .bc) (h .ca) (h .ab) whole (le-sub z (a .1) ha) (le-sub z (b .1) hb) (le-sub z (c .1) hc))
 
   above-bottom : (z : ℤ) → a .1 ≤ℤ z → b .1 ≤ℤ z → c .1 ≤ℤ z → p .1 ≤ℤ z
-  above-bottom z ha hb hc = sub-le (p .1) z (weigh _ _ _ _ _ _ _ _ (weighed-above a b c p z) (h .bc) (h .ca) (h .ab) whole (le-sub (a .1) z ha) (le-sub (b .1) z hb) (le-sub (c .1) z hc))
+  above-bottom z ha hb hc =
+      sub-le (p .1) z (weigh _ _ _ _ _ _ _ _ (weighed-above a b c p z) (h .bc) (h .ca) (h .ab) whole (le-sub (a .1) z ha) (le-sub (b .1) z hb) (le-sub (c .1) z hc))
 
 pub inside-rows : (a b c p : Point) → a .1 ≤ℤ b .1 → b .1 ≤ℤ c .1 → (Flat a b c → ⊥) → Inside a b c p → (a .1 ≤ℤ p .1) × (p .1 ≤ℤ c .1)
 inside-rows a b c p u l n (inl h) =

@@ -2,7 +2,8 @@
 -- two sets of columns is that of both joined; and a row's span, as it is defined, is the span of the edge points on the row. Assumes nothing.
 use mathlib.Core.Path.{_≡_, refl, sym, ap, subst, _∙_}
 use mathlib.Core.Bool.{Bool, true, false, cond}
-use mathlib.Core.List.{List, [], _∷_, _++_, List·Memᴰ, List·Memᴰ·head, List·Memᴰ·tail, List·Memᴰ·not-nil, List·Memᴰ·cases-cons, List·Memᴰ·append-cases, Memᴰ·append-left, Memᴰ·append-right}
+use mathlib.Core.List.{List, [], _∷_, _++_, List·Memᴰ, List·Memᴰ·head}
+use mathlib.Core.List.{List·Memᴰ·tail, List·Memᴰ·not-nil, List·Memᴰ·cases-cons, List·Memᴰ·append-cases, Memᴰ·append-left, Memᴰ·append-right}
 use mathlib.Core.Logic.{_⊎_, inl, inr, ⊎-elim}
 use Prim.Native.Nat.{ℕ, zero, suc, _<_}
 use native.Mathlib.Decide.{decLt}
@@ -48,7 +49,14 @@ span-one E s t (inr a) (inr b) = a .0 ∙ sym (b .0)
 -- of the same columns
 pub span-map : (E F : ℤ → Type 0) (s : Columns) → ((x : ℤ) → E x → F x) → ((x : ℤ) → F x → E x) → Spans E s → Spans F s
 span-map E F s f g (inl b) =
-    inl (record { last = b .last; past = b .past; at-first = f (s .0) (b .at-first); at-last = f (b .last) (b .at-last); least = λ x q. b .least x (g x q); largest = λ x q. b .largest x (g x q) })
+    inl (record {
+      last = b .last;
+      past = b .past;
+      at-first = f (s .0) (b .at-first);
+      at-last = f (b .last) (b .at-last);
+      least = λ x q. b .least x (g x q);
+      largest = λ x q. b .largest x (g x q);
+    })
 span-map E F s f g (inr n) = inr (n .0, λ x q. n .1 x (g x q))
 
 before-past : (x z y : ℤ) → z ≡ y +ℤ pos 1 → x ≤ℤ y → x <ℤ z
@@ -121,7 +129,8 @@ pub list-spans : (xs : List ℤ) → Spans (λ x. List·Memᴰ x xs) (hull xs)
 unfolding hull
 list-spans [] = inr (refl, λ x. List·Memᴰ·not-nil)
 list-spans (c ∷ xs) =
-    span-map (λ x. (x ≡ c) ⊎ List·Memᴰ x xs) (λ x. List·Memᴰ x (c ∷ xs)) (extended (c, c +ℤ pos 1) (hull xs)) (λ x. ⊎-elim List·Memᴰ·head List·Memᴰ·tail) (λ x. List·Memᴰ·cases-cons)
+    span-map (λ x. (x ≡ c) ⊎ List·Memᴰ x xs) (λ x. List·Memᴰ x (c ∷ xs)) (extended (c, c +ℤ pos 1) (hull xs)) (λ x. ⊎-elim List·Memᴰ·head List·Memᴰ·tail)
+    (λ x. List·Memᴰ·cases-cons)
     (join-spans (λ x. x ≡ c) (λ x. List·Memᴰ x xs) (c, c +ℤ pos 1) (hull xs)
     (inl (record { last = c; past = refl; at-first = refl; at-last = refl; least = λ x e. nat-le (omega (arith, eq-nat e)); largest = λ x e. nat-le (omega (arith, eq-nat e)) }))
     (list-spans xs))
@@ -148,7 +157,8 @@ module _ (f : ℕ → Point) (x y : ℤ) where
       more : Step f x y n → Step f x y (suc n)
       more q = record { k = q .k; below = omega (arith, q .below); here = q .here }
 
-      by : (t : Bool) → Decides t (f n .1 ≡ y) → (List·Memᴰ x (columnsTo f y n) → Step f x y n) → List·Memᴰ x (cond t (f n .0 ∷ columnsTo f y n) (columnsTo f y n)) → Step f x y (suc n)
+      by : (t : Bool) → Decides t (f n .1 ≡ y) → (List·Memᴰ x (columnsTo f y n) → Step f x y n) → List·Memᴰ x (cond t (f n .0 ∷ columnsTo f y n) (columnsTo f y n))
+          → Step f x y (suc n)
       by true d fewer m = ⊎-elim (λ e. record { k = n; below = omega arith; here = λ i. (e i, sym (d .yes refl) i) }) (λ q. more (fewer q)) (List·Memᴰ·cases-cons m)
       by false d fewer m = more (fewer m)
 
@@ -182,7 +192,14 @@ line-spans s e y = span-map (λ x. List·Memᴰ x (lineColumns s e y)) (λ x. Ha
 pub run-span : (s e : Point) (y lo hi : ℤ) → Run s e y lo hi → hull (lineColumns s e y) ≡ (lo, hi +ℤ pos 1)
 run-span s e y lo hi r =
     span-one (λ x. HasPoint s e (x, y)) _ _ (line-spans s e y)
-    (inl (record { last = hi; past = refl; at-first = r .on lo (≤ℤ-refl lo) (r .some); at-last = r .on hi (r .some) (≤ℤ-refl hi); least = λ x q. r .has x q .0; largest = λ x q. r .has x q .1 }))
+    (inl (record {
+      last = hi;
+      past = refl;
+      at-first = r .on lo (≤ℤ-refl lo) (r .some);
+      at-last = r .on hi (r .some) (≤ℤ-refl hi);
+      least = λ x q. r .has x q .0;
+      largest = λ x q. r .has x q .1;
+    }))
 
 pub no-span : (s e : Point) (y : ℤ) → ((x : ℤ) → HasPoint s e (x, y) → ⊥) → hull (lineColumns s e y) ≡ (pos 0, pos 0)
 no-span s e y n = span-one (λ x. HasPoint s e (x, y)) _ _ (line-spans s e y) (inr (refl, n))

@@ -71,7 +71,8 @@ module _ (v1 v2 v3 : Point) where
   listed : (b : Bool) (x y : ℤ) → List·Memᴰ x (edgeColumns b (sorted v1 v2 v3) y) → EdgePoint b p1 p2 p3 (x, y)
   listed true x y m = column-has p1 p3 x y m
   listed false x y m =
-      ⊎-elim (λ q. inl (column-has p1 p2 x y q)) (λ q. inr (⊎-elim (λ r. inl (column-has p1 p3 x y r)) (λ r. inr (column-has p2 p3 x y r)) (List·Memᴰ·append-cases (lineColumns p1 p3 y) q)))
+      ⊎-elim (λ q. inl (column-has p1 p2 x y q))
+      (λ q. inr (⊎-elim (λ r. inl (column-has p1 p3 x y r)) (λ r. inr (column-has p2 p3 x y r)) (List·Memᴰ·append-cases (lineColumns p1 p3 y) q)))
       (List·Memᴰ·append-cases (lineColumns p1 p2 y) m)
 
   lists : (b : Bool) (x y : ℤ) → EdgePoint b p1 p2 p3 (x, y) → List·Memᴰ x (edgeColumns b (sorted v1 v2 v3) y)
@@ -83,7 +84,8 @@ module _ (v1 v2 v3 : Point) where
   pub row-spans : (y : ℤ) → Spans (λ x. EdgePoint flat p1 p2 p3 (x, y)) (rowSpan v1 v2 v3 y)
   unfolding rowSpan
   row-spans y =
-      span-map (λ x. List·Memᴰ x (edgeColumns flat (sorted v1 v2 v3) y)) (λ x. EdgePoint flat p1 p2 p3 (x, y)) (hull (edgeColumns flat (sorted v1 v2 v3) y)) (λ x. listed flat x y) (λ x. lists flat x y)
+      span-map (λ x. List·Memᴰ x (edgeColumns flat (sorted v1 v2 v3) y)) (λ x. EdgePoint flat p1 p2 p3 (x, y)) (hull (edgeColumns flat (sorted v1 v2 v3) y))
+      (λ x. listed flat x y) (λ x. lists flat x y)
       (list-spans (edgeColumns flat (sorted v1 v2 v3) y))
 
   -- ---- SPAN AND CONTAINMENT AGREE: a pixel is contained exactly if the span of its row holds its column

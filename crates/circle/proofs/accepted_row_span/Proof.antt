@@ -88,7 +88,8 @@ returns-2 c =
     let r = row (c .before) in
     ap₂ (span 0)
     (after-is (left c) (c .lead .result) (few c) ∙ ap (λ (n : ℕ). a .topleft .0 +ℤ pos n) (skipped c) ∙ sym (start-is (a .topleft) (a .diameter) (a .y) r))
-    (after-is (left c) (a .diameter - c .lead .result) (rest c _) ∙ ap (λ (n : ℕ). a .topleft .0 +ℤ pos (a .diameter - n)) (skipped c) ∙ sym (kept-is (a .topleft) (a .diameter) (a .y) r))
+    (after-is (left c) (a .diameter - c .lead .result) (rest c _) ∙ ap (λ (n : ℕ). a .topleft .0 +ℤ pos (a .diameter - n)) (skipped c)
+    ∙ sym (kept-is (a .topleft) (a .diameter) (a .y) r))
 
 pub accepted-row-span-spec : {M : Type 1} → statement M
 accepted-row-span-spec = tie.close (tie.spec in-box-requires returns lead-requires sub-kept cast-t10 add-t11 cast-t12 add-t13 returns-2)

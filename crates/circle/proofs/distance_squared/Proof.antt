@@ -12,11 +12,20 @@ use Rattle.circle.proofs.distance_squared.Tie as tie
 abbrev read : ℤ → ℤ → ℤ
 read a b = toZ w64 (ofZ w64 a) -ℤ toZ w64 (ofZ w64 b)
 
-columns : (c : tie.After-struct-told2) → Has w64 (read (c .before .before .before .before .args .a .0) (c .before .before .before .before .args .b .0)) (c .before .before .before .before .args .a .0 -ℤ c .before .before .before .before .args .b .0) 262144
-columns c = difference (c .before .before .before .before .args .a .0) (c .before .before .before .before .args .b .0) (c .before .before .struct-told .given .0 .1) (c .struct-told2 .given .0 .1) (c .before .before .before .before .pre .0)
+columns : (c : tie.After-struct-told2)
+    → Has w64 (read (c .before .before .before .before .args .a .0) (c .before .before .before .before .args .b .0))
+    (c .before .before .before .before .args .a .0 -ℤ c .before .before .before .before .args .b .0) 262144
+columns c =
+    let s = c .before .before .before .before in
+    difference (s .args .a .0) (s .args .b .0) (c .before .before .struct-told .given .0 .1) (c .struct-told2 .given .0 .1) (s .pre .0)
 
-rows : (c : tie.After-struct-told4) → Has w64 (read (c .before .before .before .before .before .before .before .before .args .a .1) (c .before .before .before .before .before .before .before .before .args .b .1)) (c .before .before .before .before .before .before .before .before .args .a .1 -ℤ c .before .before .before .before .before .before .before .before .args .b .1) 262144
-rows c = difference (c .before .before .before .before .before .before .before .before .args .a .1) (c .before .before .before .before .before .before .before .before .args .b .1) (c .before .before .struct-told3 .given .1 .0 .1) (c .struct-told4 .given .1 .0 .1) (c .before .before .before .before .before .before .before .before .pre .1)
+rows : (c : tie.After-struct-told4)
+    → Has w64
+    (read (c .before .before .before .before .before .before .before .before .args .a .1) (c .before .before .before .before .before .before .before .before .args .b .1))
+    (c .before .before .before .before .before .before .before .before .args .a .1 -ℤ c .before .before .before .before .before .before .before .before .args .b .1) 262144
+rows c =
+    let s = c .before .before .before .before .before .before .before .before in
+    difference (s .args .a .1) (s .args .b .1) (c .before .before .struct-told3 .given .1 .0 .1) (c .struct-told4 .given .1 .0 .1) (s .pre .1)
 
 sub-dx : tie.Need-sub-dx
 sub-dx c = fits (columns c)

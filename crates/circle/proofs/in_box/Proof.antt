@@ -46,20 +46,33 @@ returns c =
     let e = sym (tests-lt (back (wide (column (c .before .before .before)))) (back (wide (left (c .before .before .before .before .before .before .before))))) ∙ c .if1 .taken in
     sym (decides-no (in-box-decides (s .args .topleft) (s .args .diameter) (s .args .p)) (λ h. clashℤ (lt-yes e) (h .0 .0)))
 
-from-left : (c : tie.Else1) → c .before .before .before .before .before .before .before .before .before .args .topleft .0 ≤ℤ c .before .before .before .before .before .before .before .before .before .args .p .0
-from-left c = lt-no (sym (tests-lt (back (wide (column (c .before .before .before)))) (back (wide (left (c .before .before .before .before .before .before .before))))) ∙ c .if1 .left)
+from-left : (c : tie.Else1)
+    → c .before .before .before .before .before .before .before .before .before .args .topleft .0
+    ≤ℤ c .before .before .before .before .before .before .before .before .before .args .p .0
+from-left c =
+    lt-no (sym (tests-lt (back (wide (column (c .before .before .before)))) (back (wide (left (c .before .before .before .before .before .before .before))))) ∙ c .if1 .left)
 
 add-if2 : tie.Need-add-if2
-add-if2 c = fits (end (left (c .before .before .before .before .before .before .before)) (c .before .before .before .before .before .before .before .before .before .fits .diameter))
+add-if2 c =
+    fits (end (left (c .before .before .before .before .before .before .before)) (c .before .before .before .before .before .before .before .before .before .fits .diameter))
 
 returns-2 : tie.Need-returns-2
 returns-2 c =
     let s = c .before .before .before .before .before .before .before .before .before .before in
-    let e = sym (tests-le (back (end (left (c .before .before .before .before .before .before .before .before)) (s .fits .diameter))) (back (wide (column (c .before .before .before .before))))) ∙ c .if2 .taken in
+    let e =
+    sym (tests-le (back (end (left (c .before .before .before .before .before .before .before .before)) (s .fits .diameter)))
+    (back (wide (column (c .before .before .before .before)))))
+    ∙ c .if2 .taken in
     sym (decides-no (in-box-decides (s .args .topleft) (s .args .diameter) (s .args .p)) (λ h. clashℤ (h .0 .1) (le-yes e)))
 
-below-right : (c : tie.Else2) → c .before .before .before .before .before .before .before .before .before .before .args .p .0 <ℤ (c .before .before .before .before .before .before .before .before .before .before .args .topleft .0 +ℤ pos (c .before .before .before .before .before .before .before .before .before .before .args .diameter))
-below-right c = le-no (sym (tests-le (back (end (left (c .before .before .before .before .before .before .before .before)) (c .before .before .before .before .before .before .before .before .before .before .fits .diameter))) (back (wide (column (c .before .before .before .before))))) ∙ c .if2 .left)
+below-right : (c : tie.Else2)
+    → c .before .before .before .before .before .before .before .before .before .before .args .p .0
+    <ℤ (c .before .before .before .before .before .before .before .before .before .before .args .topleft .0 +ℤ pos
+    (c .before .before .before .before .before .before .before .before .before .before .args .diameter))
+below-right c =
+    le-no (sym (tests-le (back (end (left (c .before .before .before .before .before .before .before .before))
+    (c .before .before .before .before .before .before .before .before .before .before .fits .diameter))) (back (wide (column (c .before .before .before .before)))))
+    ∙ c .if2 .left)
 
 returns-3 : tie.Need-returns-3
 returns-3 c =
@@ -68,15 +81,20 @@ returns-3 c =
     sym (decides-no (in-box-decides (s .args .topleft) (s .args .diameter) (s .args .p)) (λ h. clashℤ (lt-yes e) (h .1 .0)))
 
 add-result : tie.Need-add-result
-add-result c = fits (end (top (c .before .before .before .before .before .before .before)) (c .before .before .before .before .before .before .before .before .before .before .before .fits .diameter))
+add-result c =
+    fits (end (top (c .before .before .before .before .before .before .before))
+    (c .before .before .before .before .before .before .before .before .before .before .before .fits .diameter))
 
 returns-4 : tie.Need-returns-4
 returns-4 c =
+    let at = c .before .before .before .before .before .before .before in
+    let a = c .before .before .before in
     let s = c .before .before .before .before .before .before .before .before .before .before .before in
-    let from-top = lt-no (sym (tests-lt (back (wide (row (c .before .before .before)))) (back (wide (top (c .before .before .before .before .before .before .before))))) ∙ c .if3 .left) in
-    tests-lt (back (wide (row (c .before .before .before)))) (back (end (top (c .before .before .before .before .before .before .before)) (s .fits .diameter)))
+    let from-top = lt-no (sym (tests-lt (back (wide (row a))) (back (wide (top at)))) ∙ c .if3 .left) in
+    tests-lt (back (wide (row a))) (back (end (top at) (s .fits .diameter)))
     ∙ decides-one _ _
-    (decides-map (decides-lt (s .args .p .1) (s .args .topleft .1 +ℤ pos (s .args .diameter))) (λ h. ((from-left (c .before .before), below-right (c .before)), (from-top, h))) (λ h. h .1 .1))
+    (decides-map (decides-lt (s .args .p .1) (s .args .topleft .1 +ℤ pos (s .args .diameter))) (λ h. ((from-left (c .before .before), below-right (c .before)), (from-top, h)))
+    (λ h. h .1 .1))
     (in-box-decides (s .args .topleft) (s .args .diameter) (s .args .p))
 
 pub in-box-spec : {M : Type 1} → statement M

@@ -49,16 +49,22 @@ module _ (c : tie.After-struct-told3) where
   abbrev center : ℤ
   center = c .before .before .before .before .center-2x .result .1
 
-  apart : place -ℤ center ≡ off (c .before .before .before .before .before .before .before .args .y) (c .before .before .before .before .before .before .before .args .topleft .1) (c .before .before .before .before .before .before .before .args .diameter)
+  apart : place -ℤ center
+      ≡ off (c .before .before .before .before .before .before .before .args .y) (c .before .before .before .before .before .before .before .args .topleft .1)
+      (c .before .before .before .before .before .before .before .args .diameter)
   apart =
       ap₂ _-ℤ_
-      (ap (λ (q : Doubled). q .1) (c .before .before .before .before .before .place-2x .ensures) ∙ ap (λ (z : ℤ). pos 2 *ℤ z) (toZ-ofZ (c .before .before .before .before .before .before .before .fits .y)))
+      (ap (λ (q : Doubled). q .1) (c .before .before .before .before .before .place-2x .ensures)
+      ∙ ap (λ (z : ℤ). pos 2 *ℤ z) (toZ-ofZ (c .before .before .before .before .before .before .before .fits .y)))
       (ap (λ (q : Doubled). q .1) (c .before .before .before .before .center-2x .ensures))
 
-  dy : Has w64 (toZ w64 (ofZ w64 place) -ℤ toZ w64 (ofZ w64 center)) (off (c .before .before .before .before .before .before .before .args .y) (c .before .before .before .before .before .before .before .args .topleft .1) (c .before .before .before .before .before .before .before .args .diameter)) 262144
+  dy : Has w64 (toZ w64 (ofZ w64 place) -ℤ toZ w64 (ofZ w64 center))
+      (off (c .before .before .before .before .before .before .before .args .y) (c .before .before .before .before .before .before .before .args .topleft .1)
+      (c .before .before .before .before .before .before .before .args .diameter)) 262144
   dy =
       subst (λ (z : ℤ). Has w64 (toZ w64 (ofZ w64 place) -ℤ toZ w64 (ofZ w64 center)) z 262144) apart
-      (difference place center (c .before .before .struct-told2 .given .1 .0 .1) (c .struct-told3 .given .1 .0 .1) (rw apart (omega (arith, near (c .before .before .before .before .before .before .before), wide (c .before .before .before .before .before .before .before)))))
+      (difference place center (c .before .before .struct-told2 .given .1 .0 .1) (c .struct-told3 .given .1 .0 .1)
+      (rw apart (omega (arith, near (c .before .before .before .before .before .before .before), wide (c .before .before .before .before .before .before .before)))))
 
 sub-dy : tie.Need-sub-dy
 sub-dy c = fits (dy c)
@@ -81,13 +87,18 @@ sub-isqrt-2 c = omega (arith, nat-is (square (dy (c .before))), c .threshold .en
 isqrt-requires : tie.Need-isqrt-requires
 isqrt-requires c κs = search needs
 
-root : (c : tie.After-isqrt) → Root (thresholdOf (c .before .before .before .before .before .before .before .before .before .args .diameter) - 1 - far (c .before .before .before .before .before .before .before .before .before) * far (c .before .before .before .before .before .before .before .before .before)) (c .isqrt .result)
+root : (c : tie.After-isqrt)
+    → Root (thresholdOf (c .before .before .before .before .before .before .before .before .before .args .diameter) - 1 - far
+    (c .before .before .before .before .before .before .before .before .before) * far (c .before .before .before .before .before .before .before .before .before))
+    (c .isqrt .result)
 root c =
     subst (λ (n : ℕ). Root n (c .isqrt .result)) (ap₂ (λ (t n : ℕ). t - 1 - n) (c .before .threshold .ensures) (nat-is (square (dy (c .before .before)))))
     (c .isqrt .ensures)
 
 short : (c : tie.After-isqrt) → c .isqrt .result < c .before .before .before .before .before .before .before .before .before .args .diameter
-short c = root-below (c .before .before .before .before .before .before .before .before .before .args .diameter) (far (c .before .before .before .before .before .before .before .before .before)) (c .isqrt .result) (near (c .before .before .before .before .before .before .before .before .before)) (root c)
+short c =
+    let s = c .before .before .before .before .before .before .before .before .before in
+    root-below (s .args .diameter) (far s) (c .isqrt .result) (near s) (root c)
 
 cast-result : tie.Need-cast-result
 cast-result c = record { fits = omega (arith, short c, wide (c .before .before .before .before .before .before .before .before .before)) }
@@ -101,4 +112,5 @@ returns c =
     sym (lead-is (s .args .topleft) (s .args .diameter) (s .args .y) (row s) (c .isqrt .result) (root c))
 
 pub lead-spec : {M : Type 1} → statement M
-lead-spec = tie.close (tie.spec place-2x-requires center-2x-requires sub-dy threshold-requires sub-isqrt mul-isqrt cast-isqrt sub-isqrt-2 isqrt-requires cast-result sub-result returns)
+lead-spec =
+    tie.close (tie.spec place-2x-requires center-2x-requires sub-dy threshold-requires sub-isqrt mul-isqrt cast-isqrt sub-isqrt-2 isqrt-requires cast-result sub-result returns)

@@ -28,7 +28,8 @@ returns-2 : tie.Need-returns-2
 returns-2 c =
     let s = c .before .before .before in
     c .accepted-row-span .ensures
-    ∙ ap₂ (λ (n : ℕ) (y : ℤ). span n (spanStart (s .args .topleft) (s .args .diameter) y) (spanEnd (s .args .topleft) (s .args .diameter) y)) (sym (c .before .if1 .left) ∙ c .before .before .refusal .ensures) (toZ-ofZ (s .fits .y))
+    ∙ ap₂ (λ (n : ℕ) (y : ℤ). span n (spanStart (s .args .topleft) (s .args .diameter) y) (spanEnd (s .args .topleft) (s .args .diameter) y))
+    (sym (c .before .if1 .left) ∙ c .before .before .refusal .ensures) (toZ-ofZ (s .fits .y))
 
 pub row-span-spec : {M : Type 1} → statement M
 row-span-spec = tie.close (tie.spec refusal-requires returns accepted-row-span-requires returns-2)

@@ -43,7 +43,8 @@ module _ (c : tie.At-loop Inv-loop μ-loop) where
   abbrev entry : tie.Start Inv-loop μ-loop
   entry = c .before .before .before .before
 
-  head : WalkerAt (entry .args .start) (entry .args .end) (c .loop .k) (c .loop .walker) × (c .loop .buf ≡ steps (entry .args .brush) (entry .args .buf .now) (entry .args .start) (entry .args .end) (c .loop .k))
+  head : WalkerAt (entry .args .start) (entry .args .end) (c .loop .k) (c .loop .walker)
+      × (c .loop .buf ≡ steps (entry .args .brush) (entry .args .buf .now) (entry .args .start) (entry .args .end) (c .loop .k))
   head = c .loop .inv .2 (entry .args .start) (entry .args .end) (ap (λ (n : ℕ). n + 1) (c .before .last-step .ensures)) (entry .pre .0) (c .before .before .new .ensures)
 
 walking : (c : tie.In-loop Inv-loop μ-loop) → Walking (c .before .loop .walker)
@@ -61,7 +62,9 @@ put-point-requires c κs =
     subst (Ready (s .args .brush)) (sym (h .loop .inv .0)) (s .pre .0)
 
 add-k : tie.Need-add-k Inv-loop μ-loop
-add-k c = let h = c .before .before .before .before .before .before .before in let s = entry h in omega (arith, h .before .last-step .ensures, major-size (s .pre .1 .0) (s .pre .1 .1))
+add-k c =
+    let h = c .before .before .before .before .before .before .before in
+    let s = entry h in omega (arith, h .before .last-step .ensures, major-size (s .pre .1 .0) (s .pre .1 .1))
 
 loop-less : tie.Need-loop-less Inv-loop μ-loop
 loop-less c = search needs

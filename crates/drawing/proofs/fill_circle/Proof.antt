@@ -94,7 +94,8 @@ loop-again c =
       λ ok.
           paint .paint-span .ensures
           ∙ (λ i. brushed (a .brush) (spanFigure (y-is h i) (start i) (end i)) (h .before .loop .inv .2 ok i))
-          ∙ rows-turn (a .brush) (brush-sound ok) (a .buf .now) (circleFigure (a .topleft) (a .diameter)) y (spanStart (a .topleft) (a .diameter) y) (spanEnd (a .topleft) (a .diameter) y)
+          ∙ rows-turn (a .brush) (brush-sound ok) (a .buf .now) (circleFigure (a .topleft) (a .diameter)) y (spanStart (a .topleft) (a .diameter) y)
+          (spanEnd (a .topleft) (a .diameter) y)
           (λ u v hu hv e. circle-columns (a .topleft) (a .diameter) y u v e)
           ∙ ap (λ (z : ℤ). brushed (a .brush) (above (circleFigure (a .topleft) (a .diameter)) z) (a .buf .now)) (+ℤ-assoc (a .topleft .1) (pos k) (pos 1)),
     )

@@ -82,12 +82,15 @@ module _ (c : tie.After-struct-told2 Inv-loop μ-loop) where
   top-is = field-back w32 (vertices .sorted-yx .result .p1 .1) (c .struct-told2 .given .1 .0 .1) ∙ ap (λ (t : Sorted). t .p1 .1) (vertices .sorted-yx .ensures)
 
   bottom-is : bottom ≡ sorted v1 v2 v3 .p3 .1
-  bottom-is = field-back w32 (vertices .sorted-yx .result .p3 .1) (c .before .before .before .struct-told .given .1 .0 .1) ∙ ap (λ (t : Sorted). t .p3 .1) (vertices .sorted-yx .ensures)
+  bottom-is =
+      field-back w32 (vertices .sorted-yx .result .p3 .1) (c .before .before .before .struct-told .given .1 .0 .1)
+      ∙ ap (λ (t : Sorted). t .p3 .1) (vertices .sorted-yx .ensures)
 
   begun : WalkAt (sorted v1 v2 v3) (solid v1 v2 v3) top (c .before .new .result)
   begun =
       subst (λ (y : ℤ). WalkAt (sorted v1 v2 v3) (solid v1 v2 v3) y (c .before .new .result)) (sym top-is)
-      (subst₂ (λ (t : Sorted) (b : Bool). WalkAt t b (t .p1 .1) (c .before .new .result)) (vertices .sorted-yx .ensures) (c .before .before .is-solid .ensures) (c .before .new .ensures))
+      (subst₂ (λ (t : Sorted) (b : Bool). WalkAt t b (t .p1 .1) (c .before .new .result)) (vertices .sorted-yx .ensures) (c .before .before .is-solid .ensures)
+      (c .before .new .ensures))
 
 loop-holds : tie.Need-loop-holds Inv-loop μ-loop
 loop-holds c =
@@ -118,7 +121,8 @@ module _ (c : tie.In-loop Inv-loop μ-loop) where
   next-row : SFits w32 (y +ℤ pos 1)
   next-row =
       let h = entry start .pre .1 in
-      row-fits (v1 start) (v2 start) (v3 start) (h .0) (h .1) (h .2) y (le-trans (le-of (sym (top-is start))) (c .before .loop .inv .1)) (le-trans not-past (le-of (bottom-is start)))
+      row-fits (v1 start) (v2 start) (v3 start) (h .0) (h .1) (h .2) y (le-trans (le-of (sym (top-is start))) (c .before .loop .inv .1))
+      (le-trans not-past (le-of (bottom-is start)))
 
   next-back : toZ w32 (ofZ w32 (y +ℤ pos 1)) ≡ y +ℤ pos 1
   next-back = toZ-ofZ next-row
@@ -181,7 +185,8 @@ loop-again c =
       λ v1 v2 v3 ok first at.
           let on = l .inv .2 v1 v2 v3 ok first at in
           let done = told .before .before .row .ensures (sorted v1 v2 v3) (solid v1 v2 v3) (on .0) in
-          subst (λ (v : ℤ). WalkAt (sorted v1 v2 v3) (solid v1 v2 v3) v (r .walk) × (paint .paint-span .last .0 ≡ brushed (a .brush) (above (triangleFigure v1 v2 v3) v) (a .buf .now)))
+          subst
+          (λ (v : ℤ). WalkAt (sorted v1 v2 v3) (solid v1 v2 v3) v (r .walk) × (paint .paint-span .last .0 ≡ brushed (a .brush) (above (triangleFigure v1 v2 v3) v) (a .buf .now)))
           (sym (next-back h)) (
             done .walk,
             paint .paint-span .ensures

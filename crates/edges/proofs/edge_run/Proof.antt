@@ -38,8 +38,10 @@ module _ (c : tie.At-loop Inv-loop μ-loop) where
   y-back = toZ-ofZ (c .before .fits .y)
 
   -- it stops
-  ended : ((s e : Point) (n k : ℕ) (h : WalkedTo s e n k (c .before .args .r .walker) (c .before .args .r .left)) → (p : Part s e n k (c .before .args .y) (c .before .args .r) (c .loop .q)) → p .i < n → (c .before .args .y ≡ pointAt s e (p .i) .1) → ⊥)
-      → (s e : Point) (n : ℕ) → s .1 ≤ℤ e .1 → EdgeAt s e n (c .before .args .y) (c .before .args .r .walker) (c .before .args .r .left) → Ran s e n (c .before .args .y) (c .before .args .r) (c .loop .q)
+  ended : ((s e : Point) (n k : ℕ) (h : WalkedTo s e n k (c .before .args .r .walker) (c .before .args .r .left)) →
+      (p : Part s e n k (c .before .args .y) (c .before .args .r) (c .loop .q)) → p .i < n → (c .before .args .y ≡ pointAt s e (p .i) .1) → ⊥)
+      → (s e : Point) (n : ℕ) → s .1 ≤ℤ e .1 → EdgeAt s e n (c .before .args .y) (c .before .args .r .walker) (c .before .args .r .left)
+      → Ran s e n (c .before .args .y) (c .before .args .r) (c .loop .q)
   ended stop s e n d at =
       let p = subst (λ (v : ℤ). Part s e n (at .k) v (c .before .args .r) (c .loop .q)) y-back (c .loop .inv .1 s e n (at .k) (at .here)) in
       part-end d at p (stop s e n (at .k) (at .here) p)
@@ -62,7 +64,8 @@ loop-again c =
     let b = c .before .before .before .before .before .before .before in
     let g = c .one-more .ensures in
     let more : 0 < b .loop .q .left = omega (arith, c .before .before .before .before .before .if1 .taken) in
-    let on : b .loop .q .walker .y ≡ b .before .args .y = eq-bits {w = w32} (sfits-of (c .before .before .struct-told .given .1 .0 .1)) (b .before .fits .y) (c .before .if2 .left) in (
+    let on : b .loop .q .walker .y ≡ b .before .args .y =
+    eq-bits {w = w32} (sfits-of (c .before .before .struct-told .given .1 .0 .1)) (b .before .fits .y) (c .before .if2 .left) in (
       omega (arith, b .loop .inv .0, g .0, g .1),
       λ s e n k h.
           let p = b .loop .inv .1 s e n k h in

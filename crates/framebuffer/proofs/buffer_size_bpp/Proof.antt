@@ -12,7 +12,9 @@ description-refusal-requires : tie.Need-description-refusal-requires
 description-refusal-requires c κs = search needs
 
 returns : tie.Need-returns
-returns c = refused-size (c .before .description-refusal .result) (size (c .before .before .args .frame)) (c .if1 .taken) ∙ ap (λ (n : ℕ). sized n (size (c .before .before .args .frame))) (c .before .description-refusal .ensures)
+returns c =
+    refused-size (c .before .description-refusal .result) (size (c .before .before .args .frame)) (c .if1 .taken)
+    ∙ ap (λ (n : ℕ). sized n (size (c .before .before .args .frame))) (c .before .description-refusal .ensures)
 
 frame-bytes-requires : tie.Need-frame-bytes-requires
 frame-bytes-requires c κs = is-described _ (sym (c .before .description-refusal .ensures) ∙ c .if1 .left)

@@ -36,15 +36,19 @@ cast-if2 c = record { sfits = let k = c .before .pre .1 in omega arith }
 
 returns-2 : tie.Need-returns-2
 returns-2 c =
-    sym (ap₂ (λ (s t : Bool). cond s (c .before .before .args .low) (cond t (c .before .before .args .high) (natAbs (c .before .before .args .x)))) (below (c .before .before) false (c .before .if1 .left)) (above (c .before .before) true (c .if2 .taken)))
+    let a = c .before .before in
+    sym (ap₂ (λ (s t : Bool). cond s (a .args .low) (cond t (a .args .high) (natAbs (a .args .x)))) (below a false (c .before .if1 .left)) (above a true (c .if2 .taken)))
 
 cast-result : tie.Need-cast-result
-cast-result c = index-fits w32 (c .before .before .fits .x) (not-below (c .before .before .args .x) (c .before .before .args .low) (below (c .before .before) false (c .before .if1 .left))) tt
+cast-result c =
+    let s = c .before .before in
+    index-fits w32 (s .fits .x) (not-below (s .args .x) (s .args .low) (below s false (c .before .if1 .left))) tt
 
 returns-3 : tie.Need-returns-3
 returns-3 c =
-    ap natAbs (toZ-ofZ (c .before .before .fits .x))
-    ∙ sym (ap₂ (λ (s t : Bool). cond s (c .before .before .args .low) (cond t (c .before .before .args .high) (natAbs (c .before .before .args .x)))) (below (c .before .before) false (c .before .if1 .left)) (above (c .before .before) false (c .if2 .left)))
+    let a = c .before .before in
+    ap natAbs (toZ-ofZ (a .fits .x))
+    ∙ sym (ap₂ (λ (s t : Bool). cond s (a .args .low) (cond t (a .args .high) (natAbs (a .args .x)))) (below a false (c .before .if1 .left)) (above a false (c .if2 .left)))
 
 pub clip-spec : {M : Type 1} → statement M
 clip-spec = tie.close (tie.spec cast-if1 returns cast-if2 returns-2 cast-result returns-3)

@@ -32,15 +32,17 @@ returns-2 c =
 returns-3 : tie.Need-returns-3
 unfolding descriptionTests
 returns-3 c =
-    let w : ltb 2048 (c .before .before .before .before .before .before .args .frame .width) ≡ false = le-ltb 2048 (c .before .before .before .before .before .before .args .frame .width) (omega arith) in
-    let h : ltb 2048 (c .before .before .before .before .before .before .args .frame .height) ≡ true = lt-ltb 2048 (c .before .before .before .before .before .before .args .frame .height) (omega arith) in
+    let a = c .before .before .before .before .before .before .args in
+    let w : ltb 2048 (a .frame .width) ≡ false = le-ltb 2048 (a .frame .width) (omega arith) in
+    let h : ltb 2048 (a .frame .height) ≡ true = lt-ltb 2048 (a .frame .height) (omega arith) in
     simp (good (c .before .before .before .before), w, h)
 
 returns-4 : tie.Need-returns-4
 unfolding descriptionTests
 returns-4 c =
-    let w : ltb 2048 (c .before .before .before .before .before .before .args .frame .width) ≡ false = le-ltb 2048 (c .before .before .before .before .before .before .args .frame .width) (omega arith) in
-    let h : ltb 2048 (c .before .before .before .before .before .before .args .frame .height) ≡ false = le-ltb 2048 (c .before .before .before .before .before .before .args .frame .height) (omega arith) in
+    let a = c .before .before .before .before .before .before .args in
+    let w : ltb 2048 (a .frame .width) ≡ false = le-ltb 2048 (a .frame .width) (omega arith) in
+    let h : ltb 2048 (a .frame .height) ≡ false = le-ltb 2048 (a .frame .height) (omega arith) in
     simp (good (c .before .before .before .before), w, h)
 
 pub description-refusal-spec : {M : Type 1} → statement M

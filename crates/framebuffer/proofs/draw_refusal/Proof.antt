@@ -39,7 +39,8 @@ returns-3 : tie.Need-returns-3
 unfolding drawTests
 returns-3 c =
     let b = c .before .before in
-    passed (frameTests _ _) _ (frame-numbered _ _) (b .before .frame-refusal .ensures) (b .if1 .left) (goes-on 4 _ [] (lt-leb _ _ (rw (one-shifted _ (small b)) at (c .if2 .left))) refl)
+    passed (frameTests _ _) _ (frame-numbered _ _) (b .before .frame-refusal .ensures) (b .if1 .left)
+    (goes-on 4 _ [] (lt-leb _ _ (rw (one-shifted _ (small b)) at (c .if2 .left))) refl)
 
 pub draw-refusal-spec : {M : Type 1} → statement M
 draw-refusal-spec = tie.close (tie.spec frame-refusal-requires returns cast-if2 shl-if2 returns-2 returns-3)

@@ -50,7 +50,8 @@ loop-again c =
     let l = c .before .before .before .before .before .loop in (
       omega arith,
       c .before .before .paint-columns .kept .0 ∙ l .inv .1,
-      c .before .before .paint-columns .ensures ∙ ap (painted (raster (a .frame)) (columns (l .y) 0 (a .frame .width)) (a .colour)) (l .inv .2) ∙ rows-then (raster (a .frame)) (ok s) (a .colour) (a .buf .now) (l .y),
+      c .before .before .paint-columns .ensures ∙ ap (painted (raster (a .frame)) (columns (l .y) 0 (a .frame .width)) (a .colour)) (l .inv .2)
+          ∙ rows-then (raster (a .frame)) (ok s) (a .colour) (a .buf .now) (l .y),
     )
 
 same-length : tie.Need-same-length Inv-loop μ-loop

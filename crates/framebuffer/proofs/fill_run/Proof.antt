@@ -42,9 +42,15 @@ slice-aggregate-fill-part c = sym (length-take-le (c .before .before .frame-byte
 
 fill-part-requires : tie.Need-fill-part-requires
 fill-part-requires c κs =
+    let at = c .before .before in
     let s = c .before .before .before .before in
-    let a = s .args in
-    (ok s .accepted .described .depth, ok s .below, subst (λ (n : ℕ). parts (a .frame .depth) ≤ n) (sym (length-take-le (c .before .before .frame-bytes .result) (a .buf .now) (room (c .before .before)))) (subst (λ (n : ℕ). parts (a .frame .depth) ≤ n) (sym (c .before .before .frame-bytes .ensures)) (one-pixel (a .frame) (s .pre .1) (subst (λ (n : ℕ). 0 < n) (c .before .before .frame-bytes .ensures) (c .before .if1 .taken)))))
+    let a = s .args in (
+      ok s .accepted .described .depth,
+      ok s .below,
+      subst (λ (n : ℕ). parts (a .frame .depth) ≤ n) (sym (length-take-le (at .frame-bytes .result) (a .buf .now) (room at)))
+          (subst (λ (n : ℕ). parts (a .frame .depth) ≤ n) (sym (at .frame-bytes .ensures))
+          (one-pixel (a .frame) (s .pre .1) (subst (λ (n : ℕ). 0 < n) (at .frame-bytes .ensures) (c .before .if1 .taken)))),
+    )
 
 same-length : tie.Need-same-length
 same-length c = search needs
@@ -57,12 +63,14 @@ run f colour b A e v = one-run (packed f) (spaced f (A .accepted .described)) co
 
 returns : tie.Need-returns
 returns c =
+    let at = c .before .before .before .before .before in
     let s = c .before .before .before .before .before .before .before in
     let a = s .args in
-    let n = c .before .before .before .before .before .frame-bytes .result in
-    let l = length-take-le n (a .buf .now) (room (c .before .before .before .before .before)) in
-    run-part 0 n (length (take n (a .buf .now))) (a .buf .now) (take n (a .buf .now)) (c .before .before .fill-part .last .0) _ (let h = room (c .before .before .before .before .before) in omega arith) refl (le-refl _) (c .before .before .fill-part .ensures)
-    ∙ ap (λ (k : ℕ). setRun 0 k (fullByte (a .frame .depth) (a .frame .big) (a .colour)) (a .buf .now)) (l ∙ c .before .before .before .before .before .frame-bytes .ensures)
+    let n = at .frame-bytes .result in
+    let l = length-take-le n (a .buf .now) (room at) in
+    run-part 0 n (length (take n (a .buf .now))) (a .buf .now) (take n (a .buf .now)) (c .before .before .fill-part .last .0) _ (let h = room at in omega arith) refl
+    (le-refl _) (c .before .before .fill-part .ensures)
+    ∙ ap (λ (k : ℕ). setRun 0 k (fullByte (a .frame .depth) (a .frame .big) (a .colour)) (a .buf .now)) (l ∙ at .frame-bytes .ensures)
     ∙ sym (run (a .frame) (a .colour) (a .buf .now) (ok s) (s .pre .1) (λ i. c .before .before .before .before .before .before .slice-known .given i .fits))
 
 returns-2 : tie.Need-returns-2

@@ -25,11 +25,17 @@ cast-if2 c = search needs
 
 returns-2 : tie.Need-returns-2
 unfolding frameTests
-returns-2 c = let b = c .before .before in passed (descriptionTests _) _ (description-numbered _) (b .before .description-refusal .ensures) (b .if1 .left) (stops 3 _ [] (lt-ltb _ _ (rw (c .before .frame-bytes .ensures) at (c .if2 .taken))))
+returns-2 c =
+    let b = c .before .before in
+    passed (descriptionTests _) _ (description-numbered _) (b .before .description-refusal .ensures) (b .if1 .left)
+    (stops 3 _ [] (lt-ltb _ _ (rw (c .before .frame-bytes .ensures) at (c .if2 .taken))))
 
 returns-3 : tie.Need-returns-3
 unfolding frameTests
-returns-3 c = let b = c .before .before in passed (descriptionTests _) _ (description-numbered _) (b .before .description-refusal .ensures) (b .if1 .left) (goes-on 3 _ [] (le-ltb _ _ (rw (c .before .frame-bytes .ensures) at (c .if2 .left))) refl)
+returns-3 c =
+    let b = c .before .before in
+    passed (descriptionTests _) _ (description-numbered _) (b .before .description-refusal .ensures) (b .if1 .left)
+    (goes-on 3 _ [] (le-ltb _ _ (rw (c .before .frame-bytes .ensures) at (c .if2 .left))) refl)
 
 pub frame-refusal-spec : {M : Type 1} → statement M
 frame-refusal-spec = tie.close (tie.spec description-refusal-requires returns frame-bytes-requires cast-if2 returns-2 returns-3)

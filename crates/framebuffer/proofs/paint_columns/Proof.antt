@@ -26,7 +26,8 @@ returns : tie.Need-returns
 returns c = c .before .before .paint-fields .ensures
 
 byte-of-requires : tie.Need-byte-of-requires
-byte-of-requires c κs = let s = c .before .before .before in place-small (s .args .frame) (ok s .accepted .described) (let f = s .pre .2 in let p = s .pre .3 in omega arith) (s .pre .1)
+byte-of-requires c κs =
+    let s = c .before .before .before in place-small (s .args .frame) (ok s .accepted .described) (let f = s .pre .2 in let p = s .pre .3 in omega arith) (s .pre .1)
 
 byte-of-requires-2 : tie.Need-byte-of-requires-2
 byte-of-requires-2 c κs = let s = c .before .before .before .before in place-small (s .args .frame) (ok s .accepted .described) (s .pre .3) (s .pre .1)
@@ -70,7 +71,9 @@ returns-2 c =
     let o = c .before .before .before .before in
     let k : o .before .byte-of .result + (o .byte-of2 .result - o .before .byte-of .result) ≡ o .byte-of2 .result = omega (arith, apart o) in
     let l = end o in
-    pixels-are (a .frame) _ (a .colour) (ok s) (c .before .before .before .before .before .before .if1 .left) (a .y) (a .from) (a .past) (a .buf .now) _ (c .before .before .fill-part .last .0) _ _ (s .pre .1) (λ i. c .before .before .before .before .before .before .before .before .slice-known .given i .fits) (le-of-lt (s .pre .2)) (s .pre .3)
+    pixels-are (a .frame) _ (a .colour) (ok s) (c .before .before .before .before .before .before .if1 .left) (a .y) (a .from) (a .past) (a .buf .now) _
+    (c .before .before .fill-part .last .0) _ _ (s .pre .1) (λ i. c .before .before .before .before .before .before .before .before .slice-known .given i .fits)
+    (le-of-lt (s .pre .2)) (s .pre .3)
     (o .before .byte-of .ensures) (k ∙ o .byte-of2 .ensures) (omega arith) refl (c .before .before .fill-part .ensures)
 
 pub paint-columns-spec : {M : Type 1} → statement M

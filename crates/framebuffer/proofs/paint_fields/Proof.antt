@@ -39,10 +39,14 @@ byte-of-requires-2 : tie.Need-byte-of-requires-2
 byte-of-requires-2 c κs = let s = c .before .before .before in place-small (s .args .frame) (ok s .accepted .described) (s .pre .4) (s .pre .2)
 
 bits-from-requires : tie.Need-bits-from-requires
-bits-from-requires c κs = let s = c .before .before .before .before in record { good = ok s .accepted .described .depth; small = s .pre .1; near = place-small (s .args .frame) (ok s .accepted .described) (le-of-lt (start s)) (s .pre .2) .1 }
+bits-from-requires c κs =
+    let s = c .before .before .before .before in
+    record { good = ok s .accepted .described .depth; small = s .pre .1; near = place-small (s .args .frame) (ok s .accepted .described) (le-of-lt (start s)) (s .pre .2) .1 }
 
 bits-from-requires-2 : tie.Need-bits-from-requires-2
-bits-from-requires-2 c κs = let s = c .before .before .before .before .before in record { good = ok s .accepted .described .depth; small = s .pre .1; near = place-small (s .args .frame) (ok s .accepted .described) (s .pre .4) (s .pre .2) .1 }
+bits-from-requires-2 c κs =
+    let s = c .before .before .before .before .before in
+    record { good = ok s .accepted .described .depth; small = s .pre .1; near = place-small (s .args .frame) (ok s .accepted .described) (s .pre .4) (s .pre .2) .1 }
 
 -- the first column's byte is in the buffer
 room : (c : tie.Start) → c .args .y * packed (c .args .frame) .distance + c .args .from * c .args .frame .depth / 8 < length (c .args .buf .now)
@@ -53,7 +57,8 @@ room c =
     omega arith
 
 merge-at-requires : tie.Need-merge-at-requires
-merge-at-requires c κs = let e = c .before .before .before .before .before .byte-of .ensures in omega (arith, room (c .before .before .before .before .before .before .before .before))
+merge-at-requires c κs =
+    let e = c .before .before .before .before .before .byte-of .ensures in omega (arith, room (c .before .before .before .before .before .before .before .before))
 
 same-length : tie.Need-same-length
 same-length c = search needs
@@ -66,11 +71,17 @@ returns c =
     let last = c .before .before .before .before .before .before .before .byte-of2 .ensures in
     let same = c .before .before .before .before .if1 .taken in
     c .before .before .merge-at .ensures
-    ∙ (λ i. mergedAt (first i) (c .before .before .before .before .before .before .before .before .before .pattern .ensures i) (bitAnd (c .before .before .before .before .before .before .bits-from .ensures i) (255 - c .before .before .before .before .before .bits-from2 .ensures i)) (a .buf .now))
-    ∙ inner-is (a .frame) _ (a .colour) (ok s) (s .pre .1) (a .y) (a .buf .now) (s .pre .2) (λ i. c .before .before .before .before .before .before .before .before .before .before .slice-known .given i .fits) (a .from) (a .past) (room s) (s .pre .3) (s .pre .4) (omega arith)
+    ∙ (λ i.
+    mergedAt (first i) (c .before .before .before .before .before .before .before .before .before .pattern .ensures i)
+    (bitAnd (c .before .before .before .before .before .before .bits-from .ensures i) (255 - c .before .before .before .before .before .bits-from2 .ensures i))
+    (a .buf .now))
+    ∙ inner-is (a .frame) _ (a .colour) (ok s) (s .pre .1) (a .y) (a .buf .now) (s .pre .2)
+    (λ i. c .before .before .before .before .before .before .before .before .before .before .slice-known .given i .fits) (a .from) (a .past) (room s) (s .pre .3) (s .pre .4)
+    (omega arith)
 
 merge-at-requires-2 : tie.Need-merge-at-requires-2
-merge-at-requires-2 c κs = let e = c .before .before .before .before .before .byte-of .ensures in omega (arith, room (c .before .before .before .before .before .before .before .before))
+merge-at-requires-2 c κs =
+    let e = c .before .before .before .before .before .byte-of .ensures in omega (arith, room (c .before .before .before .before .before .before .before .before))
 
 -- whole bytes lie from the first byte's end to the last one's start
 order : (c : tie.Else1) → (let a = c .before .before .before .before .before .before .before .args in a .from * a .frame .depth / 8 + 1 ≤ a .past * a .frame .depth / 8)
@@ -78,9 +89,12 @@ order c =
     let s = c .before .before .before .before .before .before .before in
     let a = s .args in
     let row = a .y * packed (a .frame) .distance in
-    in-order (a .frame) _ (a .colour) (ok s) (s .pre .1) (a .from) (a .past) (s .pre .3) (λ e. c .if1 .left (c .before .before .before .before .byte-of .ensures ∙ ap (λ (i : ℕ). row + i) e ∙ sym (c .before .before .before .byte-of2 .ensures)))
+    in-order (a .frame) _ (a .colour) (ok s) (s .pre .1) (a .from) (a .past) (s .pre .3)
+    (λ e. c .if1 .left (c .before .before .before .before .byte-of .ensures ∙ ap (λ (i : ℕ). row + i) e ∙ sym (c .before .before .before .byte-of2 .ensures)))
 
-bytes : (c : tie.Else1) → (c .before .before .before .before .byte-of .result + 1 ≤ c .before .before .before .byte-of2 .result) × (c .before .before .before .byte-of2 .result ≤ length (c .before .before .before .before .before .before .before .args .buf .now))
+bytes : (c : tie.Else1)
+    → (c .before .before .before .before .byte-of .result + 1 ≤ c .before .before .before .byte-of2 .result)
+    × (c .before .before .before .byte-of2 .result ≤ length (c .before .before .before .before .before .before .before .args .buf .now))
 bytes c =
     let s = c .before .before .before .before .before .before .before in
     let a = s .args in
@@ -96,7 +110,9 @@ places c =
     (mul-le-mul-right (per (s .args .frame .depth)) (order c), bytes-to (s .args .frame) _ (s .args .colour) (ok s) (s .pre .1) (s .args .past))
 
 -- the buffer after the first byte
-first : (c : tie.After-merge-at2) → (let a = c .before .before .before .before .before .before .before .before .before .args in c .merge-at2 .last .0 ≡ painted (raster (a .frame)) (columns (a .y) (a .from) ((a .from * a .frame .depth / 8 + 1) * per (a .frame .depth))) (a .colour) (a .buf .now))
+first : (c : tie.After-merge-at2)
+    → (let a = c .before .before .before .before .before .before .before .before .before .args in
+    c .merge-at2 .last .0 ≡ painted (raster (a .frame)) (columns (a .y) (a .from) ((a .from * a .frame .depth / 8 + 1) * per (a .frame .depth))) (a .colour) (a .buf .now))
 first c =
     let s = c .before .before .before .before .before .before .before .before .before in
     let a = s .args in
@@ -105,8 +121,11 @@ first c =
     let z = p .1 in
     let w = s .pre .4 in
     c .merge-at2 .ensures
-    ∙ (λ i. mergedAt (c .before .before .before .before .before .before .byte-of .ensures i) (c .before .before .before .before .before .before .before .pattern .ensures i) (c .before .before .before .before .bits-from .ensures i) (a .buf .now))
-    ∙ head-is (a .frame) _ (a .colour) (ok s) (s .pre .1) (a .y) (a .buf .now) (s .pre .2) (λ i. c .before .before .before .before .before .before .before .before .slice-known .given i .fits) (a .from) (room s) (omega arith)
+    ∙ (λ i.
+    mergedAt (c .before .before .before .before .before .before .byte-of .ensures i) (c .before .before .before .before .before .before .before .pattern .ensures i)
+    (c .before .before .before .before .bits-from .ensures i) (a .buf .now))
+    ∙ head-is (a .frame) _ (a .colour) (ok s) (s .pre .1) (a .y) (a .buf .now) (s .pre .2)
+    (λ i. c .before .before .before .before .before .before .before .before .slice-known .given i .fits) (a .from) (room s) (omega arith)
 
 add-set-all : tie.Need-add-set-all
 add-set-all c = let l = bytes (c .before .before .before .before) in omega (arith, l .0, l .1)
@@ -131,29 +150,36 @@ middle c =
     let k = c .before .before .before .before .before .before .before .before .before .byte-of2 .result - at in
     take at b ++ (c .set-all .last .0 ++ drop k (drop at b))
 
-begun : (c : tie.After-set-all) → (let a = c .before .before .before .before .before .before .before .before .before .before .before .before .before .args in middle c ≡ painted (raster (a .frame)) (columns (a .y) (a .from) (a .past * a .frame .depth / 8 * per (a .frame .depth))) (a .colour) (a .buf .now))
+begun : (c : tie.After-set-all)
+    → (let a = c .before .before .before .before .before .before .before .before .before .before .before .before .before .args in
+    middle c ≡ painted (raster (a .frame)) (columns (a .y) (a .from) (a .past * a .frame .depth / 8 * per (a .frame .depth))) (a .colour) (a .buf .now))
 begun c =
+    let d = c .before .before .before .before in
+    let u = c .before .before .before .before .before .before in
+    let byte-of = c .before .before .before .before .before .before .before .before .before .before .byte-of in
+    let byte-of2 = c .before .before .before .before .before .before .before .before .before .byte-of2 in
     let s = c .before .before .before .before .before .before .before .before .before .before .before .before .before in
     let a = s .args in
-    let p = places (c .before .before .before .before .before .before) in
+    let p = places u in
     let z = p .1 in
     let w = s .pre .4 in
-    let l = bytes (c .before .before .before .before .before .before) in
+    let l = bytes u in
     let h = l .0 in
     let g = l .1 in
-    let x = c .before .before .before .before .before .before .before .before .before .before .byte-of .ensures in
-    let y = c .before .before .before .before .before .before .before .before .before .byte-of2 .ensures in
-    let e = c .before .before .before .before .merge-at2 .kept .0 in
-    let b = c .before .before .before .before .merge-at2 .last .0 in
-    let at = c .before .before .before .before .before .before .before .before .before .before .byte-of .result + 1 in
-    let k = c .before .before .before .before .before .before .before .before .before .byte-of2 .result - at in
+    let x = byte-of .ensures in
+    let y = byte-of2 .ensures in
+    let e = d .merge-at2 .kept .0 in
+    let b = d .merge-at2 .last .0 in
+    let at = byte-of .result + 1 in
+    let k = byte-of2 .result - at in
     let part = take k (drop at b) in
-    joined (a .frame) _ (a .colour) (ok s) (s .pre .1) (a .y) (a .from) _ _ (a .buf .now) (c .before .before .before .before .merge-at2 .last .0) (middle c)
-    (head-after (a .frame) _ (a .colour) (ok s) (s .pre .1) (a .from)) (p .0) (first (c .before .before .before .before))
-    (whole-is (a .frame) _ (a .colour) (ok s) (s .pre .1) (a .y) (c .before .before .before .before .merge-at2 .last .0) (s .pre .2) (λ i. c .before .before .slice-known3 .given i .fits) (a .from * a .frame .depth / 8 + 1) (a .past * a .frame .depth / 8) part (c .set-all .last .0) at k
-    (order (c .before .before .before .before .before .before)) (omega arith) (omega arith) (omega arith) (omega arith) refl (c .set-all .ensures ∙ ap (λ (v : ℕ). setRun 0 (length part) (λ j. v) part) (c .before .before .before .before .before .before .before .before .before .before .before .pattern .ensures)))
+    joined (a .frame) _ (a .colour) (ok s) (s .pre .1) (a .y) (a .from) _ _ (a .buf .now) (d .merge-at2 .last .0) (middle c)
+    (head-after (a .frame) _ (a .colour) (ok s) (s .pre .1) (a .from)) (p .0) (first d)
+    (whole-is (a .frame) _ (a .colour) (ok s) (s .pre .1) (a .y) (d .merge-at2 .last .0) (s .pre .2) (λ i. c .before .before .slice-known3 .given i .fits) (a .from * a .frame .depth / 8 + 1) (a .past * a .frame .depth / 8) part (c .set-all .last .0) at k
+    (order u) (omega arith) (omega arith) (omega arith) (omega arith) refl (c .set-all .ensures ∙ ap (λ (v : ℕ). setRun 0 (length part) (λ j. v) part) (c .before .before .before .before .before .before .before .before .before .before .before .pattern .ensures)))
 
-longer : (c : tie.After-set-all) → length (middle c) ≡ length (c .before .before .before .before .before .before .before .before .before .before .before .before .before .args .buf .now)
+longer : (c : tie.After-set-all)
+    → length (middle c) ≡ length (c .before .before .before .before .before .before .before .before .before .before .before .before .before .args .buf .now)
 longer c =
     let s = c .before .before .before .before .before .before .before .before .before .before .before .before .before in
     let a = s .args in
@@ -167,7 +193,8 @@ mul-if2 c =
     record { fits = omega arith }
 
 -- the last byte is in the buffer where a part of it is painted
-rest : (c : tie.Then2) → c .before .before .before .before .before .before .before .before .before .before .before .before .byte-of2 .result < length (middle (c .before .before .before))
+rest : (c : tie.Then2)
+    → c .before .before .before .before .before .before .before .before .before .before .before .before .byte-of2 .result < length (middle (c .before .before .before))
 rest c =
     let s = c .before .before .before .before .before .before .before .before .before .before .before .before .before .before .before .before in
     let a = s .args in
@@ -183,6 +210,7 @@ same-length-2 c = c .before .before .merge-at3 .kept .0 ∙ longer (c .before .b
 
 returns-2 : tie.Need-returns-2
 returns-2 c =
+    let byte-of2 = c .before .before .before .before .before .before .before .before .before .before .before .before .before .before .before .before .byte-of2 in
     let s = c .before .before .before .before .before .before .before .before .before .before .before .before .before .before .before .before .before .before .before .before in
     let a = s .args in
     let m = c .before .before .before .before .before .before .before in
@@ -191,8 +219,12 @@ returns-2 c =
     let h = head-after (a .frame) _ (a .colour) (ok s) (s .pre .1) (a .from) in
     joined (a .frame) _ (a .colour) (ok s) (s .pre .1) (a .y) (a .from) _ (a .past) (a .buf .now) (middle m) (c .before .before .merge-at3 .last .0) (omega arith) (p .1) (begun m)
     (c .before .before .merge-at3 .ensures
-    ∙ (λ i. mergedAt (c .before .before .before .before .before .before .before .before .before .before .before .before .before .before .before .before .byte-of2 .ensures i) (c .before .before .before .before .before .before .before .before .before .before .before .before .before .before .before .before .before .before .pattern .ensures i) (255 - c .before .before .before .before .before .before .before .before .before .before .before .before .before .before .bits-from2 .ensures i) (middle m))
-    ∙ tail-is (a .frame) _ (a .colour) (ok s) (s .pre .1) (a .y) (middle m) (s .pre .2) (λ i. c .before .before .before .before .before .slice-known4 .given i .fits) (a .past) (subst (λ (i : ℕ). i < length (middle m)) (c .before .before .before .before .before .before .before .before .before .before .before .before .before .before .before .before .byte-of2 .ensures) (rest (c .before .before .before .before))) (s .pre .4))
+    ∙ (λ i.
+    mergedAt (byte-of2 .ensures i)
+    (c .before .before .before .before .before .before .before .before .before .before .before .before .before .before .before .before .before .before .pattern .ensures i)
+    (255 - c .before .before .before .before .before .before .before .before .before .before .before .before .before .before .bits-from2 .ensures i) (middle m))
+    ∙ tail-is (a .frame) _ (a .colour) (ok s) (s .pre .1) (a .y) (middle m) (s .pre .2) (λ i. c .before .before .before .before .before .slice-known4 .given i .fits) (a .past)
+    (subst (λ (i : ℕ). i < length (middle m)) (byte-of2 .ensures) (rest (c .before .before .before .before))) (s .pre .4))
 
 same-length-3 : tie.Need-same-length-3
 same-length-3 c = longer (c .before .before .before)
@@ -201,7 +233,9 @@ returns-3 : tie.Need-returns-3
 returns-3 c =
     let s = c .before .before .before .before .before .before .before .before .before .before .before .before .before .before .before .before in
     let a = s .args in
-    begun (c .before .before .before) ∙ ap (λ (i : ℕ). painted (raster (a .frame)) (columns (a .y) (a .from) i) (a .colour) (a .buf .now)) (ends-with (a .frame) _ (a .colour) (ok s) (s .pre .1) (a .past) (c .if2 .left))
+    begun (c .before .before .before)
+    ∙ ap (λ (i : ℕ). painted (raster (a .frame)) (columns (a .y) (a .from) i) (a .colour) (a .buf .now))
+    (ends-with (a .frame) _ (a .colour) (ok s) (s .pre .1) (a .past) (c .if2 .left))
 
 pub paint-fields-spec : {M : Type 1} → statement M
 paint-fields-spec =

@@ -30,8 +30,11 @@ is-between-requires : tie.Need-is-between-requires
 is-between-requires c κs = let h = small (c .before .before) in (h .2, h .3)
 
 -- whether it has the row
-row : (c : tie.After-is-between) → (let a = c .before .before .before .args in between (pos (a .brush .window .top)) (pos (a .brush .window .bottom)) (a .y) ≡ c .is-between .result)
-row c = let a = c .before .before .before .args in sym (c .is-between .ensures ∙ ap (λ (z : ℤ). between (pos (a .brush .window .top)) (pos (a .brush .window .bottom)) z) (toZ-ofZ (c .before .before .before .fits .y)))
+row : (c : tie.After-is-between)
+    → (let a = c .before .before .before .args in between (pos (a .brush .window .top)) (pos (a .brush .window .bottom)) (a .y) ≡ c .is-between .result)
+row c =
+    let s = c .before .before .before in
+    let a = s .args in sym (c .is-between .ensures ∙ ap (λ (z : ℤ). between (pos (a .brush .window .top)) (pos (a .brush .window .bottom)) z) (toZ-ofZ (s .fits .y)))
 
 returns : tie.Need-returns
 returns c =
@@ -50,10 +53,15 @@ clip-requires-2 c κs = let h = small (c .before .before .before .before .before
 
 -- the columns that are left
 from : (c : tie.After-clip) → (let a = c .before .before .before .before .before .args in c .clip .result ≡ clipped (a .start) (a .brush .window .left) (a .brush .window .right))
-from c = let s = c .before .before .before .before .before in c .clip .ensures ∙ ap (λ (x : ℤ). clipped x (s .args .brush .window .left) (s .args .brush .window .right)) (toZ-ofZ (s .fits .start))
+from c =
+    let s = c .before .before .before .before .before in
+    c .clip .ensures ∙ ap (λ (x : ℤ). clipped x (s .args .brush .window .left) (s .args .brush .window .right)) (toZ-ofZ (s .fits .start))
 
-past : (c : tie.After-clip2) → (let a = c .before .before .before .before .before .before .args in c .clip2 .result ≡ clipped (a .end) (a .brush .window .left) (a .brush .window .right))
-past c = let s = c .before .before .before .before .before .before in c .clip2 .ensures ∙ ap (λ (x : ℤ). clipped x (s .args .brush .window .left) (s .args .brush .window .right)) (toZ-ofZ (s .fits .end))
+past : (c : tie.After-clip2)
+    → (let a = c .before .before .before .before .before .before .args in c .clip2 .result ≡ clipped (a .end) (a .brush .window .left) (a .brush .window .right))
+past c =
+    let s = c .before .before .before .before .before .before in
+    c .clip2 .ensures ∙ ap (λ (x : ℤ). clipped x (s .args .brush .window .left) (s .args .brush .window .right)) (toZ-ofZ (s .fits .end))
 
 cast-paint-columns : tie.Need-cast-paint-columns
 cast-paint-columns c =
@@ -68,7 +76,9 @@ paint-columns-requires c κs =
     let b = s .pre .within .bottom in
     let r = s .pre .within .right in
     let i = inner (c .before .before .before .before) in
-    let l = in-between (natAbs (a .y)) (a .brush .window .top) (a .brush .window .bottom) (ap (λ (z : ℤ). between (pos (a .brush .window .top)) (pos (a .brush .window .bottom)) z) (sym (between-pos (a .y) (a .brush .window .top) (a .brush .window .bottom) i)) ∙ i) .1 in
+    let l =
+    in-between (natAbs (a .y)) (a .brush .window .top) (a .brush .window .bottom)
+    (ap (λ (z : ℤ). between (pos (a .brush .window .top)) (pos (a .brush .window .bottom)) z) (sym (between-pos (a .y) (a .brush .window .top) (a .brush .window .bottom) i)) ∙ i) .1 in
     let p = past (c .before .before) in
     let h = clip-bounds (a .end) (a .brush .window .left) (a .brush .window .right) (s .pre .within .across) .1 in
     (s .pre .drawable, subst (λ (z : ℤ). natAbs z < a .brush .frame .height) (sym (toZ-ofZ (s .fits .y))) (omega arith), omega arith, omega arith)
@@ -81,8 +91,12 @@ returns-2 c =
     let s = c .before .before .before .before .before .before .before .before .before .before .before in
     let a = s .args in
     c .before .before .paint-columns .ensures
-    ∙ (λ k. painted (raster (a .brush .frame)) (columns (natAbs (toZ-ofZ (s .fits .y) k)) (from (c .before .before .before .before .before .before) k) (past (c .before .before .before .before .before) k)) (a .brush .colour) (a .buf .now))
-    ∙ span-left (a .brush .frame) (ok s) (a .brush .colour) (a .buf .now) (a .brush .window) (a .y) (a .start) (a .end) (s .pre .within) (inner (c .before .before .before .before .before .before .before))
+    ∙ (λ k.
+    painted (raster (a .brush .frame))
+    (columns (natAbs (toZ-ofZ (s .fits .y) k)) (from (c .before .before .before .before .before .before) k) (past (c .before .before .before .before .before) k))
+    (a .brush .colour) (a .buf .now))
+    ∙ span-left (a .brush .frame) (ok s) (a .brush .colour) (a .buf .now) (a .brush .window) (a .y) (a .start) (a .end) (s .pre .within)
+    (inner (c .before .before .before .before .before .before .before))
 
 returns-3 : tie.Need-returns-3
 returns-3 c =

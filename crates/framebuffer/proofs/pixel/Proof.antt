@@ -92,7 +92,9 @@ read-point-requires c κs =
     let a = c .before .before .before .before .before .before .before .before .args in
     let told = c .before .before .before in
     let A = ok (c .before .before .before .before .before) in
-    let p = point-in (a .frame) (A .described) 0 (a .buf .now) (wholeWindow (a .frame)) (a .p .0) (a .p .1) (whole-within (a .frame)) (held (c .before) ∙ not-false _ (c .if2 .left)) in
+    let p =
+    point-in (a .frame) (A .described) 0 (a .buf .now) (wholeWindow (a .frame)) (a .p .0) (a .p .1) (whole-within (a .frame))
+    (held (c .before) ∙ not-false _ (c .if2 .left)) in
     (A, subst (λ (x : ℤ). natAbs x < a .frame .width) (sym (across told)) (p .0), subst (λ (y : ℤ). natAbs y < a .frame .height) (sym (down told)) (p .1))
 
 returns-3 : tie.Need-returns-3

@@ -21,7 +21,9 @@ ok : (c : tie.Start) → Drawable (c .args .frame) (length (c .args .buf .now)) 
 ok c = c .pre .0
 
 room : (c : tie.After-byte-of) → c .byte-of .result + parts (c .before .before .args .frame .depth) ≤ length (c .before .before .args .buf .now)
-room c = pixel-room (c .before .before .args .frame) _ (c .before .before .args .x) (c .before .before .args .y) (ok (c .before .before) .accepted) (c .before .before .pre .1) (c .before .before .pre .2) (c .byte-of .ensures)
+room c =
+    let s = c .before .before in
+    pixel-room (s .args .frame) _ (s .args .x) (s .args .y) (ok s .accepted) (s .pre .1) (s .pre .2) (c .byte-of .ensures)
 
 byte-of-requires : tie.Need-byte-of-requires
 byte-of-requires c κs =
@@ -31,7 +33,9 @@ byte-of-requires c κs =
     (ok (c .before) .accepted .described, p .0, p .1)
 
 -- a depth below a byte
-thin : (c : tie.Then1) → (goodDepth (c .before .before .before .args .frame .depth) ≡ true) × (field (c .before .before .before .args .frame .depth) ≡ c .before .before .before .args .frame .depth) × (parts (c .before .before .before .args .frame .depth) ≡ 1)
+thin : (c : tie.Then1)
+    → (goodDepth (c .before .before .before .args .frame .depth) ≡ true) × (field (c .before .before .before .args .frame .depth) ≡ c .before .before .before .args .frame .depth)
+    × (parts (c .before .before .before .args .frame .depth) ≡ 1)
 thin c =
     let g = ok (c .before .before .before) .accepted .described .depth in
     let s = small (c .before .before .before .args .frame .depth) (le-of-lt (c .if1 .taken)) (depth-pos _ g) in
@@ -42,8 +46,14 @@ slice-read-with-field c = let t = thin (c .before) .2 in omega (arith, room (c .
 
 with-field-requires : tie.Need-with-field-requires
 with-field-requires c κs =
-    let s = c .before .before .before .before in
-    (record { good = thin (c .before) .0; small = c .before .if1 .taken; near = pixel-small (s .args .frame) _ (s .args .x) (s .args .y) (ok s .accepted) (s .pre .1) (s .pre .2) .0 }, ok s .below)
+    let s = c .before .before .before .before in (
+      record {
+        good = thin (c .before) .0;
+        small = c .before .if1 .taken;
+        near = pixel-small (s .args .frame) _ (s .args .x) (s .args .y) (ok s .accepted) (s .pre .1) (s .pre .2) .0;
+      },
+      ok s .below,
+    )
 
 slice-write-buf : tie.Need-slice-write-buf
 slice-write-buf c = let t = thin (c .before .before) .2 in omega (arith, room (c .before .before .before))
@@ -53,16 +63,18 @@ same-length c = search needs
 
 returns : tie.Need-returns
 returns c =
+    let byte-of = c .before .before .before .byte-of in
     let s = c .before .before .before .before .before in
     let a = s .args in
     let t = thin (c .before .before) in
-    ap (set (a .buf .now) (c .before .before .before .byte-of .result)) (c .with-field .ensures)
-    ∙ ap (λ (i : ℕ). set (a .buf .now) i (replaced (2 ^ field (a .frame .depth)) (slotOf (a .frame .depth) (a .x)) (a .colour) (getD (a .buf .now) i 0))) (c .before .before .before .byte-of .ensures)
+    ap (set (a .buf .now) (byte-of .result)) (c .with-field .ensures)
+    ∙ ap (λ (i : ℕ). set (a .buf .now) i (replaced (2 ^ field (a .frame .depth)) (slotOf (a .frame .depth) (a .x)) (a .colour) (getD (a .buf .now) i 0))) (byte-of .ensures)
     ∙ sym (pixel-set (packed (a .frame)) (spaced (a .frame) (ok s .accepted .described)) (a .colour) (t .2)
     (subst (λ (k : ℕ). a .colour < 2 ^ k) (sym (t .1)) (ok s .below)) (a .x) (a .y) (a .buf .now))
 
 -- a depth from a byte on
-thick : (c : tie.Else1) → (per (c .before .before .before .args .frame .depth) ≡ 1) × (parts (c .before .before .before .args .frame .depth) ≡ c .before .before .before .args .frame .depth / 8)
+thick : (c : tie.Else1)
+    → (per (c .before .before .before .args .frame .depth) ≡ 1) × (parts (c .before .before .before .args .frame .depth) ≡ c .before .before .before .args .frame .depth / 8)
 thick c = let l = large (c .before .before .before .args .frame .depth) (ok (c .before .before .before) .accepted .described .depth) (c .if1 .left) in (l .1, l .2)
 
 cast-end : tie.Need-cast-end
@@ -94,14 +106,16 @@ same-length-2 c = search needs
 
 returns-2 : tie.Need-returns-2
 returns-2 c =
+    let l = c .before .before .before .before .before in
     let s = c .before .before .before .before .before .before .before in
     let a = s .args in
     let t = thick (c .before .before .before .before) in
-    let at = c .before .before .before .before .before .byte-of .result in
+    let at = l .byte-of .result in
     let k = at + a .frame .depth / 8 - at in
     let ek : k ≡ parts (a .frame .depth) = let e = t .1 in omega arith in
     pixel-stored (packed (a .frame)) (spaced (a .frame) (ok s .accepted .described)) (a .colour) (t .0) (a .x) (a .y) (a .buf .now) _ at k
-    (c .before .before .before .before .before .byte-of .ensures) ek (omega (arith, room (c .before .before .before .before .before))) (λ i. c .before .before .before .before .before .before .slice-known .given i .fits) refl (c .before .before .store .last .0) (c .before .before .store .ensures)
+    (l .byte-of .ensures) ek (omega (arith, room l)) (λ i. c .before .before .before .before .before .before .slice-known .given i .fits) refl
+    (c .before .before .store .last .0) (c .before .before .store .ensures)
 
 pub put-at-spec : {M : Type 1} → statement M
 put-at-spec =

@@ -59,7 +59,8 @@ returns c =
     let told = c .before .before .before .before .before .before in
     c .before .before .put-at .ensures
     ∙ ap₂ (λ (x y : ℤ). putPixel (raster (a .frame)) (natAbs x) (natAbs y) (a .colour) (a .buf .now)) (across told) (down told)
-    ∙ point-put (a .frame) (ok s) (a .colour) (a .buf .now) (a .window) (a .p .0) (a .p .1) (s .pre .1) (held (c .before .before .before .before .before) ∙ c .before .before .before .before .if1 .taken)
+    ∙ point-put (a .frame) (ok s) (a .colour) (a .buf .now) (a .window) (a .p .0) (a .p .1) (s .pre .1)
+    (held (c .before .before .before .before .before) ∙ c .before .before .before .before .if1 .taken)
 
 returns-2 : tie.Need-returns-2
 returns-2 c =

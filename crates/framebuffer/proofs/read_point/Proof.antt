@@ -22,7 +22,9 @@ ok : (c : tie.Start) → Accepted (c .args .frame) (length (c .args .buf .now))
 ok c = c .pre .0
 
 room : (c : tie.After-byte-of) → c .byte-of .result + parts (c .before .before .args .frame .depth) ≤ length (c .before .before .args .buf .now)
-room c = pixel-room (c .before .before .args .frame) _ (c .before .before .args .x) (c .before .before .args .y) (ok (c .before .before)) (c .before .before .pre .1) (c .before .before .pre .2) (c .byte-of .ensures)
+room c =
+    let s = c .before .before in
+    pixel-room (s .args .frame) _ (s .args .x) (s .args .y) (ok s) (s .pre .1) (s .pre .2) (c .byte-of .ensures)
 
 byte-of-requires : tie.Need-byte-of-requires
 byte-of-requires c κs =
@@ -31,7 +33,9 @@ byte-of-requires c κs =
     (ok (c .before) .described, p .0, p .1)
 
 -- a depth below a byte
-thin : (c : tie.Then1) → (goodDepth (c .before .before .before .args .frame .depth) ≡ true) × (field (c .before .before .before .args .frame .depth) ≡ c .before .before .before .args .frame .depth) × (parts (c .before .before .before .args .frame .depth) ≡ 1)
+thin : (c : tie.Then1)
+    → (goodDepth (c .before .before .before .args .frame .depth) ≡ true) × (field (c .before .before .before .args .frame .depth) ≡ c .before .before .before .args .frame .depth)
+    × (parts (c .before .before .before .args .frame .depth) ≡ 1)
 thin c =
     let g = ok (c .before .before .before) .described .depth in
     let s = small (c .before .before .before .args .frame .depth) (le-of-lt (c .if1 .taken)) (depth-pos _ g) in
@@ -55,7 +59,8 @@ returns c =
     ∙ sym (pixel-get (packed (a .frame)) (spaced (a .frame) (ok s .described)) 0 (t .2) (pow-pos (field (a .frame .depth))) (a .x) (a .y) (a .buf .now))
 
 -- a depth from a byte on
-thick : (c : tie.Else1) → (per (c .before .before .before .args .frame .depth) ≡ 1) × (parts (c .before .before .before .args .frame .depth) ≡ c .before .before .before .args .frame .depth / 8)
+thick : (c : tie.Else1)
+    → (per (c .before .before .before .args .frame .depth) ≡ 1) × (parts (c .before .before .before .args .frame .depth) ≡ c .before .before .before .args .frame .depth / 8)
 thick c = let l = large (c .before .before .before .args .frame .depth) (ok (c .before .before .before) .described .depth) (c .if1 .left) in (l .1, l .2)
 
 cast-end : tie.Need-cast-end
@@ -81,15 +86,16 @@ load-requires c κs =
 
 returns-2 : tie.Need-returns-2
 returns-2 c =
+    let l = c .before .before .before in
     let s = c .before .before .before .before .before in
     let a = s .args in
     let t = thick (c .before .before) in
-    let at = c .before .before .before .byte-of .result in
+    let at = l .byte-of .result in
     let k = at + a .frame .depth / 8 - at in
     let ek : k ≡ parts (a .frame .depth) = let e = t .1 in omega arith in
     c .load .ensures
     ∙ pixel-loaded (packed (a .frame)) (spaced (a .frame) (ok s .described)) 0 (t .0) (a .x) (a .y) (a .buf .now) _ at k
-    (c .before .before .before .byte-of .ensures) ek (omega (arith, room (c .before .before .before))) (λ i. c .before .before .before .before .shared-slice-known .given i .fits) refl
+    (l .byte-of .ensures) ek (omega (arith, room l)) (λ i. c .before .before .before .before .shared-slice-known .given i .fits) refl
 
 pub read-point-spec : {M : Type 1} → statement M
 read-point-spec =

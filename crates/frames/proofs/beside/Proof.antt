@@ -47,7 +47,11 @@ show-requires-6 : tie.Need-show-requires-6
 show-requires-6 c κs = search needs
 
 same-length : tie.Need-same-length
-same-length c = c .before .before .before .before .before .before .before .before .before .set-pixel4 .kept .0 ∙ c .before .before .before .before .before .before .before .before .before .before .before .before .before .before .set-pixel3 .kept .0 ∙ c .before .before .before .before .before .before .before .before .before .before .before .before .before .before .before .before .before .before .before .set-pixel2 .kept .0 ∙ c .before .before .before .before .before .before .before .before .before .before .before .before .before .before .before .before .before .before .before .before .before .before .before .before .set-pixel .kept .0
+same-length c =
+    c .before .before .before .before .before .before .before .before .before .set-pixel4 .kept .0
+    ∙ c .before .before .before .before .before .before .before .before .before .before .before .before .before .before .set-pixel3 .kept .0
+    ∙ c .before .before .before .before .before .before .before .before .before .before .before .before .before .before .before .before .before .before .before .set-pixel2 .kept .0
+    ∙ c .before .before .before .before .before .before .before .before .before .before .before .before .before .before .before .before .before .before .before .before .before .before .before .before .set-pixel .kept .0
 
 returns : tie.Need-returns
 returns c = search needs

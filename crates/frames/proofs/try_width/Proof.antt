@@ -27,7 +27,8 @@ slice-aggregate-try-frame c = sym (length-take-le _ (c .before .before .before .
 
 try-frame-requires : tie.Need-try-frame-requires
 try-frame-requires c κs =
-    subst (λ (f : Frame). (0 < f .depth) × (f .depth ≤ 32) × (f .width ≤ 2048) × (f .height ≤ 2048)) (sym (c .before .before .before .before .new .ensures)) (c .before .before .before .before .before .before .pre)
+    subst (λ (f : Frame). (0 < f .depth) × (f .depth ≤ 32) × (f .width ≤ 2048) × (f .height ≤ 2048)) (sym (c .before .before .before .before .new .ensures))
+    (c .before .before .before .before .before .before .pre)
 
 same-length : tie.Need-same-length
 same-length c = search needs

@@ -34,10 +34,16 @@ bx : (c : tie.After-struct-told4) → SFits w32 (c .before .before .before .befo
 bx c = sfits-of (c .struct-told4 .given .0 .1)
 
 returns : tie.Need-returns
-returns c = let s = c .before .before .before .before .before .before .before .before .before .args in le-test (ax c) (bx c) ∙ same-row (s .a) (s .b) (eq-bits (ay (c .before .before .before .before .before)) (by (c .before .before .before .before .before)) (c .before .before .before .before .if1 .taken))
+returns c =
+    let at = c .before .before .before .before .before in
+    let s = c .before .before .before .before .before .before .before .before .before .args in
+    le-test (ax c) (bx c) ∙ same-row (s .a) (s .b) (eq-bits (ay at) (by at) (c .before .before .before .before .if1 .taken))
 
 returns-2 : tie.Need-returns-2
-returns-2 c = let s = c .before .before .before .before .before .before .before .before .before .args in lt-test (ay (c .before .before .before .before .before)) (by (c .before .before .before .before .before)) ∙ other-row (s .a) (s .b) (λ e. c .before .before .before .before .if1 .left (ap (ofZ w32) e))
+returns-2 c =
+    let at = c .before .before .before .before .before in
+    let s = c .before .before .before .before .before .before .before .before .before .args in
+    lt-test (ay at) (by at) ∙ other-row (s .a) (s .b) (λ e. c .before .before .before .before .if1 .left (ap (ofZ w32) e))
 
 pub in-order-spec : {M : Type 1} → statement M
 in-order-spec = tie.close (tie.spec returns returns-2)

@@ -55,7 +55,8 @@ module _ (c : tie.After-direction2) where
       }
 
   -- the test is the rule's
-  axis : leZ (toZ w32 (ofZ w32 (c .before .before .before .distance .result))) (toZ w32 (ofZ w32 (c .before .before .distance2 .result))) ≡ steep (entry c .args .start) (entry c .args .end)
+  axis : leZ (toZ w32 (ofZ w32 (c .before .before .before .distance .result))) (toZ w32 (ofZ w32 (c .before .before .distance2 .result)))
+      ≡ steep (entry c .args .start) (entry c .args .end)
   axis = tests-le (back A) (back B)
 
 two : Has w32 (pos 2) (pos 2) 2
@@ -70,7 +71,8 @@ mul-t13 c = fits (times two (back (B (c .before))) tt)
 returns : tie.Need-returns
 returns c =
     let b = c .before in
-    course-by true (sym (axis b) ∙ c .if1 .taken) (back (B b) .is) (back (times two (back (A b)) tt) .is) (back (times two (back (B b)) tt) .is) refl (back (DY b) .is) (back (DX b) .is) refl
+    course-by true (sym (axis b) ∙ c .if1 .taken) (back (B b) .is) (back (times two (back (A b)) tt) .is) (back (times two (back (B b)) tt) .is) refl (back (DY b) .is)
+    (back (DX b) .is) refl
 
 mul-t14 : tie.Need-mul-t14
 mul-t14 c = fits (times two (back (B (c .before))) tt)
@@ -81,7 +83,8 @@ mul-t15 c = fits (times two (back (A (c .before))) tt)
 returns-2 : tie.Need-returns-2
 returns-2 c =
     let b = c .before in
-    course-by false (sym (axis b) ∙ c .if1 .left) (back (A b) .is) (back (times two (back (B b)) tt) .is) (back (times two (back (A b)) tt) .is) (back (DX b) .is) refl refl (back (DY b) .is)
+    course-by false (sym (axis b) ∙ c .if1 .left) (back (A b) .is) (back (times two (back (B b)) tt) .is) (back (times two (back (A b)) tt) .is) (back (DX b) .is) refl refl
+    (back (DY b) .is)
 
 pub course-of-spec : {M : Type 1} → statement M
 course-of-spec =

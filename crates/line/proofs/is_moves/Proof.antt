@@ -26,7 +26,8 @@ band c = moves-band (c .args .major) (c .args .minor) (c .args .along) (omega ar
 returns : tie.Need-returns
 returns c =
     let s = c .before in
-    let none : moves (s .args .major) (s .args .minor) (s .args .along) ≡ 0 = ap (λ (M : ℕ). moves M (s .args .minor) (s .args .along)) (c .if1 .taken) ∙ moves-none (s .args .minor) (s .args .along) in
+    let none : moves (s .args .major) (s .args .minor) (s .args .along) ≡ 0 =
+    ap (λ (M : ℕ). moves M (s .args .minor) (s .args .along)) (c .if1 .taken) ∙ moves-none (s .args .minor) (s .args .along) in
     sym (eq-eqb (s .args .across) (moves (s .args .major) (s .args .minor) (s .args .along)) (omega arith))
 
 mul-ideal : tie.Need-mul-ideal
@@ -55,7 +56,8 @@ returns-2 c =
     let k : ℕ = s .args .along in
     let q : ℕ = s .args .across in
     decides-one (leb (2 * n * k) (2 * M * q + M)) (eqb q (moves M n k))
-    (decides-map (decides-leb (2 * n * k) (2 * M * q + M)) (λ h. sym (moves-fixed M n k q (omega arith) (record { low = omega arith; high = h }))) (λ e. subst (λ (m : ℕ). 2 * n * k ≤ 2 * M * m + M) (sym e) (band s .high)))
+    (decides-map (decides-leb (2 * n * k) (2 * M * q + M)) (λ h. sym (moves-fixed M n k q (omega arith) (record { low = omega arith; high = h })))
+    (λ e. subst (λ (m : ℕ). 2 * n * k ≤ 2 * M * m + M) (sym e) (band s .high)))
     (decides-eqb q (moves M n k))
 
 returns-3 : tie.Need-returns-3

@@ -21,7 +21,9 @@ distance-requires c κs = search needs
 A : (c : tie.After-distance) → Has w32 (c .distance .result) (pos (wide (c .before .before .before .args .start) (c .before .before .before .args .end))) 262144
 A c = let s = c .before .before .before in wide-of (s .pre .0) (s .pre .1) (c .distance .ensures)
 
-B : (c : tie.After-distance2) → Has w32 (c .distance2 .result) (pos (high (c .before .before .before .before .before .before .args .start) (c .before .before .before .before .before .before .args .end))) 262144
+B : (c : tie.After-distance2)
+    → Has w32 (c .distance2 .result) (pos (high (c .before .before .before .before .before .before .args .start) (c .before .before .before .before .before .before .args .end)))
+    262144
 B c = let s = c .before .before .before .before .before .before in high-of (s .pre .0) (s .pre .1) (c .distance2 .ensures)
 
 cast-wide : tie.Need-cast-wide
@@ -60,8 +62,10 @@ returns c =
     let py : toZ w32 (ofZ w32 (s .args .p .1)) ≡ s .args .p .1 = field-back w32 (s .args .p .1) (x .before .struct-told7 .given .1 .0 .1) in
     let x-back : toZ w64 (ofZ w64 (x .progress .result)) ≡ x .progress .result = search needs in
     let y-back : toZ w64 (ofZ w64 (y .progress2 .result)) ≡ y .progress2 .result = search needs in
-    let along : x .progress .result ≡ toward (s .args .start .0) (s .args .end .0) *ℤ (s .args .p .0 -ℤ s .args .start .0) = x .progress .ensures ∙ (λ i. toward (sx i) (ex i) *ℤ (px i -ℤ sx i)) in
-    let down : y .progress2 .result ≡ toward (s .args .start .1) (s .args .end .1) *ℤ (s .args .p .1 -ℤ s .args .start .1) = y .progress2 .ensures ∙ (λ i. toward (sy i) (ey i) *ℤ (py i -ℤ sy i)) in
+    let along : x .progress .result ≡ toward (s .args .start .0) (s .args .end .0) *ℤ (s .args .p .0 -ℤ s .args .start .0) =
+    x .progress .ensures ∙ (λ i. toward (sx i) (ex i) *ℤ (px i -ℤ sx i)) in
+    let down : y .progress2 .result ≡ toward (s .args .start .1) (s .args .end .1) *ℤ (s .args .p .1 -ℤ s .args .start .1) =
+    y .progress2 .ensures ∙ (λ i. toward (sy i) (ey i) *ℤ (py i -ℤ sy i)) in
     c .on-line .ensures ∙ (λ i. onLine (nat-is (A a) i) (nat-is (B b) i) ((x-back ∙ along) i) ((y-back ∙ down) i)) ∙ has-closed (s .args .start) (s .args .end) (s .args .p)
 
 pub meets-spec : {M : Type 1} → statement M

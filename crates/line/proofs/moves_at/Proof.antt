@@ -36,7 +36,8 @@ cast-result c =
     let M : ℕ = s .args .major in
     let here : s .args .up * s .args .k ≤ s .args .up * M = mul-le-mul-left (s .args .up) (omega arith) in
     let most : s .args .up * M ≤ 524288 * M = mul-le-mul-right M (omega arith) in
-    let small : (s .args .up * s .args .k + (M - 1)) / (2 * M) < 524289 = div-lt-iff-lt-mul {k = 2 * M} {x = s .args .up * s .args .k + (M - 1)} {y = 524289} (omega arith) .1 (omega arith) in
+    let small : (s .args .up * s .args .k + (M - 1)) / (2 * M) < 524289 =
+    div-lt-iff-lt-mul {k = 2 * M} {x = s .args .up * s .args .k + (M - 1)} {y = 524289} (omega arith) .1 (omega arith) in
     omega arith
 
 returns-2 : tie.Need-returns-2

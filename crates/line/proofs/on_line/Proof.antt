@@ -34,7 +34,8 @@ module _ (c : tie.Else2) where
   down : pos 0 ≤ℤ s .args .y
   down = lt-false (s .fits .y) (sfits-lit {z = pos 0} tt) (c .if2 .left)
 
-  at-naturals : onLine (s .args .wide) (s .args .high) (pos (natAbs (toZ w64 (ofZ w64 (s .args .x))))) (pos (natAbs (toZ w64 (ofZ w64 (s .args .y))))) ≡ onLine (s .args .wide) (s .args .high) (s .args .x) (s .args .y)
+  at-naturals : onLine (s .args .wide) (s .args .high) (pos (natAbs (toZ w64 (ofZ w64 (s .args .x))))) (pos (natAbs (toZ w64 (ofZ w64 (s .args .y)))))
+      ≡ onLine (s .args .wide) (s .args .high) (s .args .x) (s .args .y)
   at-naturals = ap₂ (onLine (s .args .wide) (s .args .high)) (index-is (s .fits .x) right) (index-is (s .fits .y) down)
 
 cast-u : tie.Need-cast-u

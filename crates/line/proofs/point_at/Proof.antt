@@ -59,7 +59,12 @@ module _ (c : tie.After-moves-at) where
   m-read : Has w32 (toZ w32 (c .moves-at .result)) (pos (c .moves-at .result)) 262144
   m-read =
       same-bits
-      (omega (arith, m-is, moves-minor (major (entry .args .start) (entry .args .end)) (minor (entry .args .start) (entry .args .end)) (entry .args .step) (entry .pre .1), minor-size (entry .pre .0 .0) (entry .pre .0 .1))) tt
+      (omega (
+        arith,
+        m-is,
+        moves-minor (major (entry .args .start) (entry .args .end)) (minor (entry .args .start) (entry .args .end)) (entry .args .step) (entry .pre .1),
+        minor-size (entry .pre .0 .0) (entry .pre .0 .1),
+      )) tt
 
   -- what `coordinate` asks and gives, along x and along y
   module _ {a d e : ℤ} (from : Coord a) (one : Has w32 (toZ w32 (ofZ w32 d)) d 1) (other : Has w32 (toZ w32 (ofZ w32 e)) e 1) where

@@ -35,10 +35,13 @@ returns c =
     let b = c .before .before .before .before .before .before .before .before .before .before in
     let h = b .before .before .before .before .pre in
     λ s e k at.
-    settles refl at (lt-yes (sym (tests-lt (threshold-read (at .stands .course) (at .stands .start) (at .stands .end)) (error-read (at .stands) (at .due))) ∙ b .if1 .taken)) (back (X h) .is) (back (Y h) .is) (back (E h) .is)
+    settles refl at (lt-yes (sym (tests-lt (threshold-read (at .stands .course) (at .stands .start) (at .stands .end)) (error-read (at .stands) (at .due))) ∙ b .if1 .taken))
+    (back (X h) .is) (back (Y h) .is) (back (E h) .is)
 
 returns-2 : tie.Need-returns-2
-returns-2 c = λ s e k at. settles-not at (lt-no (sym (tests-lt (threshold-read (at .stands .course) (at .stands .start) (at .stands .end)) (error-read (at .stands) (at .due))) ∙ c .if1 .left))
+returns-2 c =
+    λ s e k at.
+    settles-not at (lt-no (sym (tests-lt (threshold-read (at .stands .course) (at .stands .start) (at .stands .end)) (error-read (at .stands) (at .due))) ∙ c .if1 .left))
 
 pub settled-spec : {M : Type 1} → statement M
 settled-spec = tie.close (tie.spec add-t6 add-t7 sub-t8 returns returns-2)

@@ -30,7 +30,8 @@ take-line-requires c κs = c .before .before .before .before .pre .2
 
 returns-2 : tie.Need-returns-2
 returns-2 c =
-    let some : lastIs (c .before .before .before .before .before .args .st) ≡ true = sym (c .before .before .before .has-last .ensures) ∙ not-false _ (c .before .before .if1 .left) in
+    let some : lastIs (c .before .before .before .before .before .args .st) ≡ true =
+    sym (c .before .before .before .has-last .ensures) ∙ not-false _ (c .before .before .if1 .left) in
     rw some (c .take-line .ensures)
 
 pub count-last-spec : {M : Type 1} → statement M

@@ -6,10 +6,14 @@ use Rattle.minutes.proofs.count_some.Statement.{statement}
 use Rattle.minutes.proofs.count_some.Tie as tie
 
 slice-aggregate-take-lines : tie.Need-slice-aggregate-take-lines
-slice-aggregate-take-lines c = sym (length-take-le (c .before .before .args .st .end) (c .before .before .args .input .now) (omega (arith, c .before .before .pre .0 .most, c .before .before .pre .1)))
+slice-aggregate-take-lines c =
+    let s = c .before .before in
+    sym (length-take-le (s .args .st .end) (s .args .input .now) (omega (arith, s .pre .0 .most, s .pre .1)))
 
 take-lines-requires : tie.Need-take-lines-requires
-take-lines-requires c κs = (c .before .before .pre .2, omega (arith, c .before .before .pre .0 .ahead, length-take-le (c .before .before .args .st .end) (c .before .before .args .input .now) (omega (arith, c .before .before .pre .0 .most, c .before .before .pre .1))))
+take-lines-requires c κs =
+    let s = c .before .before in
+    (s .pre .2, omega (arith, s .pre .0 .ahead, length-take-le (s .args .st .end) (s .args .input .now) (omega (arith, s .pre .0 .most, s .pre .1))))
 
 returns : tie.Need-returns
 returns c = c .take-lines .ensures

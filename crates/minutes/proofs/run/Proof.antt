@@ -27,7 +27,9 @@ no-lines-requires : tie.Need-no-lines-requires Inv-loop μ-loop
 no-lines-requires c κs = search needs
 
 loop-holds : tie.Need-loop-holds Inv-loop μ-loop
-loop-holds c = starts (c .before .before .before .before .args .out .now) (c .before .start .result) (c .before .before .before .before .args .input .now) (c .no-lines .result) (c .before .start .ensures) (c .no-lines .ensures) (c .before .before .before .before .pre .0)
+loop-holds c =
+    let s = c .before .before .before .before in
+    starts (s .args .out .now) (c .before .start .result) (s .args .input .now) (c .no-lines .result) (c .before .start .ensures) (c .no-lines .ensures) (s .pre .0)
 
 goes-on-requires : tie.Need-goes-on-requires Inv-loop μ-loop
 goes-on-requires c κs = search needs
@@ -44,25 +46,42 @@ on c = sym (c .before .goes-on .ensures) ∙ c .if1 .taken
 
 refill-requires : tie.Need-refill-requires Inv-loop μ-loop
 refill-requires c κs =
+    let a = c .before .before .before .before .before .before .before .before .before .before .before .before .args in
     let l = c .before .before .before .before .before .before .before .loop in
     let s = c .before .before .before .count-some in
     let m : ℕ × Tally = (s .result .next, s .result .tally) in (
-      next-within (c .before .before .before .before .before .before .before .before .before .before .before .before .args .out .now) (l .st) (l .input) (l .tally) (l .inv) m (s .ensures) (c .before .stands-at .result) (c .before .stands-at .ensures),
-      omega (arith, some-turns (l .st) (on (c .before .before .before .before .before)), same-turns (c .before .before .before .before .before .before .before .before .before .before .before .before .args .out .now) (l .st) (l .input) (l .tally) (l .inv) m (s .ensures) (c .before .stands-at .result) (c .before .stands-at .ensures)),
+      next-within (a .out .now) (l .st) (l .input) (l .tally) (l .inv) m (s .ensures) (c .before .stands-at .result) (c .before .stands-at .ensures),
+      omega (
+        arith,
+        some-turns (l .st) (on (c .before .before .before .before .before)),
+        same-turns (a .out .now) (l .st) (l .input) (l .tally) (l .inv) m (s .ensures) (c .before .stands-at .result) (c .before .stands-at .ensures),
+      ),
       l .inv .size,
     )
 
 loop-less : tie.Need-loop-less Inv-loop μ-loop
 loop-less c =
+    let stands-at = c .before .before .before .before .stands-at in
+    let refill = c .before .before .refill in
     let l = c .before .before .before .before .before .before .before .before .before .before .loop in
     let s = c .before .before .before .before .before .before .count-some in
-    omega (arith, some-turns (l .st) (on (c .before .before .before .before .before .before .before .before)), same-turns (c .before .before .before .before .before .before .before .before .before .before .before .before .before .before .before .args .out .now) (l .st) (l .input) (l .tally) (l .inv) (s .result .next, s .result .tally) (s .ensures) (c .before .before .before .before .stands-at .result) (c .before .before .before .before .stands-at .ensures), refilled-turns (l .input) (c .before .before .before .before .stands-at .result) (c .before .before .refill .result) (c .before .before .refill .last .0) (c .before .before .refill .ensures))
+    omega (
+      arith,
+      some-turns (l .st) (on (c .before .before .before .before .before .before .before .before)),
+      same-turns (c .before .before .before .before .before .before .before .before .before .before .before .before .before .before .before .args .out .now) (l .st) (l .input)
+          (l .tally) (l .inv) (s .result .next, s .result .tally) (s .ensures) (stands-at .result) (stands-at .ensures),
+      refilled-turns (l .input) (stands-at .result) (refill .result) (refill .last .0) (refill .ensures),
+    )
 
 loop-again : tie.Need-loop-again Inv-loop μ-loop
 loop-again c =
+    let refill = c .before .before .refill in
+    let stands-at = c .before .before .before .before .stands-at in
     let l = c .before .before .before .before .before .before .before .before .before .before .loop in
     let s = c .before .before .before .before .before .before .count-some in
-    runs-on (c .before .before .before .before .before .before .before .before .before .before .before .before .before .before .before .args .out .now) (l .st) (l .input) (l .tally) (l .inv) (s .result .next, s .result .tally) (s .ensures) (c .before .before .before .before .stands-at .result) (c .before .before .before .before .stands-at .ensures) (c .before .before .refill .result) (c .before .before .refill .last .0) (on (c .before .before .before .before .before .before .before .before)) (c .before .before .refill .kept .0) (c .before .before .refill .ensures)
+    runs-on (c .before .before .before .before .before .before .before .before .before .before .before .before .before .before .before .args .out .now) (l .st) (l .input)
+    (l .tally) (l .inv) (s .result .next, s .result .tally) (s .ensures) (stands-at .result) (stands-at .ensures) (refill .result) (refill .last .0)
+    (on (c .before .before .before .before .before .before .before .before)) (refill .kept .0) (refill .ensures)
 
 count-last-requires : tie.Need-count-last-requires Inv-loop μ-loop
 count-last-requires c κs = let l = c .before .before .before .loop in (l .inv .within, l .inv .size, l .inv .few)
@@ -71,10 +90,15 @@ tell-requires : tie.Need-tell-requires Inv-loop μ-loop
 tell-requires c κs = c .before .before .before .before .before .before .before .before .before .before .before .pre .1
 
 empty-requires : tie.Need-empty-requires Inv-loop μ-loop
-empty-requires c κs = omega (arith, c .before .before .before .tell .ensures .1, c .before .before .before .tell .kept .0, c .before .before .before .before .before .before .before .before .before .before .before .before .before .before .before .pre .1)
+empty-requires c κs =
+    let tell = c .before .before .before .tell in
+    omega
+    (arith, tell .ensures .1, tell .kept .0, c .before .before .before .before .before .before .before .before .before .before .before .before .before .before .before .pre .1)
 
 same-length : tie.Need-same-length Inv-loop μ-loop
-same-length c = c .before .before .before .before .before .before .before .before .before .before .before .loop .inv .size ∙ sym (c .before .before .before .before .before .before .before .before .before .before .before .before .before .before .before .before .pre .0)
+same-length c =
+    c .before .before .before .before .before .before .before .before .before .before .before .loop .inv .size
+    ∙ sym (c .before .before .before .before .before .before .before .before .before .before .before .before .before .before .before .before .pre .0)
 
 same-length-2 : tie.Need-same-length-2 Inv-loop μ-loop
 same-length-2 c = search needs
@@ -89,7 +113,9 @@ returns c =
       input = l .input;
       left = (l .tally, out);
       ran = l .inv .ran;
-      over = sym (c .before .before .before .before .before .before .before .before .before .before .goes-on .ensures) ∙ c .before .before .before .before .before .before .before .before .before .if1 .left;
+      over =
+          sym (c .before .before .before .before .before .before .before .before .before .before .goes-on .ensures)
+          ∙ c .before .before .before .before .before .before .before .before .before .if1 .left;
       done =
           c .empty .ensures ∙ ap (λ (p : State × List ℕ). emptied (p .0) w) (c .before .before .before .before .tell .ensures .0)
           ∙ ap (λ (t : Tally). emptied (told (l .st) (t .count) out .0) w) (c .before .before .before .before .before .before .before .count-last .ensures);

@@ -18,16 +18,20 @@ stands-at-requires c κs = search needs
 
 returns : tie.Need-returns
 returns c =
-    let a = c .before .before .before .args in
-    (ap (λ (q : State). (q, a .out .now)) (c .stands-at .ensures) ∙ told-early (a .st) (a .k) (a .out .now) (c .before .if1 .taken), omega (arith, ap (λ (q : State). q .at) (c .stands-at .ensures)))
+    let a = c .before .before .before .args in (
+      ap (λ (q : State). (q, a .out .now)) (c .stands-at .ensures) ∙ told-early (a .st) (a .k) (a .out .now) (c .before .if1 .taken),
+      omega (arith, ap (λ (q : State). q .at) (c .stands-at .ensures)),
+    )
 
 stands-at-requires-2 : tie.Need-stands-at-requires-2
 stands-at-requires-2 c κs = search needs
 
 returns-2 : tie.Need-returns-2
 returns-2 c =
-    let a = c .before .before .before .before .args in
-    (ap (λ (q : State). (q, a .out .now)) (c .stands-at2 .ensures) ∙ told-unread (a .st) (a .k) (a .out .now) (c .before .before .if1 .left) (c .before .if2 .taken), omega (arith, ap (λ (q : State). q .at) (c .stands-at2 .ensures)))
+    let a = c .before .before .before .before .args in (
+      ap (λ (q : State). (q, a .out .now)) (c .stands-at2 .ensures) ∙ told-unread (a .st) (a .k) (a .out .now) (c .before .before .if1 .left) (c .before .if2 .taken),
+      omega (arith, ap (λ (q : State). q .at) (c .stands-at2 .ensures)),
+    )
 
 write-count-requires : tie.Need-write-count-requires
 write-count-requires c κs = omega (arith, c .before .before .before .before .pre)

@@ -11,10 +11,14 @@ use Rattle.numbers.proofs.answer_some.Statement.{statement}
 use Rattle.numbers.proofs.answer_some.Tie as tie
 
 slice-aggregate-answer-lines : tie.Need-slice-aggregate-answer-lines
-slice-aggregate-answer-lines c = sym (there-is (c .before .before .before .args .input .now) (c .before .before .before .args .st) (c .before .before .before .args .out .now) (c .before .before .before .pre))
+slice-aggregate-answer-lines c =
+    let s = c .before .before .before in
+    sym (there-is (s .args .input .now) (s .args .st) (s .args .out .now) (s .pre))
 
 answer-lines-requires : tie.Need-answer-lines-requires
-answer-lines-requires c κs = omega (arith, c .before .before .before .before .pre .within .ahead, there-is (c .before .before .before .before .args .input .now) (c .before .before .before .before .args .st) (c .before .before .before .before .args .out .now) (c .before .before .before .before .pre))
+answer-lines-requires c κs =
+    let s = c .before .before .before .before in
+    omega (arith, s .pre .within .ahead, there-is (s .args .input .now) (s .args .st) (s .args .out .now) (s .pre))
 
 stands-at-requires : tie.Need-stands-at-requires
 stands-at-requires c κs = search needs

@@ -40,7 +40,8 @@ same-length c = search needs
 returns-2 : tie.Need-returns-2
 returns-2 c =
     let st = c .before .before .before .before .before .before .before .before .before .before .args .st in
-    let some : lastIs st ≡ true = sym (c .before .before .before .before .before .before .before .has-last .ensures) ∙ not-false _ (c .before .before .before .before .before .before .if1 .left) in
+    let some : lastIs st ≡ true =
+    sym (c .before .before .before .before .before .before .before .has-last .ensures) ∙ not-false _ (c .before .before .before .before .before .before .if1 .left) in
     let w = c .before .before .before .answer-line in
     rw some (ap (λ (q : State). (q, w .last .1 .0)) (c .stands-at .ensures) ∙ ap₂ (λ (k : ℕ) (l : List ℕ). (standsAt st (st .end) k, l)) (w .ensures .0) (w .ensures .1))
 

@@ -106,7 +106,12 @@ empty-requires : tie.Need-empty-requires Inv-loop μ-loop
 empty-requires c κs =
     let w = c .before .before .before in
     let l = ended w .loop in
-    omega (arith, w .last-line .kept .1 .0, l .inv .stands .out-size, last-fits answer 72 answer-short (l .st) (l .input) (l .out) (l .inv .stands) (all w) (w .last-line .ensures) (omega arith))
+    omega (
+      arith,
+      w .last-line .kept .1 .0,
+      l .inv .stands .out-size,
+      last-fits answer 72 answer-short (l .st) (l .input) (l .out) (l .inv .stands) (all w) (w .last-line .ensures) (omega arith),
+    )
 
 same-length : tie.Need-same-length Inv-loop μ-loop
 same-length c =
@@ -123,7 +128,8 @@ returns c =
     let w = c .before .before .before .before in
     let l = ended w .loop in
     let off : goesOn (l .st) ≡ false = sym (w .before .before .before .before .goes-on .ensures) ∙ w .before .before .before .if1 .left in
-    over bytes Any (afterLines answer 72) (entry w .args .out .now) (afterLast answer) (l .st) (l .input) (l .out) (l .inv) off (all w) (w .last-line .ensures) (c .empty .result) (c .empty .ensures)
+    over bytes Any (afterLines answer 72) (entry w .args .out .now) (afterLast answer) (l .st) (l .input) (l .out) (l .inv) off (all w) (w .last-line .ensures)
+    (c .empty .result) (c .empty .ensures)
 
 pub run-spec : {M : Type 1} → statement M
 run-spec =

@@ -18,12 +18,15 @@ shift-requires : tie.Need-shift-requires
 shift-requires c κs = search needs
 
 shr-result : tie.Need-shr-result
-shr-result c = omega (arith, shift-small (c .before .before .args .depth) (c .before .before .args .x) (c .before .before .pre .good) (c .before .before .pre .small) (c .shift .ensures))
+shr-result c =
+    let s = c .before .before in
+    omega (arith, shift-small (s .args .depth) (s .args .x) (s .pre .good) (s .pre .small) (c .shift .ensures))
 
 returns : tie.Need-returns
 returns c =
-    ap₂ (λ (m s : ℕ). bitAnd (c .before .before .args .v) m / 2 ^ s) (c .before .mask .ensures) (c .shift .ensures)
-    ∙ seen (c .before .before .args .depth) (c .before .before .args .x) (c .before .before .pre .good) (c .before .before .pre .small) (c .before .before .args .v) (c .before .before .fits .v .fits)
+    let a = c .before .before in
+    ap₂ (λ (m s : ℕ). bitAnd (a .args .v) m / 2 ^ s) (c .before .mask .ensures) (c .shift .ensures)
+    ∙ seen (a .args .depth) (a .args .x) (a .pre .good) (a .pre .small) (a .args .v) (a .fits .v .fits)
 
 pub field-of-spec : {M : Type 1} → statement M
 field-of-spec = tie.close (tie.spec mask-requires cast-result shift-requires shr-result returns)

@@ -47,9 +47,11 @@ same-length-2 c = search needs
 
 returns-2 : tie.Need-returns-2
 returns-2 c =
+    let repeat-pixel = c .before .before .repeat-pixel in
     let s = c .before .before .before .before .before .before in
     let a = s .args in
-    run-of-pixels (a .depth) (a .big) (a .colour) (length (a .part .now)) (a .part .now) (c .before .before .repeat-pixel .last .0) (s .pre .0) (le-of-lt (c .before .before .before .before .if1 .left)) refl (c .before .before .repeat-pixel .kept .0) (c .before .before .repeat-pixel .ensures)
+    run-of-pixels (a .depth) (a .big) (a .colour) (length (a .part .now)) (a .part .now) (repeat-pixel .last .0) (s .pre .0)
+    (le-of-lt (c .before .before .before .before .if1 .left)) refl (repeat-pixel .kept .0) (repeat-pixel .ensures)
 
 pub fill-part-spec : {M : Type 1} → statement M
 fill-part-spec =

@@ -23,20 +23,27 @@ returns-2 : tie.Need-returns-2
 returns-2 c = pattern-2 (c .before .before .args .depth) (c .before .before .args .colour) (c .if2 .taken) (c .before .before .pre .2) .1
 
 mul-result-3 : tie.Need-mul-result-3
-mul-result-3 c = record { fits = omega (arith, pattern-4 (c .before .before .before .args .depth) (c .before .before .before .args .colour) (c .if3 .taken) (c .before .before .before .pre .2) .0) }
+mul-result-3 c =
+    let s = c .before .before .before in
+    record { fits = omega (arith, pattern-4 (s .args .depth) (s .args .colour) (c .if3 .taken) (s .pre .2) .0) }
 
 cast-result-3 : tie.Need-cast-result-3
-cast-result-3 c = record { fits = pattern-4 (c .before .before .before .args .depth) (c .before .before .before .args .colour) (c .if3 .taken) (c .before .before .before .pre .2) .0 }
+cast-result-3 c =
+    let s = c .before .before .before in
+    record { fits = pattern-4 (s .args .depth) (s .args .colour) (c .if3 .taken) (s .pre .2) .0 }
 
 returns-3 : tie.Need-returns-3
 returns-3 c = pattern-4 (c .before .before .before .args .depth) (c .before .before .before .args .colour) (c .if3 .taken) (c .before .before .before .pre .2) .1
 
 cast-result-4 : tie.Need-cast-result-4
 cast-result-4 c =
-    record { fits = pattern-8 (c .before .before .before .args .depth) (c .before .before .before .pre .0) (c .before .before .before .pre .1) (c .before .before .if1 .left) (c .before .if2 .left) (c .if3 .left) (c .before .before .before .args .colour) (c .before .before .before .pre .2) .0 }
+    let s = c .before .before .before in
+    record { fits = pattern-8 (s .args .depth) (s .pre .0) (s .pre .1) (c .before .before .if1 .left) (c .before .if2 .left) (c .if3 .left) (s .args .colour) (s .pre .2) .0 }
 
 returns-4 : tie.Need-returns-4
-returns-4 c = pattern-8 (c .before .before .before .args .depth) (c .before .before .before .pre .0) (c .before .before .before .pre .1) (c .before .before .if1 .left) (c .before .if2 .left) (c .if3 .left) (c .before .before .before .args .colour) (c .before .before .before .pre .2) .1
+returns-4 c =
+    let s = c .before .before .before in
+    pattern-8 (s .args .depth) (s .pre .0) (s .pre .1) (c .before .before .if1 .left) (c .before .if2 .left) (c .if3 .left) (s .args .colour) (s .pre .2) .1
 
 pub pattern-spec : {M : Type 1} → statement M
 pattern-spec =

@@ -35,9 +35,10 @@ loop-less c = omega arith
 
 loop-again : tie.Need-loop-again Inv-loop μ-loop
 loop-again c =
-    let a = c .before .before .before .args in
+    let s = c .before .before .before in
+    let a = s .args in
     let l = c .before .before .loop in
-    (omega arith, simp length-set (l .inv .1), repeat-turn (l .part) (a .part .now) (a .lag) (l .i) (c .before .before .before .pre) (l .inv .0) (c .before .loop-test .taken) (l .inv .2))
+    (omega arith, simp length-set (l .inv .1), repeat-turn (l .part) (a .part .now) (a .lag) (l .i) (s .pre) (l .inv .0) (c .before .loop-test .taken) (l .inv .2))
 
 same-length : tie.Need-same-length Inv-loop μ-loop
 same-length c = c .before .loop .inv .1

@@ -29,7 +29,8 @@ returns : tie.Need-returns
 returns c =
     let repeat = c .before .before .before .before .before .before in
     let least = repeat .before .before in
-    repeated-on (least .before .before .args .part .now) (repeat .repeat .last .0) (c .before .before .repeat2 .last .0) (least .least .result) (least .least .ensures) (repeat .repeat .kept .0) (repeat .repeat .ensures) (c .before .before .repeat2 .ensures)
+    repeated-on (least .before .before .args .part .now) (repeat .repeat .last .0) (c .before .before .repeat2 .last .0) (least .least .result) (least .least .ensures)
+    (repeat .repeat .kept .0) (repeat .repeat .ensures) (c .before .before .repeat2 .ensures)
 
 pub repeat-on-spec : {M : Type 1} → statement M
 repeat-on-spec =

@@ -23,19 +23,24 @@ store-requires : tie.Need-store-requires
 store-requires c κs = let p = c .before .before .before .pre .1 in simp length-take (omega arith)
 
 -- the buffer once the first pixel is stored is as long as before
-first : (c : tie.After-store) → length (c .store .last .0 ++ drop (c .before .before .before .before .args .parts) (c .before .before .before .before .args .part .now)) ≡ length (c .before .before .before .before .args .part .now)
+first : (c : tie.After-store)
+    → length (c .store .last .0 ++ drop (c .before .before .before .before .args .parts) (c .before .before .before .before .args .part .now))
+    ≡ length (c .before .before .before .before .args .part .now)
 first c =
     let s = c .before .before .before .before in
     let a = s .args in
     front-length (a .part .now) (c .store .last .0) (a .parts) (a .colour) (a .big) (s .pre .0) (s .pre .1) (s .pre .2) (c .store .ensures)
 
 slice-relend-prefix-repeat : tie.Need-slice-relend-prefix-repeat
-slice-relend-prefix-repeat c = let e = c .before .before .before .before .least .ensures in subst (λ (n : ℕ). c .before .before .before .before .least .result ≤ n) (sym (first (c .before .before))) (omega arith)
+slice-relend-prefix-repeat c =
+    let least = c .before .before .before .before .least in
+    let e = least .ensures in subst (λ (n : ℕ). least .result ≤ n) (sym (first (c .before .before))) (omega arith)
 
 slice-aggregate-repeat : tie.Need-slice-aggregate-repeat
 slice-aggregate-repeat c =
-    let e = c .before .before .before .before .before .least .ensures in
-    sym (length-take-le (c .before .before .before .before .before .least .result) _ (subst (λ (n : ℕ). c .before .before .before .before .before .least .result ≤ n) (sym (first (c .before .before .before))) (omega arith)))
+    let least = c .before .before .before .before .before .least in
+    let e = least .ensures in
+    sym (length-take-le (least .result) _ (subst (λ (n : ℕ). least .result ≤ n) (sym (first (c .before .before .before))) (omega arith)))
 
 repeat-requires : tie.Need-repeat-requires
 repeat-requires c κs = c .before .before .before .before .before .before .before .pre .0
@@ -50,7 +55,8 @@ same-length c =
     let s = store .before .before .before .before in
     let a = s .args in
     c .before .before .repeat-on .kept .0
-    ∙ all-length (a .part .now) (store .store .last .0) (a .parts) (a .colour) (a .big) (s .pre .0) (s .pre .1) (s .pre .2) (store .store .ensures) (repeat .repeat .last .0) (store .before .before .least .result) (store .before .before .least .ensures) (repeat .repeat .kept .0)
+    ∙ all-length (a .part .now) (store .store .last .0) (a .parts) (a .colour) (a .big) (s .pre .0) (s .pre .1) (s .pre .2) (store .store .ensures) (repeat .repeat .last .0)
+    (store .before .before .least .result) (store .before .before .least .ensures) (repeat .repeat .kept .0)
 
 returns : tie.Need-returns
 returns c =
@@ -58,7 +64,8 @@ returns c =
     let repeat = c .before .before .before .before .before .before in
     let s = store .before .before .before .before in
     let a = s .args in
-    pixels-repeated (a .part .now) (store .store .last .0) (a .parts) (a .colour) (a .big) (s .pre .0) (s .pre .1) (s .pre .2) (store .store .ensures) (repeat .repeat .last .0) (store .before .before .least .result) (store .before .before .least .ensures) (repeat .repeat .kept .0)
+    pixels-repeated (a .part .now) (store .store .last .0) (a .parts) (a .colour) (a .big) (s .pre .0) (s .pre .1) (s .pre .2) (store .store .ensures) (repeat .repeat .last .0)
+    (store .before .before .least .result) (store .before .before .least .ensures) (repeat .repeat .kept .0)
     (repeat .repeat .ensures) (c .before .before .repeat-on .last .0) (c .before .before .repeat-on .ensures)
 
 pub repeat-pixel-spec : {M : Type 1} → statement M

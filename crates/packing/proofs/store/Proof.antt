@@ -57,7 +57,10 @@ returns-3 : tie.Need-returns-3
 returns-3 c =
     let s = c .before .before .before .before .before .before .before in
     let b = s .args .part .now in
-    (λ i. set (set (set b 0 (c .before .before .before .before .before .byte-of-pixel .ensures i)) 1 (c .before .before .before .byte-of-pixel2 .ensures i)) 2 (c .before .byte-of-pixel3 .ensures i)) ∙ ap (written s) (sym (c .if3 .taken))
+    (λ i.
+    set (set (set b 0 (c .before .before .before .before .before .byte-of-pixel .ensures i)) 1 (c .before .before .before .byte-of-pixel2 .ensures i)) 2
+    (c .before .byte-of-pixel3 .ensures i))
+    ∙ ap (written s) (sym (c .if3 .taken))
 
 byte-of-pixel-requires-4 : tie.Need-byte-of-pixel-requires-4
 byte-of-pixel-requires-4 c κs = search needs
@@ -73,7 +76,11 @@ returns-4 c =
     let s = c .before .before .before .before .before .before .before .before in
     let b = s .args .part .now in
     let all : 4 ≡ length b = omega arith in
-    (λ i. set (set (set (set b 0 (c .before .before .before .before .before .before .byte-of-pixel .ensures i)) 1 (c .before .before .before .before .byte-of-pixel2 .ensures i)) 2 (c .before .before .byte-of-pixel3 .ensures i)) 3 (c .byte-of-pixel4 .ensures i)) ∙ ap (written s) all
+    (λ i.
+    set
+    (set (set (set b 0 (c .before .before .before .before .before .before .byte-of-pixel .ensures i)) 1 (c .before .before .before .before .byte-of-pixel2 .ensures i)) 2
+    (c .before .before .byte-of-pixel3 .ensures i)) 3 (c .byte-of-pixel4 .ensures i))
+    ∙ ap (written s) all
 
 pub store-spec : {M : Type 1} → statement M
 store-spec =

@@ -27,10 +27,11 @@ merge-requires c κs = search needs
 
 returns : tie.Need-returns
 returns c =
+    let shift = c .before .before .shift in
     let s = c .before .before .before in
     c .merge .ensures
-    ∙ ap (merged (s .args .v) ((s .args .colour * 2 ^ (c .before .before .shift .result)) % 4294967296)) (c .before .mask .ensures)
-    ∙ written (s .args .depth) (s .args .x) (s .pre .0 .good) (s .pre .0 .small) (c .before .before .shift .result) (c .before .before .shift .ensures) (s .args .colour) (s .pre .1) (s .args .v) (s .fits .v .fits)
+    ∙ ap (merged (s .args .v) ((s .args .colour * 2 ^ (shift .result)) % 4294967296)) (c .before .mask .ensures)
+    ∙ written (s .args .depth) (s .args .x) (s .pre .0 .good) (s .pre .0 .small) (shift .result) (shift .ensures) (s .args .colour) (s .pre .1) (s .args .v) (s .fits .v .fits)
 
 pub with-field-spec : {M : Type 1} → statement M
 with-field-spec = tie.close (tie.spec shift-requires shl-merge cast-merge mask-requires merge-requires returns)

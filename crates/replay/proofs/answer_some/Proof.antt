@@ -12,7 +12,9 @@ use Rattle.replay.proofs.answer_some.Statement.{statement}
 use Rattle.replay.proofs.answer_some.Tie as tie
 
 slice-aggregate-answer-lines : tie.Need-slice-aggregate-answer-lines
-slice-aggregate-answer-lines c = sym (there-is (c .before .before .before .before .args .input .now) (c .before .before .before .before .args .st) (c .before .before .before .before .args .out .now) (c .before .before .before .before .pre .0))
+slice-aggregate-answer-lines c =
+    let s = c .before .before .before .before in
+    sym (there-is (s .args .input .now) (s .args .st) (s .args .out .now) (s .pre .0))
 
 answer-lines-requires : tie.Need-answer-lines-requires
 answer-lines-requires c κs =

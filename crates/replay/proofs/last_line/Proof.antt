@@ -44,7 +44,9 @@ returns-2 : tie.Need-returns-2
 returns-2 c =
     let s = c .before .before .before .before .before .before .before .before .before .before .before .before .before .before .before in
     let st = s .args .st in
-    let some : lastIs st ≡ true = sym (c .before .before .before .before .before .before .before .before .before .before .before .has-last .ensures) ∙ not-false _ (c .before .before .before .before .before .before .before .before .before .before .if1 .left) in
+    let some : lastIs st ≡ true =
+    sym (c .before .before .before .before .before .before .before .before .before .before .before .has-last .ensures)
+    ∙ not-false _ (c .before .before .before .before .before .before .before .before .before .before .if1 .left) in
     let w = c .before .before .before .before .before .before .answer-line in
     let e = c .stands-at .ensures in (
       rw some

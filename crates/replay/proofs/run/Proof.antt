@@ -27,7 +27,8 @@ first-screen-requires c κs = search needs
 loop-holds : tie.Need-loop-holds Inv-loop μ-loop
 loop-holds c =
     let s = c .before .before .before .before .before in
-    begins (s .args .input .now) (s .args .memory .now) (s .args .out .now) (c .before .start .result) (c .first-screen .result) (c .before .start .ensures) (c .first-screen .ensures) (s .pre .0) (s .pre .1) (s .pre .2)
+    begins (s .args .input .now) (s .args .memory .now) (s .args .out .now) (c .before .start .result) (c .first-screen .result) (c .before .start .ensures)
+    (c .first-screen .ensures) (s .pre .0) (s .pre .1) (s .pre .2)
 
 goes-on-requires : tie.Need-goes-on-requires Inv-loop μ-loop
 goes-on-requires c κs = search needs
@@ -59,7 +60,8 @@ module _ (c : tie.After-answer-some Inv-loop μ-loop) where
   kept : Kept bytes Sound (head .loop .st) left
   kept =
       let a = c .answer-some in
-      lines-keep (head .loop .input) (head .loop .st) work (head .loop .inv .stands) (head .loop .inv .sound) left (a .ensures .0) (a .ensures .1) (a .kept .1 .1 .0) (a .kept .1 .0)
+      lines-keep (head .loop .input) (head .loop .st) work (head .loop .inv .stands) (head .loop .inv .sound) left (a .ensures .0) (a .ensures .1) (a .kept .1 .1 .0)
+      (a .kept .1 .0)
 
 flush-requires : tie.Need-flush-requires Inv-loop μ-loop
 flush-requires c κs = kept (c .before .before .before .before .before .before) .filled
@@ -68,7 +70,8 @@ refill-requires : tie.Need-refill-requires Inv-loop μ-loop
 refill-requires c κs =
     let a = c .before .before .before .before .before .before .before .before in
     let l = head a .loop in
-    may-read bytes Sound afterLines (began a) (l .st) (l .input) (work a) (l .inv) (on (a .before .before .before .before)) (left a) (a .answer-some .ensures .0) (kept a) (c .before .flush .result) (c .before .flush .ensures)
+    may-read bytes Sound afterLines (began a) (l .st) (l .input) (work a) (l .inv) (on (a .before .before .before .before)) (left a) (a .answer-some .ensures .0) (kept a)
+    (c .before .flush .result) (c .before .flush .ensures)
 
 -- after the read that follows
 module _ (c : tie.After-refill Inv-loop μ-loop) where
@@ -99,23 +102,40 @@ last-line-requires : tie.Need-last-line-requires Inv-loop μ-loop
 last-line-requires c κs = (c .before .before .before .before .before .loop .inv .stands, c .before .before .before .before .before .loop .inv .sound)
 
 empty-requires : tie.Need-empty-requires Inv-loop μ-loop
-empty-requires c κs = omega (arith, c .before .before .before .before .before .last-line .ensures .1, c .before .before .before .before .before .last-line .kept .1 .1 .0, c .before .before .before .before .before .before .before .before .before .before .before .loop .inv .stands .out-size)
+empty-requires c κs =
+    let last-line = c .before .before .before .before .before .last-line in
+    omega (
+      arith,
+      last-line .ensures .1,
+      last-line .kept .1 .1 .0,
+      c .before .before .before .before .before .before .before .before .before .before .before .loop .inv .stands .out-size,
+    )
 
 same-length : tie.Need-same-length Inv-loop μ-loop
-same-length c = c .before .before .before .before .before .before .before .before .before .before .before .before .loop .inv .stands .input-size ∙ sym (c .before .before .before .before .before .before .before .before .before .before .before .before .before .before .before .before .before .before .pre .0)
+same-length c =
+    c .before .before .before .before .before .before .before .before .before .before .before .before .loop .inv .stands .input-size
+    ∙ sym (c .before .before .before .before .before .before .before .before .before .before .before .before .before .before .before .before .before .before .pre .0)
 
 same-length-2 : tie.Need-same-length-2 Inv-loop μ-loop
-same-length-2 c = c .before .before .before .before .before .before .last-line .kept .1 .0 ∙ c .before .before .before .before .before .before .before .before .before .before .before .before .loop .inv .sound .1 ∙ sym (c .before .before .before .before .before .before .before .before .before .before .before .before .before .before .before .before .before .before .pre .1)
+same-length-2 c =
+    c .before .before .before .before .before .before .last-line .kept .1 .0
+    ∙ c .before .before .before .before .before .before .before .before .before .before .before .before .loop .inv .sound .1
+    ∙ sym (c .before .before .before .before .before .before .before .before .before .before .before .before .before .before .before .before .before .before .pre .1)
 
 same-length-3 : tie.Need-same-length-3 Inv-loop μ-loop
-same-length-3 c = c .before .before .before .before .before .before .last-line .kept .1 .1 .0 ∙ c .before .before .before .before .before .before .before .before .before .before .before .before .loop .inv .stands .out-size ∙ sym (c .before .before .before .before .before .before .before .before .before .before .before .before .before .before .before .before .before .before .pre .2)
+same-length-3 c =
+    c .before .before .before .before .before .before .last-line .kept .1 .1 .0
+    ∙ c .before .before .before .before .before .before .before .before .before .before .before .before .loop .inv .stands .out-size
+    ∙ sym (c .before .before .before .before .before .before .before .before .before .before .before .before .before .before .before .before .before .before .pre .2)
 
 returns : tie.Need-returns Inv-loop μ-loop
 returns c =
     let s = c .before .before .before .before .before .before .before .before .before .before .before .before .before .before .before .before .before .before .args in
     let l = c .before .before .before .before .before .before .before .before .before .before .before .before .loop in
     let w = c .before .before .before .before .before .before .last-line in
-    over bytes Sound afterLines (first (s .out .now) (s .memory .now)) afterLast (l .st) (l .input) (l .out, (l .screen, l .memory)) (l .inv) (sym (c .before .before .before .before .before .before .before .before .before .before .before .goes-on .ensures) ∙ c .before .before .before .before .before .before .before .before .before .before .if1 .left)
+    over bytes Sound afterLines (first (s .out .now) (s .memory .now)) afterLast (l .st) (l .input) (l .out, (l .screen, l .memory)) (l .inv)
+    (sym (c .before .before .before .before .before .before .before .before .before .before .before .goes-on .ensures)
+    ∙ c .before .before .before .before .before .before .before .before .before .before .if1 .left)
     (w .result .st, (w .last .1 .1 .0, (w .result .screen, w .last .1 .0))) (w .ensures .0) (c .empty .result) (c .empty .ensures)
 
 pub run-spec : {M : Type 1} → statement M

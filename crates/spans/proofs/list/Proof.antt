@@ -25,8 +25,9 @@ hand-over-requires c κs =
 
 loop-holds : tie.Need-loop-holds Inv-loop μ-loop
 loop-holds c =
+    let s = c .before .before .before .before .before .before .before in
     let w = c .before .before .before .before .first-part in
-    (w .kept .0 ∙ c .before .before .before .before .before .before .before .pre, first-handed (c .before .before .before .before .before .before .before .args .v) (w .result) (w .ensures .0) (c .hand-over .ensures))
+    (w .kept .0 ∙ s .pre, first-handed (s .args .v) (w .result) (w .ensures .0) (c .hand-over .ensures))
 
 next-part-requires : tie.Need-next-part-requires Inv-loop μ-loop
 next-part-requires c κs = (c .before .before .before .loop .inv .0, c .before .before .before .loop .inv .1 .below)
@@ -35,7 +36,9 @@ hand-over-requires-2 : tie.Need-hand-over-requires-2 Inv-loop μ-loop
 hand-over-requires-2 c κs =
     let l = c .before .before .before .before .before .before .before .loop in
     let w = c .before .before .before .next-part in
-    let room = next-room (c .before .before .before .before .before .before .before .before .before .before .before .before .before .before .before .args .v) (l .part) (w .result) (l .inv .1) (w .ensures .0) in
+    let room =
+    next-room (c .before .before .before .before .before .before .before .before .before .before .before .before .before .before .before .args .v) (l .part) (w .result)
+    (l .inv .1) (w .ensures .0) in
     (omega (arith, room .0, w .kept .0, l .inv .0), omega (arith, room .1))
 
 loop-less : tie.Need-loop-less Inv-loop μ-loop
@@ -44,14 +47,19 @@ loop-less c = omega (arith, ap (λ (q : Part). q .left) (c .before .before .befo
 loop-again : tie.Need-loop-again Inv-loop μ-loop
 loop-again c =
     let l = c .before .before .before .before .before .before .before .before .loop in
-    let w = c .before .before .before .before .next-part in
-    (w .kept .0 ∙ l .inv .0, next-handed (c .before .before .before .before .before .before .before .before .before .before .before .before .before .before .before .before .args .v) (l .part) (w .result) (l .inv .1) (w .ensures .0) (c .hand-over2 .ensures))
+    let w = c .before .before .before .before .next-part in (
+      w .kept .0 ∙ l .inv .0,
+      next-handed (c .before .before .before .before .before .before .before .before .before .before .before .before .before .before .before .before .args .v) (l .part)
+          (w .result) (l .inv .1) (w .ensures .0) (c .hand-over2 .ensures),
+    )
 
 same-length : tie.Need-same-length Inv-loop μ-loop
 same-length c = omega (arith, c .before .before .loop .inv .0, c .before .before .before .before .before .before .before .before .before .before .pre)
 
 returns : tie.Need-returns Inv-loop μ-loop
-returns c = all-handed (c .before .before .before .before .before .before .before .before .before .before .args .v) (c .before .before .loop .part) (c .before .before .loop .inv .1) (c .if1 .left)
+returns c =
+    all-handed (c .before .before .before .before .before .before .before .before .before .before .args .v) (c .before .before .loop .part) (c .before .before .loop .inv .1)
+    (c .if1 .left)
 
 pub list-spec : {M : Type 1} → statement M
 list-spec =

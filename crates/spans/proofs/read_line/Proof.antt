@@ -47,8 +47,11 @@ over b g e f = rw (e, f)
 
 returns-2 : tie.Need-returns-2 Inv-loop μ-loop
 returns-2 c =
-    let l = c .before .before .before .before .before .loop in
-    (l .inv .0, over (whole (l .input) (l .st)) (goesOn (l .st)) (sym (c .before .before .before .has-line .ensures) ∙ c .before .before .if1 .left) (sym (c .before .goes-on .ensures) ∙ not-true _ (c .if2 .taken)))
+    let l = c .before .before .before .before .before .loop in (
+      l .inv .0,
+      over (whole (l .input) (l .st)) (goesOn (l .st)) (sym (c .before .before .before .has-line .ensures) ∙ c .before .before .if1 .left)
+          (sym (c .before .goes-on .ensures) ∙ not-true _ (c .if2 .taken)),
+    )
 
 refill-requires : tie.Need-refill-requires Inv-loop μ-loop
 refill-requires c κs =
@@ -57,13 +60,19 @@ refill-requires c κs =
 
 loop-less : tie.Need-loop-less Inv-loop μ-loop
 loop-less c =
+    let refill = c .before .before .refill in
     let l = c .before .before .before .before .before .before .before .before .before .loop in
-    omega (arith, some-turns (l .st) (sym (c .before .before .before .before .before .goes-on .ensures) ∙ not-false _ (c .before .before .before .before .if2 .left)), refilled-turns (l .input) (l .st) (c .before .before .refill .result) (c .before .before .refill .last .0) (c .before .before .refill .ensures))
+    omega (
+      arith,
+      some-turns (l .st) (sym (c .before .before .before .before .before .goes-on .ensures) ∙ not-false _ (c .before .before .before .before .if2 .left)),
+      refilled-turns (l .input) (l .st) (refill .result) (refill .last .0) (refill .ensures),
+    )
 
 loop-again : tie.Need-loop-again Inv-loop μ-loop
 loop-again c =
+    let refill = c .before .before .refill in
     let l = c .before .before .before .before .before .before .before .before .before .loop in
-    (refilled-within (l .input) (l .st) (c .before .before .refill .result) (c .before .before .refill .last .0) (l .inv .0) (c .before .before .refill .ensures), c .before .before .refill .kept .0 ∙ l .inv .1)
+    (refilled-within (l .input) (l .st) (refill .result) (refill .last .0) (l .inv .0) (refill .ensures), refill .kept .0 ∙ l .inv .1)
 
 pub read-line-spec : {M : Type 1} → statement M
 read-line-spec =

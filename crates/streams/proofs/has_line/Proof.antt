@@ -8,10 +8,14 @@ use Rattle.streams.proofs.has_line.Statement.{statement}
 use Rattle.streams.proofs.has_line.Tie as tie
 
 slice-aggregate-part-end : tie.Need-slice-aggregate-part-end
-slice-aggregate-part-end c = sym (length-take-le (c .before .before .args .st .end) (c .before .before .args .input .now) (omega (arith, c .before .before .pre .0 .most, c .before .before .pre .1)))
+slice-aggregate-part-end c =
+    let s = c .before .before in
+    sym (length-take-le (s .args .st .end) (s .args .input .now) (omega (arith, s .pre .0 .most, s .pre .1)))
 
 part-end-requires : tie.Need-part-end-requires
-part-end-requires c κs = omega (arith, c .before .before .pre .0 .ahead, length-take-le (c .before .before .args .st .end) (c .before .before .args .input .now) (omega (arith, c .before .before .pre .0 .most, c .before .before .pre .1)))
+part-end-requires c κs =
+    let s = c .before .before in
+    omega (arith, s .pre .0 .ahead, length-take-le (s .args .st .end) (s .args .input .now) (omega (arith, s .pre .0 .most, s .pre .1)))
 
 returns : tie.Need-returns
 returns c = ap (λ (k : ℕ). ltb k (c .before .before .before .args .st .end)) (c .part-end .ensures)

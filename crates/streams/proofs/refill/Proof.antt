@@ -39,7 +39,9 @@ keep-requires : tie.Need-keep-requires
 keep-requires c κs = search needs
 
 -- what is kept
-few : (c : tie.After-keep) → length (rest (c .before .before .before .before .before .before .args .input .now) (c .before .before .before .before .before .before .args .st)) ≤ length (c .before .before .before .before .before .before .args .input .now)
+few : (c : tie.After-keep)
+    → length (rest (c .before .before .before .before .before .before .args .input .now) (c .before .before .before .before .before .before .args .st))
+    ≤ length (c .before .before .before .before .before .before .args .input .now)
 few c =
     let s = c .before .before .before .before .before .before in
     omega (arith, s .pre .0 .most, s .pre .2, kept-count (s .args .input .now) (s .args .st .next) (s .args .st .end) 129 (omega (arith, s .pre .0 .most, s .pre .2)))
@@ -58,17 +60,31 @@ same-length-2 c = search needs
 
 returns-2 : tie.Need-returns-2
 returns-2 c =
+    let part-end = c .before .before .before .before .before .before .before .before .before .before .before .before .part-end in
+    let a = c .before .before .before .before .before .before .before .before .before in
     let s = c .before .before .before .before .before .before .before .before .before .before .before .before .before .before .before in
-    let k = c .before .before .before .before .before .before .before .before .before .keep in
+    let k = a .keep in
     let r = c .before .before .before .before .before .read-more in
     let input = s .args .input .now in
     let st = s .args .st in
-    did-read input st (c .before .before .before .before .before .before .before .before .before .before .before .before .part-end .result) (c .before .before .before .before .before .before .before .before .before .before .before .before .part-end .ensures) _ _ (c .before .before .before .before .before .before .before .before .before .before .before .if1 .left)
+    did-read input st (part-end .result) (part-end .ensures) _ _ (c .before .before .before .before .before .before .before .before .before .before .before .if1 .left)
     (record {
       count = r .result .count;
-      state = ap (λ (n : ℕ). record { next = 0; end = n + r .result .count; at = st .at; more = came input st (r .result .count) (r .result .failed) .more; unread = r .result .failed; unwritten = st .unwritten; turns = came input st 0 (r .result .failed) .turns }) (k .ensures .0);
+      state =
+          ap (λ (n : ℕ).
+          record {
+            next = 0;
+            end = n + r .result .count;
+            at = st .at;
+            more = came input st (r .result .count) (r .result .failed) .more;
+            unread = r .result .failed;
+            unwritten = st .unwritten;
+            turns = came input st 0 (r .result .failed) .turns;
+          }) (k .ensures .0);
       room = omega (arith, r .ensures .0, k .ensures .0, k .kept .0, s .pre .2);
-      kept = ap (λ (n : ℕ). take n (r .last .0)) (sym (k .ensures .0)) ∙ r .ensures .1 ∙ ap (λ (n : ℕ). take n (k .last .0)) (k .ensures .0) ∙ ap (take (length (rest input st))) (k .ensures .1) ∙ front input (rest input st) (few (c .before .before .before .before .before .before .before .before .before));
+      kept =
+          ap (λ (n : ℕ). take n (r .last .0)) (sym (k .ensures .0)) ∙ r .ensures .1 ∙ ap (λ (n : ℕ). take n (k .last .0)) (k .ensures .0)
+          ∙ ap (take (length (rest input st))) (k .ensures .1) ∙ front input (rest input st) (few a);
       none = r .ensures .2;
     })
 

@@ -27,7 +27,8 @@ turned : (x y u v : ℤ) → (y -ℤ x) *ℤ (v -ℤ u) ≡ (x -ℤ y) *ℤ (u -
 turned x y u v = rw (as-mk x, as-mk y, as-mk u, as-mk v) (simp mks (mk-eq _ _ _ _ (omega arith)))
 
 product : {x y u v : ℤ} → Coord x → Coord y → Coord u → Coord v → Has w64 (wide y x *ℤ wide v u) ((x -ℤ y) *ℤ (u -ℤ v)) 68719476736
-product {x} {y} {u} {v} hx hy hu hv = let p = times (back (difference hy hx)) (back (difference hv hu)) tt in subst (λ (z : ℤ). Has w64 (wide y x *ℤ wide v u) z 68719476736) (turned x y u v) p
+product {x} {y} {u} {v} hx hy hu hv =
+    let p = times (back (difference hy hx)) (back (difference hv hu)) tt in subst (λ (z : ℤ). Has w64 (wide y x *ℤ wide v u) z 68719476736) (turned x y u v) p
 
 cast-ax : tie.Need-cast-ax
 cast-ax c = let h = c .before .before .pre in fits (coord-wide (h .0 .x))
@@ -51,7 +52,9 @@ cast-by : tie.Need-cast-by
 cast-by c = let h = c .before .before .before .before .before .before .before .before .before .before .before .before .before .before .pre in fits (coord-wide (h .0 .y))
 
 cast-by-2 : tie.Need-cast-by-2
-cast-by-2 c = let h = c .before .before .before .before .before .before .before .before .before .before .before .before .before .before .before .before .pre in fits (coord-wide (h .2 .y))
+cast-by-2 c =
+    let h = c .before .before .before .before .before .before .before .before .before .before .before .before .before .before .before .before .pre in
+    fits (coord-wide (h .2 .y))
 
 sub-ax : tie.Need-sub-ax
 sub-ax c = let h = c .before .before .before .before .pre in fits (difference (h .0 .x) (h .1 .x))
@@ -63,16 +66,25 @@ sub-bx : tie.Need-sub-bx
 sub-bx c = let h = c .before .before .before .before .before .before .before .before .before .before .before .before .pre in fits (difference (h .0 .x) (h .2 .x))
 
 sub-by : tie.Need-sub-by
-sub-by c = let h = c .before .before .before .before .before .before .before .before .before .before .before .before .before .before .before .before .pre in fits (difference (h .0 .y) (h .2 .y))
+sub-by c =
+    let h = c .before .before .before .before .before .before .before .before .before .before .before .before .before .before .before .before .pre in
+    fits (difference (h .0 .y) (h .2 .y))
 
 mul-result : tie.Need-mul-result
-mul-result c = let h = c .before .before .before .before .before .before .before .before .before .before .before .before .before .before .before .before .pre in fits (product (h .1 .x) (h .0 .x) (h .2 .y) (h .0 .y))
+mul-result c =
+    let h = c .before .before .before .before .before .before .before .before .before .before .before .before .before .before .before .before .pre in
+    fits (product (h .1 .x) (h .0 .x) (h .2 .y) (h .0 .y))
 
 mul-result-2 : tie.Need-mul-result-2
-mul-result-2 c = let h = c .before .before .before .before .before .before .before .before .before .before .before .before .before .before .before .before .pre in fits (product (h .2 .x) (h .0 .x) (h .1 .y) (h .0 .y))
+mul-result-2 c =
+    let h = c .before .before .before .before .before .before .before .before .before .before .before .before .before .before .before .before .pre in
+    fits (product (h .2 .x) (h .0 .x) (h .1 .y) (h .0 .y))
 
 -- the area
-area : (c : tie.After-struct-told8) → (let g = c .before .before .before .before .before .before .before .before .before .before .before .before .before .before .before .before .args in Has w64 (toZ w64 (ofZ w64 (wide (g .p .0) (g .a .0) *ℤ wide (g .p .1) (g .b .1))) -ℤ toZ w64 (ofZ w64 (wide (g .p .0) (g .b .0) *ℤ wide (g .p .1) (g .a .1)))) (areaDoubled (g .p) (g .a) (g .b)) 137438953472)
+area : (c : tie.After-struct-told8)
+    → (let g = c .before .before .before .before .before .before .before .before .before .before .before .before .before .before .before .before .args in
+    Has w64 (toZ w64 (ofZ w64 (wide (g .p .0) (g .a .0) *ℤ wide (g .p .1) (g .b .1))) -ℤ toZ w64 (ofZ w64 (wide (g .p .0) (g .b .0) *ℤ wide (g .p .1) (g .a .1))))
+    (areaDoubled (g .p) (g .a) (g .b)) 137438953472)
 unfolding areaDoubled
 area c =
     let h = c .before .before .before .before .before .before .before .before .before .before .before .before .before .before .before .before .pre in

@@ -49,7 +49,8 @@ returns-2 c =
     let s = c .before .before .before .before .before .before in
     let g = s .args in
     let l : toZ w32 (ofZ w32 (g .end .1)) <ℤ toZ w32 (ofZ w32 (g .y)) = search tests in
-    sym (no-span (g .start) (g .end) (g .y) (λ x q. omega (arith, lt-nat l, eq-nat (y-is s), eq-nat (bottom-is s), le-nat (edge-rows (g .start) (g .end) (x, g .y) (s .pre .1) q .1))))
+    sym (no-span (g .start) (g .end) (g .y)
+    (λ x q. omega (arith, lt-nat l, eq-nat (y-is s), eq-nat (bottom-is s), le-nat (edge-rows (g .start) (g .end) (x, g .y) (s .pre .1) q .1))))
 
 distance-requires : tie.Need-distance-requires
 distance-requires c κs = search needs
@@ -78,7 +79,11 @@ module _ (c : tie.Else2) where
       le-trans (le-of (sym (y-is r))) (le-trans h (le-of (bottom-is r)))
 
   row-coord : Coord y
-  row-coord = record { low = le-trans (c .before .before .before .before .before .before .pre .0 .0 .y .low) from; high = le-trans to (c .before .before .before .before .before .before .pre .0 .1 .y .high) }
+  row-coord =
+      record {
+        low = le-trans (c .before .before .before .before .before .before .pre .0 .0 .y .low) from;
+        high = le-trans to (c .before .before .before .before .before .before .pre .0 .1 .y .high);
+      }
 
 -- the edge's width and height, and the row, counted from its start
 module _ (c : tie.After-distance) where
@@ -91,7 +96,9 @@ module _ (c : tie.After-distance) where
   H : Has w32 (toZ w32 (ofZ w32 (e a .1)) -ℤ toZ w32 (ofZ w32 (s a .1))) (pos (high (s a) (e a))) 262144
   unfolding high
   H =
-      let d = minus (back (coord (a .before .before .before .before .before .before .pre .0 .1 .y))) (back (coord (a .before .before .before .before .before .before .pre .0 .0 .y))) tt in
+      let d =
+      minus (back (coord (a .before .before .before .before .before .before .pre .0 .1 .y)))
+      (back (coord (a .before .before .before .before .before .before .pre .0 .0 .y))) tt in
       record { is = d .is ∙ size-pos _ (le-sub (s a .1) (e a .1) (a .before .before .before .before .before .before .pre .1)); size = d .size; room = d .room }
 
   R : Has w32 (toZ w32 (ofZ w32 (y a)) -ℤ toZ w32 (ofZ w32 (s a .1))) (pos (natAbs (y a -ℤ s a .1))) 262144
@@ -136,7 +143,9 @@ module _ (c : tie.After-stretch-on) where
   last-is = c .stretch-on .ensures .1 ∙ (λ i. lastOffset (nat-is (W (c .before)) i) (nat-is (H (c .before)) i) (nat-is (R (c .before)) i))
 
   few : (f ≤ 262144) × (l ≤ 262144)
-  few = let o = edge-offsets (s k) (e k) (y k) (from k) (to k) in omega (arith, o .some, o .wide, wide-size (k .before .before .before .before .before .before .pre .0 .0) (k .before .before .before .before .before .before .pre .0 .1))
+  few =
+      let o = edge-offsets (s k) (e k) (y k) (from k) (to k) in
+      omega (arith, o .some, o .wide, wide-size (k .before .before .before .before .before .before .pre .0 .0) (k .before .before .before .before .before .before .pre .0 .1))
 
   -- what `offset` asks, and what it gives of two of the numbers
   asked : (c .stretch-on .result .first ≤ 262144) × (c .stretch-on .result .last ≤ 262144)
@@ -170,10 +179,12 @@ module _ (c : tie.After-offset2) where
   abbrev d : tie.After-stretch-on
   d = c .before .before
 
-  first : Has w32 (toZ w32 (ofZ w32 (s (k d) .0)) +ℤ toZ w32 (ofZ w32 (c .before .offset .result))) (s (k d) .0 +ℤ cond (leZ (s (k d) .0) (e (k d) .0)) (pos (f d)) (negℤ (pos (l d)))) 393216
+  first : Has w32 (toZ w32 (ofZ w32 (s (k d) .0)) +ℤ toZ w32 (ofZ w32 (c .before .offset .result)))
+      (s (k d) .0 +ℤ cond (leZ (s (k d) .0) (e (k d) .0)) (pos (f d)) (negℤ (pos (l d)))) 393216
   first = plus (X d) (back (given d (c .before .offset .ensures) (first-is d) (last-is d) (few d .0) (few d .1))) tt
 
-  last : Has w32 (toZ w32 (ofZ w32 (s (k d) .0)) +ℤ toZ w32 (ofZ w32 (c .offset2 .result))) (s (k d) .0 +ℤ cond (leZ (s (k d) .0) (e (k d) .0)) (pos (l d)) (negℤ (pos (f d)))) 393216
+  last : Has w32 (toZ w32 (ofZ w32 (s (k d) .0)) +ℤ toZ w32 (ofZ w32 (c .offset2 .result))) (s (k d) .0 +ℤ cond (leZ (s (k d) .0) (e (k d) .0)) (pos (l d)) (negℤ (pos (f d))))
+      393216
   last = plus (X d) (back (given d (c .offset2 .ensures) (last-is d) (first-is d) (few d .1) (few d .0))) tt
 
 one : Has w32 (pos 1) (pos 1) 1

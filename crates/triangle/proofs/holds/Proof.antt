@@ -66,23 +66,42 @@ module _ (c : tie.After-area-doubled3) where
   p = c .before .before .before .before .before .args .p
 
   A : Has w64 (c .before .before .area-doubled .result) (areaDoubled p v1 v2) 549755813888
-  A = record { is = c .before .before .area-doubled .ensures; size = area-size p v1 v2 (in-box (c .before .before .before)) (c .before .before .before .before .before .pre .0) (c .before .before .before .before .before .pre .1); room = lit< tt }
+  A =
+      record {
+        is = c .before .before .area-doubled .ensures;
+        size = area-size p v1 v2 (in-box (c .before .before .before)) (c .before .before .before .before .before .pre .0) (c .before .before .before .before .before .pre .1);
+        room = lit< tt;
+      }
 
   B : Has w64 (c .before .area-doubled2 .result) (areaDoubled p v2 v3) 549755813888
-  B = record { is = c .before .area-doubled2 .ensures; size = area-size p v2 v3 (in-box (c .before .before .before)) (c .before .before .before .before .before .pre .1) (c .before .before .before .before .before .pre .2); room = lit< tt }
+  B =
+      record {
+        is = c .before .area-doubled2 .ensures;
+        size = area-size p v2 v3 (in-box (c .before .before .before)) (c .before .before .before .before .before .pre .1) (c .before .before .before .before .before .pre .2);
+        room = lit< tt;
+      }
 
   C : Has w64 (c .area-doubled3 .result) (areaDoubled p v3 v1) 549755813888
-  C = record { is = c .area-doubled3 .ensures; size = area-size p v3 v1 (in-box (c .before .before .before)) (c .before .before .before .before .before .pre .2) (c .before .before .before .before .before .pre .0); room = lit< tt }
+  C =
+      record {
+        is = c .area-doubled3 .ensures;
+        size = area-size p v3 v1 (in-box (c .before .before .before)) (c .before .before .before .before .before .pre .2) (c .before .before .before .before .before .pre .0);
+        room = lit< tt;
+      }
 
-  AB : Has w64 (toZ w64 (ofZ w64 (c .before .before .area-doubled .result)) +ℤ toZ w64 (ofZ w64 (c .before .area-doubled2 .result))) (areaDoubled p v1 v2 +ℤ areaDoubled p v2 v3) 1099511627776
+  AB : Has w64 (toZ w64 (ofZ w64 (c .before .before .area-doubled .result)) +ℤ toZ w64 (ofZ w64 (c .before .area-doubled2 .result))) (areaDoubled p v1 v2 +ℤ areaDoubled p v2 v3)
+      1099511627776
   AB = plus (back A) (back B) tt
 
-  ABC : Has w64 (toZ w64 (ofZ w64 (toZ w64 (ofZ w64 (c .before .before .area-doubled .result)) +ℤ toZ w64 (ofZ w64 (c .before .area-doubled2 .result)))) +ℤ toZ w64 (ofZ w64 (c .area-doubled3 .result))) ((areaDoubled p v1 v2 +ℤ areaDoubled p v2 v3) +ℤ areaDoubled p v3 v1) 1649267441664
+  ABC : Has w64 (toZ w64 (ofZ w64 (toZ w64 (ofZ w64 (c .before .before .area-doubled .result)) +ℤ toZ w64 (ofZ w64 (c .before .area-doubled2 .result)))) +ℤ toZ w64
+      (ofZ w64 (c .area-doubled3 .result))) ((areaDoubled p v1 v2 +ℤ areaDoubled p v2 v3) +ℤ areaDoubled p v3 v1) 1649267441664
   ABC = plus (back AB) (back C) tt
 
   -- the sum is the whole area
   abbrev sum : ℤ
-  sum = toZ w64 (ofZ w64 (toZ w64 (ofZ w64 (c .before .before .area-doubled .result)) +ℤ toZ w64 (ofZ w64 (c .before .area-doubled2 .result)))) +ℤ toZ w64 (ofZ w64 (c .area-doubled3 .result))
+  sum =
+      toZ w64 (ofZ w64 (toZ w64 (ofZ w64 (c .before .before .area-doubled .result)) +ℤ toZ w64 (ofZ w64 (c .before .area-doubled2 .result)))) +ℤ toZ w64
+      (ofZ w64 (c .area-doubled3 .result))
 
   whole : sum ≡ areaDoubled v1 v2 v3
   whole = ABC .is ∙ area-sum v1 v2 v3 p
@@ -145,7 +164,8 @@ returns-4 c =
     let a = areas t in
     let solid = decides-no (flat-decides (v1 a) (v2 a) (v3 a)) (λ e. c .before .if3 .left (ap (ofZ w64) (whole a ∙ e))) in
     let outside = sym (and-yes _) ∙ ap (λ (b : Bool). isInside (v1 a) (v2 a) (v3 a) (p a) && not b) (sym solid) ∙ sides (t .before .before) ∙ t .before .if2 .left in
-    c .on-edge .ensures ∙ ap (λ (t : Sorted). onEdge (t .p1) (t .p2) (t .p3) (p a)) (t .sorted-yx .ensures) ∙ sym (contained-by (v1 a) (v2 a) (v3 a) (p a) false false solid outside)
+    c .on-edge .ensures ∙ ap (λ (t : Sorted). onEdge (t .p1) (t .p2) (t .p3) (p a)) (t .sorted-yx .ensures)
+    ∙ sym (contained-by (v1 a) (v2 a) (v3 a) (p a) false false solid outside)
 
 pub holds-spec : {M : Type 1} → statement M
 holds-spec =

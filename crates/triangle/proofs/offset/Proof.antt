@@ -16,7 +16,8 @@ module _ (s : tie.Start) where
   L : Has w32 (toZ w32 (s .args .left)) (pos (s .args .left)) 262144
   L = same-bits (s .pre .1) tt
 
-  by : (t : Bool) → s .args .rightward ≡ t → cond t (pos (s .args .right)) (negℤ (pos (s .args .left))) ≡ cond (s .args .rightward) (pos (s .args .right)) (negℤ (pos (s .args .left)))
+  by : (t : Bool) → s .args .rightward ≡ t
+      → cond t (pos (s .args .right)) (negℤ (pos (s .args .left))) ≡ cond (s .args .rightward) (pos (s .args .right)) (negℤ (pos (s .args .left)))
   by t e = ap (λ (u : Bool). cond u (pos (s .args .right)) (negℤ (pos (s .args .left)))) (sym e)
 
 cast-result : tie.Need-cast-result

@@ -16,7 +16,8 @@ add-result c = search needs
 
 mul-result-2 : tie.Need-mul-result-2
 mul-result-2 c =
-    let most : (2 * c .args .row + 1) * c .args .wide ≤ 524289 * 262144 = mul-le-mul {n₁ = 2 * c .args .row + 1} {m₁ = c .args .wide} {n₂ = 524289} {m₂ = 262144} (omega arith) (omega arith) in
+    let most : (2 * c .args .row + 1) * c .args .wide ≤ 524289 * 262144 =
+    mul-le-mul {n₁ = 2 * c .args .row + 1} {m₁ = c .args .wide} {n₂ = 524289} {m₂ = 262144} (omega arith) (omega arith) in
     omega arith
 
 mul-result-3 : tie.Need-mul-result-3

@@ -38,6 +38,7 @@ scanline-intersection-requires c κs =
 returns-2 : tie.Need-returns-2
 unfolding rowSpan
 returns-2 c =
+    let sorted-yx = c .before .before .sorted-yx in
     let s = c .before .before .before .before .before in
     let g = s .args in
     let r = c .before .scanline-intersection .result in
@@ -45,7 +46,8 @@ returns-2 c =
     let first = field-back w32 (r .0) (c .struct-told .given .0 .1) in
     let past = field-back w32 (r .1) (c .struct-told .given .1 .0 .1) in
     let whole : r ≡ rowSpan (g .v1) (g .v2) (g .v3) (g .y) =
-    c .before .scanline-intersection .ensures ∙ (λ i. hull (edgeColumns (isFlat (c .before .before .sorted-yx .ensures i .p1) (c .before .before .sorted-yx .ensures i .p2) (c .before .before .sorted-yx .ensures i .p3)) (c .before .before .sorted-yx .ensures i) (toZ-ofZ (s .fits .y) i)))
+    c .before .scanline-intersection .ensures
+    ∙ (λ i. hull (edgeColumns (isFlat (sorted-yx .ensures i .p1) (sorted-yx .ensures i .p2) (sorted-yx .ensures i .p3)) (sorted-yx .ensures i) (toZ-ofZ (s .fits .y) i)))
     ∙ (λ i. hull (edgeColumns (flat-sorted (g .v1) (g .v2) (g .v3) i) (sorted (g .v1) (g .v2) (g .v3)) (g .y)))
     in
     (λ i. record { number = 0; start = first i; end = past i }) ∙ (λ i. span (number i) (whole i .0) (whole i .1))

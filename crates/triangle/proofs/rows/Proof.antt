@@ -41,7 +41,8 @@ module _ (c : tie.After-struct-told2) where
   bounds : All Bounded t
   bounds =
       let g = c .before .before .before .before .before .before .before .before .before .args in
-      sorted-bounded (g .v1) (g .v2) (g .v3) t (c .before .before .before .before .before .before .sorted-yx .ensures) (is-accepted (g .v1) (g .v2) (g .v3) (sym (c .before .before .before .before .before .before .before .before .refusal .ensures) ∙ c .before .before .before .before .before .before .before .if1 .left))
+      sorted-bounded (g .v1) (g .v2) (g .v3) t (c .before .before .before .before .before .before .sorted-yx .ensures) (is-accepted (g .v1) (g .v2) (g .v3)
+      (sym (c .before .before .before .before .before .before .before .before .refusal .ensures) ∙ c .before .before .before .before .before .before .before .if1 .left))
 
   top : Has w32 (toZ w32 (ofZ w32 (t .p1 .1))) (t .p1 .1) 131072
   top = back (coord (bounds .first .y))
@@ -53,7 +54,8 @@ module _ (c : tie.After-struct-told2) where
   height : t .p3 .1 -ℤ t .p1 .1 ≡ pos (natAbs (t .p3 .1 -ℤ t .p1 .1))
   height =
       let g = c .before .before .before .before .before .before .before .before .before .args in
-      size-pos _ (le-sub (t .p1 .1) (t .p3 .1) (subst (λ (s : Sorted). s .p1 .1 ≤ℤ s .p3 .1) (sym (c .before .before .before .before .before .before .sorted-yx .ensures)) (down (g .v1) (g .v2) (g .v3))))
+      size-pos _ (le-sub (t .p1 .1) (t .p3 .1)
+      (subst (λ (s : Sorted). s .p1 .1 ≤ℤ s .p3 .1) (sym (c .before .before .before .before .before .before .sorted-yx .ensures)) (down (g .v1) (g .v2) (g .v3))))
 
   steps : Has w32 (toZ w32 (ofZ w32 (t .p3 .1)) -ℤ toZ w32 (ofZ w32 (t .p1 .1))) (pos (natAbs (t .p3 .1 -ℤ t .p1 .1))) 262144
   steps = let d = minus bottom top tt in record { is = d .is ∙ height; size = d .size; room = d .room }

@@ -25,7 +25,8 @@ returns c =
     let s = c .before .before .before in
     let t = s .args .t in
     let flat : isFlat (t .p1) (t .p2) (t .p3) ≡ true = not-false _ (sym (c .before .before .is-solid .ensures) ∙ not-true _ (c .before .if1 .taken)) in
-    c .bresenham-intersection .ensures ∙ ap (λ (y : ℤ). hull (lineColumns (t .p1) (t .p3) y)) (toZ-ofZ (s .fits .y)) ∙ sym (ap (λ (b : Bool). hull (edgeColumns b t (s .args .y))) flat)
+    c .bresenham-intersection .ensures ∙ ap (λ (y : ℤ). hull (lineColumns (t .p1) (t .p3) y)) (toZ-ofZ (s .fits .y))
+    ∙ sym (ap (λ (b : Bool). hull (edgeColumns b t (s .args .y))) flat)
 
 bresenham-intersection-requires-2 : tie.Need-bresenham-intersection-requires-2
 bresenham-intersection-requires-2 c κs = search needs

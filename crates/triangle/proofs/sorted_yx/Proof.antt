@@ -17,7 +17,8 @@ returns : tie.Need-returns
 unfolding sorted
 returns c =
     let g = c .before .before .before .args in
-    c .place .ensures ∙ ap (λ (t : Bool). cond t (placed (g .v1) (g .v2) (g .v3)) (placed (g .v2) (g .v1) (g .v3))) (sym (c .before .if1 .taken) ∙ c .before .before .in-order .ensures)
+    c .place .ensures
+    ∙ ap (λ (t : Bool). cond t (placed (g .v1) (g .v2) (g .v3)) (placed (g .v2) (g .v1) (g .v3))) (sym (c .before .if1 .taken) ∙ c .before .before .in-order .ensures)
 
 place-requires-2 : tie.Need-place-requires-2
 place-requires-2 c κs = search needs
@@ -26,7 +27,8 @@ returns-2 : tie.Need-returns-2
 unfolding sorted
 returns-2 c =
     let g = c .before .before .before .args in
-    c .place2 .ensures ∙ ap (λ (t : Bool). cond t (placed (g .v1) (g .v2) (g .v3)) (placed (g .v2) (g .v1) (g .v3))) (sym (c .before .if1 .left) ∙ c .before .before .in-order .ensures)
+    c .place2 .ensures
+    ∙ ap (λ (t : Bool). cond t (placed (g .v1) (g .v2) (g .v3)) (placed (g .v2) (g .v1) (g .v3))) (sym (c .before .if1 .left) ∙ c .before .before .in-order .ensures)
 
 pub sorted-yx-spec : {M : Type 1} → statement M
 sorted-yx-spec = tie.close (tie.spec in-order-requires place-requires returns place-requires-2 returns-2)

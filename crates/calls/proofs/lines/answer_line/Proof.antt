@@ -26,14 +26,18 @@ returns c =
     let s = c .before .before .before .before .before .before .before .before in
     let said = s .args .said .now in
     let l : Left = (s .args .screen, s .args .memory .now) in
-    let o : Session = ((s .args .at, s .args .out .now), l) in
-    (is-answered o said (answer-long said l (omega (arith, c .before .before .before .before .if1 .taken))) (c .before .before .write-bad .ensures), omega (arith, c .before .before .write-bad .ensures .0))
+    let o : Session = ((s .args .at, s .args .out .now), l) in (
+      is-answered o said (answer-long said l (omega (arith, c .before .before .before .before .if1 .taken))) (c .before .before .write-bad .ensures),
+      omega (arith, c .before .before .write-bad .ensures .0),
+    )
 
 find-requires : tie.Need-find-requires
 find-requires c κs = search needs
 
 slice-aggregate-word : tie.Need-slice-aggregate-word
-slice-aggregate-word c = sym (length-take-le (c .before .find .result) (c .before .before .before .before .before .before .args .said .now) (omega (arith, c .before .find .ensures, part-end-within 9 (c .before .before .before .before .before .before .args .said .now) 0 (omega arith))))
+slice-aggregate-word c =
+    let a = c .before .before .before .before .before .before .args in
+    sym (length-take-le (c .before .find .result) (a .said .now) (omega (arith, c .before .find .ensures, part-end-within 9 (a .said .now) 0 (omega arith))))
 
 slice-aggregate-place-in : tie.Need-slice-aggregate-place-in
 slice-aggregate-place-in c = search needs
@@ -42,13 +46,25 @@ place-in-requires : tie.Need-place-in-requires
 place-in-requires c κs = search needs
 
 add-dump : tie.Need-add-dump
-add-dump c = omega (arith, c .before .before .before .before .find .ensures, part-end-within 9 (c .before .before .before .before .before .before .before .before .before .args .said .now) 0 (omega arith), c .before .before .before .before .before .if1 .left)
+add-dump c =
+    omega (
+      arith,
+      c .before .before .before .before .find .ensures,
+      part-end-within 9 (c .before .before .before .before .before .before .before .before .before .args .said .now) 0 (omega arith),
+      c .before .before .before .before .before .if1 .left,
+    )
 
 dump-requires : tie.Need-dump-requires
 dump-requires c κs = search needs
 
 add-respond : tie.Need-add-respond
-add-respond c = omega (arith, c .before .before .before .before .find .ensures, part-end-within 9 (c .before .before .before .before .before .before .before .before .before .args .said .now) 0 (omega arith), c .before .before .before .before .before .if1 .left)
+add-respond c =
+    omega (
+      arith,
+      c .before .before .before .before .find .ensures,
+      part-end-within 9 (c .before .before .before .before .before .before .before .before .before .args .said .now) 0 (omega arith),
+      c .before .before .before .before .before .if1 .left,
+    )
 
 respond-requires : tie.Need-respond-requires
 respond-requires c κs = search needs
@@ -64,14 +80,18 @@ same-length-3 c = search needs
 
 returns-2 : tie.Need-returns-2
 returns-2 c =
+    let find = c .before .before .before .before .before .before .before .before .before .find in
     let s = c .before .before .before .before .before .before .before .before .before .before .before .before .before .before in
     let said = s .args .said .now in
     let l : Left = (s .args .screen, s .args .memory .now) in
     let o : Session = ((s .args .at, s .args .out .now), l) in
-    let end = c .before .before .before .before .before .before .before .before .before .find .result in
+    let end = find .result in
     let d = c .before .before .dump .ensures in
-    let m : _≡_ {A = List ℕ × Left} (dumpLine said (end + 1) (l .1), l) (lineAnswer (take end said) said (end + 1) l) = search choices in
-    (is-answered o said (answer-short said l (omega (arith, c .before .before .before .before .before .before .before .before .before .before .if1 .left)) (c .before .before .before .before .before .before .before .before .before .find .ensures) m) (d .0, d .1), d .2)
+    let m : _≡_ {A = List ℕ × Left} (dumpLine said (end + 1) (l .1), l) (lineAnswer (take end said) said (end + 1) l) = search choices in (
+      is-answered o said (answer-short said l (omega (arith, c .before .before .before .before .before .before .before .before .before .before .if1 .left)) (find .ensures) m)
+          (d .0, d .1),
+      d .2,
+    )
 
 same-length-4 : tie.Need-same-length-4
 same-length-4 c = search needs
@@ -81,14 +101,19 @@ same-length-5 c = search needs
 
 returns-3 : tie.Need-returns-3
 returns-3 c =
+    let find = c .before .before .before .before .before .before .before .before .before .before .before .before .before .find in
     let s = c .before .before .before .before .before .before .before .before .before .before .before .before .before .before .before .before .before .before in
     let said = s .args .said .now in
     let l : Left = (s .args .screen, s .args .memory .now) in
     let o : Session = ((s .args .at, s .args .out .now), l) in
-    let end = c .before .before .before .before .before .before .before .before .before .before .before .before .before .find .result in
+    let end = find .result in
     let d = c .before .before .write-reply .ensures in
-    let m : turnDone (response (take end said) said (end + 1) (l .0) (l .1)) ≡ lineAnswer (take end said) said (end + 1) l = search choices in
-    (is-answered o said (answer-short said l (omega (arith, c .before .before .before .before .before .before .before .before .before .before .before .before .before .before .if1 .left)) (c .before .before .before .before .before .before .before .before .before .before .before .before .before .find .ensures) (ap turnDone (c .before .before .before .before .before .before .before .respond .ensures) ∙ m)) (d .0, d .1), omega (arith, d .2))
+    let m : turnDone (response (take end said) said (end + 1) (l .0) (l .1)) ≡ lineAnswer (take end said) said (end + 1) l = search choices in (
+      is-answered o said
+          (answer-short said l (omega (arith, c .before .before .before .before .before .before .before .before .before .before .before .before .before .before .if1 .left))
+          (find .ensures) (ap turnDone (c .before .before .before .before .before .before .before .respond .ensures) ∙ m)) (d .0, d .1),
+      omega (arith, d .2),
+    )
 
 pub answer-line-spec : {M : Type 1} → statement M
 answer-line-spec =

@@ -30,7 +30,12 @@ ended c =
     omega (arith, c .before .part-end .ensures, part-end-within 10 s (l .next) (l .inv .0), c .if1 .left)
 
 -- the room that is left
-has : (c : tie.Else2 Inv-loop μ-loop) → room ((c .before .before .before .before .loop .filled, c .before .before .before .before .loop .out), (c .before .before .before .before .loop .current, c .before .before .before .before .loop .memory)) ≡ true
+has : (c : tie.Else2 Inv-loop μ-loop)
+    → room (
+      (c .before .before .before .before .loop .filled, c .before .before .before .before .loop .out),
+      (c .before .before .before .before .loop .current, c .before .before .before .before .loop .memory),
+    )
+    ≡ true
 has c = sym (c .before .has-room .ensures) ∙ not-false _ (c .if2 .left)
 
 loop-holds : tie.Need-loop-holds Inv-loop μ-loop
@@ -51,7 +56,8 @@ returns : tie.Need-returns Inv-loop μ-loop
 returns c =
     let l = c .before .before .loop in
     let s = c .before .before .before .before .before .before .args .input .now in (
-      sym (handled-none answered room s (length s) (l .next) ((l .filled, l .out), (l .current, l .memory)) (omega (arith, c .if1 .taken, c .before .part-end .ensures))) ∙ l .inv .5,
+      sym (handled-none answered room s (length s) (l .next) ((l .filled, l .out), (l .current, l .memory)) (omega (arith, c .if1 .taken, c .before .part-end .ensures)))
+          ∙ l .inv .5,
       l .inv .4,
     )
 
@@ -68,7 +74,8 @@ returns-2 : tie.Need-returns-2 Inv-loop μ-loop
 returns-2 c =
     let l = c .before .before .before .before .loop in
     let s = c .before .before .before .before .before .before .before .before .args .input .now in (
-      sym (handled-full answered room s (length s) (l .next) ((l .filled, l .out), (l .current, l .memory)) (sym (c .before .has-room .ensures) ∙ not-true _ (c .if2 .taken))) ∙ l .inv .5,
+      sym (handled-full answered room s (length s) (l .next) ((l .filled, l .out), (l .current, l .memory)) (sym (c .before .has-room .ensures) ∙ not-true _ (c .if2 .taken)))
+          ∙ l .inv .5,
       l .inv .4,
     )
 
@@ -83,31 +90,41 @@ part-answer-line-end c = omega (arith, ended (c .before .before))
 
 answer-line-requires : tie.Need-answer-line-requires Inv-loop μ-loop
 answer-line-requires c κs =
-    let l = c .before .before .before .before .before .before .before .loop in
-    (omega (arith, l .inv .3, l .inv .2, c .before .before .before .before .before .before .before .before .before .before .before .pre .2), leb-true _ _ (has (c .before .before .before)))
+    let l = c .before .before .before .before .before .before .before .loop in (
+      omega (arith, l .inv .3, l .inv .2, c .before .before .before .before .before .before .before .before .before .before .before .pre .2),
+      leb-true _ _ (has (c .before .before .before)),
+    )
 
 add-next : tie.Need-add-next Inv-loop μ-loop
 add-next c = omega (arith, ended (c .before .before .before .before .before .before .before .before .before .before .before))
 
 loop-less : tie.Need-loop-less Inv-loop μ-loop
-loop-less c = omega (arith, ended (c .before .before .before .before .before .before .before .before .before .before .before), c .before .before .before .before .before .before .before .before .before .before .before .before .part-end .ensures)
+loop-less c =
+    omega (
+      arith,
+      ended (c .before .before .before .before .before .before .before .before .before .before .before),
+      c .before .before .before .before .before .before .before .before .before .before .before .before .part-end .ensures,
+    )
 
 loop-again : tie.Need-loop-again Inv-loop μ-loop
 loop-again c =
+    let part-end = c .before .before .before .before .before .before .before .before .before .before .before .before .part-end in
+    let at = c .before .before .before .before .before .before .before .before .before .before .before in
+    let a = c .before .before .before .before .before .before .before .before .before in
     let l = c .before .before .before .before .before .before .before .before .before .before .before .before .before .loop in
     let s = c .before .before .before .before .before .before .before .before .before .before .before .before .before .before .before .before .before .args .input .now in
-    let e = c .before .before .before .before .before .before .before .before .before .before .before .before .part-end .ensures in
+    let e = part-end .ensures in
     let d = c .before .before .before .before .before .answer-line in
     let o : Session = ((l .filled, l .out), (l .current, l .memory)) in
-    let inside : lineEnd s (l .next) < length s = omega (arith, ended (c .before .before .before .before .before .before .before .before .before .before .before), e) in
-    let done = d .ensures .0 ∙ ap (answered o) (line-is s (l .next) (c .before .before .before .before .before .before .before .before .before .before .before .before .part-end .result) e) in (
-      omega (arith, ended (c .before .before .before .before .before .before .before .before .before .before .before)),
+    let inside : lineEnd s (l .next) < length s = omega (arith, ended at, e) in
+    let done = d .ensures .0 ∙ ap (answered o) (line-is s (l .next) (part-end .result) e) in (
+      omega (arith, ended at),
       d .kept .1 .1 .1 .0 ∙ l .inv .1,
       d .kept .1 .0 ∙ l .inv .2,
       subst (λ (x : Session). x .1 .0 .lent ≤ 65536) (sym done) (answer-lent (lineAt s (l .next)) (l .current, l .memory) (l .inv .3)),
-      omega (arith, d .ensures .1, leb-true (l .filled + 8193) (length (l .out)) (has (c .before .before .before .before .before .before .before .before .before)), l .inv .1),
+      omega (arith, d .ensures .1, leb-true (l .filled + 8193) (length (l .out)) (has a), l .inv .1),
       ap₂ (λ (k : ℕ) (x : Session). handled room answered s (length s) k x) (ap (λ (k : ℕ). k + 1) e) done
-          ∙ sym (handled-turn answered room s (l .next) o inside (has (c .before .before .before .before .before .before .before .before .before))) ∙ l .inv .5,
+          ∙ sym (handled-turn answered room s (l .next) o inside (has a)) ∙ l .inv .5,
     )
 
 pub answer-lines-spec : {M : Type 1} → statement M

@@ -24,7 +24,11 @@ returns c = search turns
 cast-set-all : tie.Need-cast-set-all
 cast-set-all c =
     let v = c .before .before .before .before .next-u32 .result in
-    omega (arith, leb-true (v .value) 255 (and-second (isLast (c .before .before .before .before .before .before .before .args .said .now) (v .next)) (leb (v .value) 255) (sym (c .before .before .before .ends-within .ensures) ∙ not-false _ (c .before .before .if1 .left))))
+    omega (
+      arith,
+      leb-true (v .value) 255 (and-second (isLast (c .before .before .before .before .before .before .before .args .said .now) (v .next)) (leb (v .value) 255)
+          (sym (c .before .before .before .ends-within .ensures) ∙ not-false _ (c .before .before .if1 .left))),
+    )
 
 set-all-requires : tie.Need-set-all-requires
 set-all-requires c κs = search needs

@@ -14,7 +14,8 @@ new-requires : tie.Need-new-requires
 new-requires c κs = search needs
 
 returns : tie.Need-returns
-returns c = let s = c .before .before in (c .before .new .ensures, ap (λ (b : Bool). askedPoints b (s .args .start) (s .args .end)) (sym (not-true (s .args .asked) (c .if1 .taken))))
+returns c =
+    let s = c .before .before in (c .before .new .ensures, ap (λ (b : Bool). askedPoints b (s .args .start) (s .args .end)) (sym (not-true (s .args .asked) (c .if1 .taken))))
 
 last-step-requires : tie.Need-last-step-requires
 last-step-requires c κs = search needs

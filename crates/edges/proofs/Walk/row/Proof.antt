@@ -53,22 +53,29 @@ side-of-requires-3 c κs = search needs
 
 returns : tie.Need-returns
 returns c =
+    let first-run = c .before .before .before .before .before .before .before .before .before .first-run in
+    let edge-run = c .before .before .before .before .before .before .before .before .edge-run in
+    let next-run = c .before .before .before .before .before .before .before .next-run in
+    let edge-run2 = c .before .before .before .before .before .before .edge-run2 in
+    let next-run2 = c .before .before .before .before .before .next-run2 in
+    let edge-run3 = c .before .before .before .before .edge-run3 in
     let s = c .before .before .before .before .before .before .before .before .before .before .before .before .before in
-    let q3 = c .before .before .before .before .edge-run3 .result in
+    let q3 = edge-run3 .result in
     let y : toZ w32 (ofZ w32 (s .args .y)) ≡ s .args .y = toZ-ofZ (s .fits .y) in
     let lo : toZ w32 (ofZ w32 (q3 .low)) ≡ q3 .low = field-back w32 (q3 .low) (c .struct-told .given .1 .1 .0 .1) in
     let hi : toZ w32 (ofZ w32 (q3 .high)) ≡ q3 .high = field-back w32 (q3 .high) (c .struct-told .given .1 .1 .1 .0 .1) in
-    let f = c .before .before .before .before .before .before .before .before .before .first-run .result in
-    let q1 = c .before .before .before .before .before .before .before .before .edge-run .result in
-    let g = c .before .before .before .before .before .before .before .next-run .result in
-    let q2 = c .before .before .before .before .before .before .edge-run2 .result in
-    let h = c .before .before .before .before .before .next-run2 .result in
+    let f = first-run .result in
+    let q1 = edge-run .result in
+    let g = next-run .result in
+    let q2 = edge-run2 .result in
+    let h = next-run2 .result in
     λ t solid at.
     row-done (s .args .self) (s .args .y) f q1 g q2 h q3
-    (c .before .before .before .before .before .before .before .before .before .first-run .ensures) (subst (λ (v : ℤ). Runs v f q1) y (c .before .before .before .before .before .before .before .before .edge-run .ensures))
-    (c .before .before .before .before .before .before .before .next-run .ensures) (subst (λ (v : ℤ). Runs v g q2) y (c .before .before .before .before .before .before .edge-run2 .ensures))
-    (c .before .before .before .before .before .next-run2 .ensures) (subst (λ (v : ℤ). Runs v h q3) y (c .before .before .before .before .edge-run3 .ensures)) t solid at _
-    (c .before .before .before .side-of .ensures .0) (c .before .before .before .side-of .ensures .1) (c .before .before .side-of2 .ensures .0) (c .before .before .side-of2 .ensures .1)
+    (first-run .ensures) (subst (λ (v : ℤ). Runs v f q1) y (edge-run .ensures))
+    (next-run .ensures) (subst (λ (v : ℤ). Runs v g q2) y (edge-run2 .ensures))
+    (next-run2 .ensures) (subst (λ (v : ℤ). Runs v h q3) y (edge-run3 .ensures)) t solid at _
+    (c .before .before .before .side-of .ensures .0) (c .before .before .before .side-of .ensures .1) (c .before .before .side-of2 .ensures .0)
+    (c .before .before .side-of2 .ensures .1)
     (c .before .side-of3 .ensures .0) (c .before .side-of3 .ensures .1) refl lo hi
 
 pub row-spec : {M : Type 1} → statement M

@@ -17,7 +17,8 @@ returns : tie.Need-returns
 returns c =
     let s = c .before .before in
     let q = s .args .self in
-    ap₂ _&&_ (c .before .is-between .ensures ∙ ap (λ (z : ℤ). between (pos (q .left)) (pos (q .right)) z) (toZ-ofZ (s .fits .x))) (c .is-between2 .ensures ∙ ap (λ (z : ℤ). between (pos (q .top)) (pos (q .bottom)) z) (toZ-ofZ (s .fits .y)))
+    ap₂ _&&_ (c .before .is-between .ensures ∙ ap (λ (z : ℤ). between (pos (q .left)) (pos (q .right)) z) (toZ-ofZ (s .fits .x)))
+    (c .is-between2 .ensures ∙ ap (λ (z : ℤ). between (pos (q .top)) (pos (q .bottom)) z) (toZ-ofZ (s .fits .y)))
 
 pub holds-spec : {M : Type 1} → statement M
 holds-spec = tie.close (tie.spec is-between-requires is-between-requires-2 returns)

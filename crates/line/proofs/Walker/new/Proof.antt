@@ -14,7 +14,8 @@ course-of-requires c κs = search needs
 returns : tie.Need-returns
 returns c =
     let b = c .before .before .before in
-    begins _ _ _ (b .pre .0) (b .pre .1) (c .before .before .course-of .ensures) (toZ-ofZ {w = w32} (coord-fits (b .pre .0 .x))) (toZ-ofZ {w = w32} (coord-fits (b .pre .0 .y))) refl
+    begins _ _ _ (b .pre .0) (b .pre .1) (c .before .before .course-of .ensures) (toZ-ofZ {w = w32} (coord-fits (b .pre .0 .x))) (toZ-ofZ {w = w32} (coord-fits (b .pre .0 .y)))
+    refl
 
 pub new-spec : {M : Type 1} → statement M
 new-spec = tie.close (tie.spec course-of-requires returns)

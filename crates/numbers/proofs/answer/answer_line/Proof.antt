@@ -39,8 +39,9 @@ read-vertices-requires c κs = search needs
 
 write-vertices-requires : tie.Need-write-vertices-requires
 write-vertices-requires c κs =
-    let line = c .before .before .before .before .before .before .args .line .now in
-    omega (arith, c .before .before .before .before .before .before .pre, vertices-short (fields line), ap (λ (v : Vertices). length (verticesLine v)) (c .before .before .read-vertices .ensures))
+    let s = c .before .before .before .before .before .before in
+    let line = s .args .line .now in
+    omega (arith, s .pre, vertices-short (fields line), ap (λ (v : Vertices). length (verticesLine v)) (c .before .before .read-vertices .ensures))
 
 same-length-2 : tie.Need-same-length-2
 same-length-2 c = search needs
@@ -50,15 +51,18 @@ returns-2 c =
     let a = c .before .before .before .before .before .before .before .before .before .args in
     let e = c .before .before .before .before .before .read-vertices .ensures in
     wrote-as (a .out .now) (a .at)
-    (ap verticesLine e ∙ answer-vertices (a .line .now) (c .before .before .before .before .before .before .if1 .left) (ap (λ (v : Vertices). v .ok) (sym e) ∙ c .before .before .before .before .if2 .taken)) (c .before .before .write-vertices .ensures)
+    (ap verticesLine e
+    ∙ answer-vertices (a .line .now) (c .before .before .before .before .before .before .if1 .left)
+    (ap (λ (v : Vertices). v .ok) (sym e) ∙ c .before .before .before .before .if2 .taken)) (c .before .before .write-vertices .ensures)
 
 read-place-requires : tie.Need-read-place-requires
 read-place-requires c κs = search needs
 
 write-place-requires : tie.Need-write-place-requires
 write-place-requires c κs =
-    let line = c .before .before .before .before .before .before .before .before .args .line .now in
-    omega (arith, c .before .before .before .before .before .before .before .before .pre, place-short (fields line), ap (λ (p : Place). length (placeLine p)) (c .before .before .read-place .ensures))
+    let s = c .before .before .before .before .before .before .before .before in
+    let line = s .args .line .now in
+    omega (arith, s .pre, place-short (fields line), ap (λ (p : Place). length (placeLine p)) (c .before .before .read-place .ensures))
 
 same-length-3 : tie.Need-same-length-3
 same-length-3 c = search needs
@@ -68,7 +72,9 @@ returns-3 c =
     let a = c .before .before .before .before .before .before .before .before .before .before .before .args in
     let e = c .before .before .before .before .before .read-place .ensures in
     wrote-as (a .out .now) (a .at)
-    (ap placeLine e ∙ answer-place (a .line .now) (c .before .before .before .before .before .before .before .before .if1 .left) (no-vertices (c .before .before .before .before .before .before)) (ap (λ (p : Place). p .ok) (sym e) ∙ c .before .before .before .before .if3 .taken)) (c .before .before .write-place .ensures)
+    (ap placeLine e
+    ∙ answer-place (a .line .now) (c .before .before .before .before .before .before .before .before .if1 .left) (no-vertices (c .before .before .before .before .before .before))
+    (ap (λ (p : Place). p .ok) (sym e) ∙ c .before .before .before .before .if3 .taken)) (c .before .before .write-place .ensures)
 
 next-u32-requires : tie.Need-next-u32-requires
 next-u32-requires c κs = search needs
@@ -86,7 +92,9 @@ returns-4 : tie.Need-returns-4
 returns-4 c =
     let a = c .before .before .before .before .before .before .before .before .before .before .before .before .before .before .args in
     wrote-as (a .out .now) (a .at)
-    (answer-bad (a .line .now) (c .before .before .before .before .before .before .before .before .before .before .before .if1 .left) (no-vertices (c .before .before .before .before .before .before .before .before .before)) (no-place (c .before .before .before .before .before .before .before)) (λ e. c .before .before .before .before .if4 .taken (ap (λ (n : NextU32). n .next) (c .before .before .before .before .before .before .next-u32 .ensures) ∙ e)))
+    (answer-bad (a .line .now) (c .before .before .before .before .before .before .before .before .before .before .before .if1 .left)
+    (no-vertices (c .before .before .before .before .before .before .before .before .before)) (no-place (c .before .before .before .before .before .before .before))
+    (λ e. c .before .before .before .before .if4 .taken (ap (λ (n : NextU32). n .next) (c .before .before .before .before .before .before .next-u32 .ensures) ∙ e)))
     (c .before .before .write-bad2 .ensures)
 
 cast-write-number : tie.Need-cast-write-number
@@ -94,8 +102,14 @@ cast-write-number c = search needs
 
 write-number-requires : tie.Need-write-number-requires
 write-number-requires c κs =
-    let line = c .before .before .before .before .before .before .before .before .before .before .before .before .args .line .now in
-    omega (arith, c .before .before .before .before .before .before .before .before .before .before .before .before .pre, numbered-short (nextU32 line 0 .value) 10 (next-fits line 0), ap (λ (n : NextU32). length (numbered (n .value) 10)) (c .before .before .before .before .next-u32 .ensures))
+    let s = c .before .before .before .before .before .before .before .before .before .before .before .before in
+    let line = s .args .line .now in
+    omega (
+      arith,
+      s .pre,
+      numbered-short (nextU32 line 0 .value) 10 (next-fits line 0),
+      ap (λ (n : NextU32). length (numbered (n .value) 10)) (c .before .before .before .before .next-u32 .ensures),
+    )
 
 same-length-5 : tie.Need-same-length-5
 same-length-5 c = search needs
@@ -106,7 +120,10 @@ returns-5 c =
     let e = c .before .before .before .before .before .before .before .next-u32 .ensures in
     wrote-as (a .out .now) (a .at)
     (ap (λ (n : NextU32). numbered (n .value) 10) e
-    ∙ answer-count (a .line .now) (c .before .before .before .before .before .before .before .before .before .before .before .before .if1 .left) (no-vertices (c .before .before .before .before .before .before .before .before .before .before)) (no-place (c .before .before .before .before .before .before .before .before)) (ap (λ (n : NextU32). n .next) (sym e) ∙ c .before .before .before .before .before .if4 .left))
+    ∙ answer-count (a .line .now) (c .before .before .before .before .before .before .before .before .before .before .before .before .if1 .left)
+    (no-vertices (c .before .before .before .before .before .before .before .before .before .before))
+    (no-place (c .before .before .before .before .before .before .before .before))
+    (ap (λ (n : NextU32). n .next) (sym e) ∙ c .before .before .before .before .before .if4 .left))
     (c .before .before .write-number .ensures)
 
 pub answer-line-spec : {M : Type 1} → statement M

@@ -10,7 +10,8 @@ use Rattle.numbers.proofs.answer.write_place.Statement.{statement}
 use Rattle.numbers.proofs.answer.write_place.Tie as tie
 
 one : (c : tie.After-write-field)
-    → Wrote (c .before .before .before .before .args .out .now) (c .before .before .before .before .args .at) (numberField (c .before .before .before .before .args .p .x) 9) (c .write-field .result) (c .write-field .last .0)
+    → Wrote (c .before .before .before .before .args .out .now) (c .before .before .before .before .args .at) (numberField (c .before .before .before .before .args .p .x) 9)
+    (c .write-field .result) (c .write-field .last .0)
 one c = at-field _ _ _ 9 (field-back w32 (c .before .before .before .before .args .p .x) (c .before .struct-told .given .1 .0 .1)) (c .write-field .ensures)
 
 write-field-requires : tie.Need-write-field-requires

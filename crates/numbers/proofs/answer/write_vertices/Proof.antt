@@ -10,11 +10,14 @@ use Rattle.numbers.proofs.answer.write_vertices.Statement.{statement}
 use Rattle.numbers.proofs.answer.write_vertices.Tie as tie
 
 one : (c : tie.After-write-triple)
-    → Wrote (c .before .before .before .before .before .before .args .out .now) (c .before .before .before .before .before .before .args .at) (triple (c .before .before .before .before .before .before .args .v .x1) (c .before .before .before .before .before .before .args .v .y1) (c .before .before .before .before .before .before .args .v .x2) 9) (c .write-triple .result) (c .write-triple .last .0)
+    → Wrote (c .before .before .before .before .before .before .args .out .now) (c .before .before .before .before .before .before .args .at)
+    (triple (c .before .before .before .before .before .before .args .v .x1) (c .before .before .before .before .before .before .args .v .y1)
+    (c .before .before .before .before .before .before .args .v .x2) 9) (c .write-triple .result) (c .write-triple .last .0)
 one c =
     let g = c .before .struct-told3 .given in
     let v = c .before .before .before .before .before .before .args .v in
-    at-triple _ _ (v .x1) (v .y1) (v .x2) 9 (field-back w32 (v .x1) (g .1 .0 .1)) (field-back w32 (v .y1) (g .1 .1 .0 .1)) (field-back w32 (v .x2) (g .1 .1 .1 .0 .1)) (c .write-triple .ensures)
+    at-triple _ _ (v .x1) (v .y1) (v .x2) 9 (field-back w32 (v .x1) (g .1 .0 .1)) (field-back w32 (v .y1) (g .1 .1 .0 .1)) (field-back w32 (v .x2) (g .1 .1 .1 .0 .1))
+    (c .write-triple .ensures)
 
 write-triple-requires : tie.Need-write-triple-requires
 write-triple-requires c κs =
@@ -41,8 +44,10 @@ returns c =
     let s = c .before .before .before .before .before .before .before .before .before .before .before .before .before .before .before in
     let v = s .args .v in
     let g = c .before .before .before .struct-told6 .given in
-    wrote-then (s .args .out .now) (s .args .at) (triple (v .x1) (v .y1) (v .x2) 9) (triple (v .y2) (v .x3) (v .y3) 10) (one (c .before .before .before .before .before .before .before .before .before))
-    (at-triple _ _ (v .y2) (v .x3) (v .y3) 10 (field-back w32 (v .y2) (g .1 .1 .1 .1 .0 .1)) (field-back w32 (v .x3) (g .1 .1 .1 .1 .1 .0 .1)) (field-back w32 (v .y3) (g .1 .1 .1 .1 .1 .1 .0 .1)) (c .before .before .write-triple2 .ensures))
+    wrote-then (s .args .out .now) (s .args .at) (triple (v .x1) (v .y1) (v .x2) 9) (triple (v .y2) (v .x3) (v .y3) 10)
+    (one (c .before .before .before .before .before .before .before .before .before))
+    (at-triple _ _ (v .y2) (v .x3) (v .y3) 10 (field-back w32 (v .y2) (g .1 .1 .1 .1 .0 .1)) (field-back w32 (v .x3) (g .1 .1 .1 .1 .1 .0 .1))
+    (field-back w32 (v .y3) (g .1 .1 .1 .1 .1 .1 .0 .1)) (c .before .before .write-triple2 .ensures))
 
 pub write-vertices-spec : {M : Type 1} → statement M
 write-vertices-spec =

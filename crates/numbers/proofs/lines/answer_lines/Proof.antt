@@ -21,15 +21,22 @@ abbrev μ-loop : tie.MeasureT-loop
 -- a line that LF ends
 ended : (c : tie.Else1 Inv-loop μ-loop) → c .before .part-end .result < length (c .before .before .before .before .before .args .input .now)
 ended c =
+    let a = c .before .before .before .before .before .args in
     let l = c .before .before .loop in
-    omega (arith, c .if1 .left, end-within answer 72 (c .before .before .before .before .before .args .input .now) (c .before .before .before .before .before .args .from) (c .before .before .before .before .before .args .at, c .before .before .before .before .before .args .out .now) (l .next) (l .filled) (l .out) (l .inv) (c .before .part-end .result) (c .before .part-end .ensures))
+    omega (
+      arith,
+      c .if1 .left,
+      end-within answer 72 (a .input .now) (a .from) (a .at, a .out .now) (l .next) (l .filled) (l .out) (l .inv) (c .before .part-end .result) (c .before .part-end .ensures),
+    )
 
 -- the room that is left
 has : (c : tie.Else2 Inv-loop μ-loop) → room 72 (c .before .before .before .before .loop .filled, c .before .before .before .before .loop .out) ≡ true
 has c = sym (c .before .has-room .ensures) ∙ not-false _ (c .if2 .left)
 
 loop-holds : tie.Need-loop-holds Inv-loop μ-loop
-loop-holds c = starts answer 72 (c .before .before .args .input .now) (c .before .before .args .from) (c .before .before .args .at, c .before .before .args .out .now) (c .before .before .pre)
+loop-holds c =
+    let s = c .before .before in
+    starts answer 72 (s .args .input .now) (s .args .from) (s .args .at, s .args .out .now) (s .pre)
 
 part-end-requires : tie.Need-part-end-requires Inv-loop μ-loop
 part-end-requires c κs = c .loop .inv .ahead
@@ -39,8 +46,10 @@ same-length c = c .before .before .loop .inv .size
 
 returns : tie.Need-returns Inv-loop μ-loop
 returns c =
+    let a = c .before .before .before .before .before .args in
     let l = c .before .before .loop in
-    no-line answer 72 (c .before .before .before .before .before .args .input .now) (c .before .before .before .before .before .args .from) (c .before .before .before .before .before .args .at, c .before .before .before .before .before .args .out .now) (l .next) (l .filled) (l .out) (l .inv) (c .before .part-end .result) (c .before .part-end .ensures) (c .if1 .taken)
+    no-line answer 72 (a .input .now) (a .from) (a .at, a .out .now) (l .next) (l .filled) (l .out) (l .inv) (c .before .part-end .result) (c .before .part-end .ensures)
+    (c .if1 .taken)
 
 has-room-requires : tie.Need-has-room-requires Inv-loop μ-loop
 has-room-requires c κs = search needs
@@ -50,8 +59,11 @@ same-length-2 c = c .before .before .before .before .loop .inv .size
 
 returns-2 : tie.Need-returns-2 Inv-loop μ-loop
 returns-2 c =
+    let a = c .before .before .before .before .before .before .before .args in
+    let part-end = c .before .before .before .part-end in
     let l = c .before .before .before .before .loop in
-    no-room answer 72 (c .before .before .before .before .before .before .before .args .input .now) (c .before .before .before .before .before .before .before .args .from) (c .before .before .before .before .before .before .before .args .at, c .before .before .before .before .before .before .before .args .out .now) (l .next) (l .filled) (l .out) (l .inv) (c .before .before .before .part-end .result) (c .before .before .before .part-end .ensures) (sym (c .before .has-room .ensures) ∙ not-true _ (c .if2 .taken))
+    no-room answer 72 (a .input .now) (a .from) (a .at, a .out .now) (l .next) (l .filled) (l .out) (l .inv) (part-end .result) (part-end .ensures)
+    (sym (c .before .has-room .ensures) ∙ not-true _ (c .if2 .taken))
 
 sub-answer-line : tie.Need-sub-answer-line Inv-loop μ-loop
 sub-answer-line c = omega (arith, c .before .before .before .part-end .ensures)
@@ -73,9 +85,13 @@ loop-less c = omega (arith, ended (c .before .before .before .before .before .be
 
 loop-again : tie.Need-loop-again Inv-loop μ-loop
 loop-again c =
+    let a = c .before .before .before .before .before .before .before .before .before .before .before .before .args in
+    let part-end = c .before .before .before .before .before .before .before .before .part-end in
     let l = c .before .before .before .before .before .before .before .before .before .loop in
     let w = c .before .before .answer-line in
-    goes answer 72 (c .before .before .before .before .before .before .before .before .before .before .before .before .args .input .now) (c .before .before .before .before .before .before .before .before .before .before .before .before .args .from) (c .before .before .before .before .before .before .before .before .before .before .before .before .args .at, c .before .before .before .before .before .before .before .before .before .before .before .before .args .out .now) (l .next) (l .filled) (l .out) (l .inv) (c .before .before .before .before .before .before .before .before .part-end .result) (c .before .before .before .before .before .before .before .before .part-end .ensures) (ended (c .before .before .before .before .before .before .before)) (has (c .before .before .before .before .before)) (w .result) (w .last .1 .0) (w .ensures) (w .kept .1 .0)
+    goes answer 72 (a .input .now) (a .from) (a .at, a .out .now) (l .next) (l .filled) (l .out) (l .inv) (part-end .result) (part-end .ensures)
+    (ended (c .before .before .before .before .before .before .before)) (has (c .before .before .before .before .before)) (w .result) (w .last .1 .0) (w .ensures)
+    (w .kept .1 .0)
 
 pub answer-lines-spec : {M : Type 1} → statement M
 answer-lines-spec =

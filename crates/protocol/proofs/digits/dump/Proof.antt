@@ -23,7 +23,8 @@ use Rattle.protocol.proofs.digits.dump.Tie as tie
 few : (c : tie.Else1) → c .before .before .next-u322 .result .value ≤ 4096
 few c =
     let n = c .before .before .next-u322 .result in
-    leb-true (n .value) 4096 (and-second (isLast (c .before .before .before .before .before .before .before .args .said .now) (n .next)) (leb (n .value) 4096) (sym (c .before .ends-within .ensures) ∙ not-false _ (c .if1 .left)))
+    leb-true (n .value) 4096 (and-second (isLast (c .before .before .before .before .before .before .before .args .said .now) (n .next)) (leb (n .value) 4096)
+    (sym (c .before .ends-within .ensures) ∙ not-false _ (c .if1 .left)))
 
 next-u32-requires : tie.Need-next-u32-requires
 next-u32-requires c κs = search needs
@@ -43,11 +44,13 @@ same-length c = search needs
 returns : tie.Need-returns
 unfolding dumpLine
 returns c =
+    let next-u32 = c .before .before .before .before .before .before .before .next-u32 in
+    let next-u322 = c .before .before .before .before .before .before .next-u322 in
     let s = c .before .before .before .before .before .before .before .before .before .before .before in
-    let f = c .before .before .before .before .before .before .before .next-u32 .result .value in
-    let n = c .before .before .before .before .before .before .next-u322 .result .value in
+    let f = next-u32 .result .value in
+    let n = next-u322 .result .value in
     let w = wrote-as (s .args .out .now) (s .args .to)
-    (two-read (dumpBy (s .args .said .now) (s .args .memory .now)) (λ (n : NextU32). nextU32 (s .args .said .now) (n .next)) (c .before .before .before .before .before .before .before .next-u32 .ensures) (c .before .before .before .before .before .before .next-u322 .ensures)
+    (two-read (dumpBy (s .args .said .now) (s .args .memory .now)) (λ (n : NextU32). nextU32 (s .args .said .now) (n .next)) (next-u32 .ensures) (next-u322 .ensures)
     (ap (λ (b : Bool). cond (b && leb (f + n) (length (s .args .memory .now))) (hexText (take n (drop f (s .args .memory .now))) ++ (10 ∷ [])) badLine) (sym (not-true _ (c .before .before .before .before .if1 .taken)) ∙ c .before .before .before .before .before .ends-within .ensures)))
     (c .before .before .write-bad .ensures) in
     (w .0, w .1, omega (arith, c .before .before .write-bad .ensures .0))
@@ -70,12 +73,14 @@ same-length-2 c = search needs
 returns-2 : tie.Need-returns-2
 unfolding dumpLine
 returns-2 c =
+    let next-u322 = c .before .before .before .before .before .before .before .before .before .next-u322 in
+    let next-u32 = c .before .before .before .before .before .before .before .before .before .before .next-u32 in
     let s = c .before .before .before .before .before .before .before .before .before .before .before .before .before .before in
-    let f = c .before .before .before .before .before .before .before .before .before .before .next-u32 .result .value in
-    let n = c .before .before .before .before .before .before .before .before .before .next-u322 .result .value in
-    let t = isLast (s .args .said .now) (c .before .before .before .before .before .before .before .before .before .next-u322 .result .next) && leb n 4096 in
+    let f = next-u32 .result .value in
+    let n = next-u322 .result .value in
+    let t = isLast (s .args .said .now) (next-u322 .result .next) && leb n 4096 in
     let w = wrote-as (s .args .out .now) (s .args .to)
-    (two-read (dumpBy (s .args .said .now) (s .args .memory .now)) (λ (n : NextU32). nextU32 (s .args .said .now) (n .next)) (c .before .before .before .before .before .before .before .before .before .before .next-u32 .ensures) (c .before .before .before .before .before .before .before .before .before .next-u322 .ensures)
+    (two-read (dumpBy (s .args .said .now) (s .args .memory .now)) (λ (n : NextU32). nextU32 (s .args .said .now) (n .next)) (next-u32 .ensures) (next-u322 .ensures)
     (ap (λ (b : Bool). cond b (hexText (take n (drop f (s .args .memory .now))) ++ (10 ∷ [])) badLine) (sym (ap (λ (b : Bool). t && b) (lt-leb (f + n) (length (s .args .memory .now)) (omega (arith, c .before .before .before .before .if2 .taken))) ∙ and-false t))))
     (c .before .before .write-bad2 .ensures) in
     (w .0, w .1, omega (arith, c .before .before .write-bad2 .ensures .0))
@@ -91,18 +96,48 @@ part-write-hex-end c = omega arith
 
 write-hex-requires : tie.Need-write-hex-requires
 write-hex-requires c κs =
-    let part = take (c .before .before .before .before .before .before .before .before .next-u32 .result .value + c .before .before .before .before .before .before .before .next-u322 .result .value - c .before .before .before .before .before .before .before .before .next-u32 .result .value) (drop (c .before .before .before .before .before .before .before .before .next-u32 .result .value) (c .before .before .before .before .before .before .before .before .before .before .before .before .args .memory .now)) in
-    omega (arith, c .before .before .before .before .before .before .before .before .before .before .before .before .pre, few (c .before .before .before .before .before), hex-count part, length-take (c .before .before .before .before .before .before .before .before .next-u32 .result .value + c .before .before .before .before .before .before .before .next-u322 .result .value - c .before .before .before .before .before .before .before .before .next-u32 .result .value) (drop (c .before .before .before .before .before .before .before .before .next-u32 .result .value) (c .before .before .before .before .before .before .before .before .before .before .before .before .args .memory .now)))
+    let next-u32 = c .before .before .before .before .before .before .before .before .next-u32 in
+    let s = c .before .before .before .before .before .before .before .before .before .before .before .before in
+    let next-u322 = c .before .before .before .before .before .before .before .next-u322 in
+    let part = take (next-u32 .result .value + next-u322 .result .value - next-u32 .result .value) (drop (next-u32 .result .value) (s .args .memory .now)) in
+    omega (
+      arith,
+      s .pre,
+      few (c .before .before .before .before .before),
+      hex-count part,
+      length-take (next-u32 .result .value + next-u322 .result .value - next-u32 .result .value) (drop (next-u32 .result .value) (s .args .memory .now)),
+    )
 
 slice-write-out : tie.Need-slice-write-out
 slice-write-out c =
-    let part = take (c .before .before .before .before .before .before .before .before .before .before .before .next-u32 .result .value + c .before .before .before .before .before .before .before .before .before .before .next-u322 .result .value - c .before .before .before .before .before .before .before .before .before .before .before .next-u32 .result .value) (drop (c .before .before .before .before .before .before .before .before .before .before .before .next-u32 .result .value) (c .before .before .before .before .before .before .before .before .before .before .before .before .before .before .before .args .memory .now)) in
-    omega (arith, c .before .before .before .before .before .before .before .before .before .before .before .before .before .before .before .pre, few (c .before .before .before .before .before .before .before .before), hex-count part, length-take (c .before .before .before .before .before .before .before .before .before .before .before .next-u32 .result .value + c .before .before .before .before .before .before .before .before .before .before .next-u322 .result .value - c .before .before .before .before .before .before .before .before .before .before .before .next-u32 .result .value) (drop (c .before .before .before .before .before .before .before .before .before .before .before .next-u32 .result .value) (c .before .before .before .before .before .before .before .before .before .before .before .before .before .before .before .args .memory .now)), c .before .before .write-hex .ensures .0, c .before .before .write-hex .kept .0)
+    let next-u32 = c .before .before .before .before .before .before .before .before .before .before .before .next-u32 in
+    let s = c .before .before .before .before .before .before .before .before .before .before .before .before .before .before .before in
+    let next-u322 = c .before .before .before .before .before .before .before .before .before .before .next-u322 in
+    let part = take (next-u32 .result .value + next-u322 .result .value - next-u32 .result .value) (drop (next-u32 .result .value) (s .args .memory .now)) in
+    omega (
+      arith,
+      s .pre,
+      few (c .before .before .before .before .before .before .before .before),
+      hex-count part,
+      length-take (next-u32 .result .value + next-u322 .result .value - next-u32 .result .value) (drop (next-u32 .result .value) (s .args .memory .now)),
+      c .before .before .write-hex .ensures .0,
+      c .before .before .write-hex .kept .0,
+    )
 
 add-result : tie.Need-add-result
 add-result c =
-    let part = take (c .before .before .before .before .before .before .before .before .before .before .before .next-u32 .result .value + c .before .before .before .before .before .before .before .before .before .before .next-u322 .result .value - c .before .before .before .before .before .before .before .before .before .before .before .next-u32 .result .value) (drop (c .before .before .before .before .before .before .before .before .before .before .before .next-u32 .result .value) (c .before .before .before .before .before .before .before .before .before .before .before .before .before .before .before .args .memory .now)) in
-    omega (arith, c .before .before .before .before .before .before .before .before .before .before .before .before .before .before .before .pre, few (c .before .before .before .before .before .before .before .before), hex-count part, length-take (c .before .before .before .before .before .before .before .before .before .before .before .next-u32 .result .value + c .before .before .before .before .before .before .before .before .before .before .next-u322 .result .value - c .before .before .before .before .before .before .before .before .before .before .before .next-u32 .result .value) (drop (c .before .before .before .before .before .before .before .before .before .before .before .next-u32 .result .value) (c .before .before .before .before .before .before .before .before .before .before .before .before .before .before .before .args .memory .now)), c .before .before .write-hex .ensures .0)
+    let next-u32 = c .before .before .before .before .before .before .before .before .before .before .before .next-u32 in
+    let s = c .before .before .before .before .before .before .before .before .before .before .before .before .before .before .before in
+    let next-u322 = c .before .before .before .before .before .before .before .before .before .before .next-u322 in
+    let part = take (next-u32 .result .value + next-u322 .result .value - next-u32 .result .value) (drop (next-u32 .result .value) (s .args .memory .now)) in
+    omega (
+      arith,
+      s .pre,
+      few (c .before .before .before .before .before .before .before .before),
+      hex-count part,
+      length-take (next-u32 .result .value + next-u322 .result .value - next-u32 .result .value) (drop (next-u32 .result .value) (s .args .memory .now)),
+      c .before .before .write-hex .ensures .0,
+    )
 
 same-length-3 : tie.Need-same-length-3
 same-length-3 c = simp length-set (c .before .before .write-hex .kept .0)
@@ -110,17 +145,23 @@ same-length-3 c = simp length-set (c .before .before .write-hex .kept .0)
 returns-3 : tie.Need-returns-3
 unfolding dumpLine
 returns-3 c =
-    let s = c .before .before .before .before .before .before .before .before .before .before .before .before .before .before .before in
-    let f = c .before .before .before .before .before .before .before .before .before .before .before .next-u32 .result .value in
-    let n = c .before .before .before .before .before .before .before .before .before .before .next-u322 .result .value in
-    let part = take (c .before .before .before .before .before .before .before .before .before .before .before .next-u32 .result .value + c .before .before .before .before .before .before .before .before .before .before .next-u322 .result .value - c .before .before .before .before .before .before .before .before .before .before .before .next-u32 .result .value) (drop (c .before .before .before .before .before .before .before .before .before .before .before .next-u32 .result .value) (c .before .before .before .before .before .before .before .before .before .before .before .before .before .before .before .args .memory .now)) in
+    let next-u32 = c .before .before .before .before .before .before .before .before .before .before .before .next-u32 in
+    let next-u322 = c .before .before .before .before .before .before .before .before .before .before .next-u322 in
+    let l = c .before .before .before .before .before .before .before .before .before .before .before .before .before .before .before in
+    let at = c .before .before .before .before .before .before .before .before in
+    let s = l in
+    let f = next-u32 .result .value in
+    let n = next-u322 .result .value in
+    let part = take (next-u32 .result .value + next-u322 .result .value - next-u32 .result .value) (drop (next-u32 .result .value) (l .args .memory .now)) in
     let count : f + n - f ≡ n = omega arith in
     let w = wrote-as (s .args .out .now) (s .args .to)
-    (two-read (dumpBy (s .args .said .now) (s .args .memory .now)) (λ (n : NextU32). nextU32 (s .args .said .now) (n .next)) (c .before .before .before .before .before .before .before .before .before .before .before .next-u32 .ensures) (c .before .before .before .before .before .before .before .before .before .before .next-u322 .ensures)
+    (two-read (dumpBy (s .args .said .now) (s .args .memory .now)) (λ (n : NextU32). nextU32 (s .args .said .now) (n .next)) (next-u32 .ensures) (next-u322 .ensures)
     (ap (λ (n : ℕ). hexText (take n (drop f (s .args .memory .now))) ++ (10 ∷ [])) count
-    ∙ ap₂ (λ (a b : Bool). cond (a && b) (hexText (take n (drop f (s .args .memory .now))) ++ (10 ∷ [])) badLine) (sym (not-false _ (c .before .before .before .before .before .before .before .before .if1 .left)) ∙ c .before .before .before .before .before .before .before .before .before .ends-within .ensures) (sym (le-leb (f + n) (length (s .args .memory .now)) (omega (arith, c .before .before .before .before .before .if2 .left))))))
+    ∙ ap₂ (λ (a b : Bool). cond (a && b) (hexText (take n (drop f (s .args .memory .now))) ++ (10 ∷ [])) badLine)
+    (sym (not-false _ (at .if1 .left)) ∙ c .before .before .before .before .before .before .before .before .before .ends-within .ensures)
+    (sym (le-leb (f + n) (length (s .args .memory .now)) (omega (arith, c .before .before .before .before .before .if2 .left))))))
     (wrote-byte (s .args .out .now) (s .args .to) (hexText part) 10 (c .before .before .write-hex .ensures)) in
-    (w .0, w .1, omega (arith, few (c .before .before .before .before .before .before .before .before), hex-count part, length-take (f + n - f) (drop f (s .args .memory .now)), c .before .before .write-hex .ensures .0))
+    (w .0, w .1, omega (arith, few at, hex-count part, length-take (f + n - f) (drop f (s .args .memory .now)), c .before .before .write-hex .ensures .0))
 
 pub dump-spec : {M : Type 1} → statement M
 dump-spec =

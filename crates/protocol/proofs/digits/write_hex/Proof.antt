@@ -29,26 +29,30 @@ digit-requires c κs = omega (arith, c .shared-slice-known2 .given (c .before .b
 
 slice-write-out : tie.Need-slice-write-out Inv-loop μ-loop
 slice-write-out c =
+    let s = c .before .before .before .before .before .before in
     let l = c .before .before .before .loop in
-    omega (arith, l .inv .1, l .inv .2, c .before .before .before .before .before .before .pre, hex-count (drop (l .i) (c .before .before .before .before .before .before .args .bytes .now)), length-drop (l .i) (c .before .before .before .before .before .before .args .bytes .now))
+    omega (arith, l .inv .1, l .inv .2, s .pre, hex-count (drop (l .i) (s .args .bytes .now)), length-drop (l .i) (s .args .bytes .now))
 
 digit-requires-2 : tie.Need-digit-requires-2 Inv-loop μ-loop
 digit-requires-2 c κs = omega arith
 
 add-out : tie.Need-add-out Inv-loop μ-loop
 add-out c =
+    let s = c .before .before .before .before .before .before .before in
     let l = c .before .before .before .before .loop in
-    omega (arith, l .inv .1, l .inv .2, c .before .before .before .before .before .before .before .pre, hex-count (drop (l .i) (c .before .before .before .before .before .before .before .args .bytes .now)), length-drop (l .i) (c .before .before .before .before .before .before .before .args .bytes .now))
+    omega (arith, l .inv .1, l .inv .2, s .pre, hex-count (drop (l .i) (s .args .bytes .now)), length-drop (l .i) (s .args .bytes .now))
 
 slice-write-out-2 : tie.Need-slice-write-out-2 Inv-loop μ-loop
 slice-write-out-2 c =
+    let s = c .before .before .before .before .before .before .before in
     let l = c .before .before .before .before .loop in
-    simp length-set (omega (arith, l .inv .1, l .inv .2, c .before .before .before .before .before .before .before .pre, hex-count (drop (l .i) (c .before .before .before .before .before .before .before .args .bytes .now)), length-drop (l .i) (c .before .before .before .before .before .before .before .args .bytes .now)))
+    simp length-set (omega (arith, l .inv .1, l .inv .2, s .pre, hex-count (drop (l .i) (s .args .bytes .now)), length-drop (l .i) (s .args .bytes .now)))
 
 add-filled : tie.Need-add-filled Inv-loop μ-loop
 add-filled c =
+    let s = c .before .before .before .before .before .before .before in
     let l = c .before .before .before .before .loop in
-    omega (arith, l .inv .1, l .inv .2, c .before .before .before .before .before .before .before .pre, hex-count (drop (l .i) (c .before .before .before .before .before .before .before .args .bytes .now)), length-drop (l .i) (c .before .before .before .before .before .before .before .args .bytes .now))
+    omega (arith, l .inv .1, l .inv .2, s .pre, hex-count (drop (l .i) (s .args .bytes .now)), length-drop (l .i) (s .args .bytes .now))
 
 add-i : tie.Need-add-i Inv-loop μ-loop
 add-i c = search needs

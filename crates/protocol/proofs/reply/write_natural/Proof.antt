@@ -11,10 +11,14 @@ write-u32-requires : tie.Need-write-u32-requires
 write-u32-requires c κs = omega (arith, c .before .before .pre, shown-ten (c .before .before .args .n) (c .before .before .fits .n .fits))
 
 slice-write-out : tie.Need-slice-write-out
-slice-write-out c = omega (arith, c .before .before .before .before .before .pre, c .before .before .write-u32 .ensures .0, c .before .before .write-u32 .kept .0, shown-ten (c .before .before .before .before .before .args .n) (c .before .before .before .before .before .fits .n .fits))
+slice-write-out c =
+    let s = c .before .before .before .before .before in
+    omega (arith, s .pre, c .before .before .write-u32 .ensures .0, c .before .before .write-u32 .kept .0, shown-ten (s .args .n) (s .fits .n .fits))
 
 add-result : tie.Need-add-result
-add-result c = omega (arith, c .before .before .before .before .before .pre, c .before .before .write-u32 .ensures .0, shown-ten (c .before .before .before .before .before .args .n) (c .before .before .before .before .before .fits .n .fits))
+add-result c =
+    let s = c .before .before .before .before .before in
+    omega (arith, s .pre, c .before .before .write-u32 .ensures .0, shown-ten (s .args .n) (s .fits .n .fits))
 
 same-length : tie.Need-same-length
 same-length c = simp length-set (c .before .before .write-u32 .kept .0)

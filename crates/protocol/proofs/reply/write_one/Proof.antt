@@ -18,7 +18,8 @@ same-length c = c .before .before .write-value .kept .0 ∙ c .before .before .b
 returns : tie.Need-returns
 returns c =
     let a = c .before .before .before .before .before .before .before .before .before .args in
-    short-then 11 12 (a .out .now) (a .at) (natural (a .number) 9) (valueField (a .v) 10) (c .before .before .before .before .before .before .write-natural .ensures) (c .before .before .write-value .ensures)
+    short-then 11 12 (a .out .now) (a .at) (natural (a .number) 9) (valueField (a .v) 10) (c .before .before .before .before .before .before .write-natural .ensures)
+    (c .before .before .write-value .ensures)
 
 pub write-one-spec : {M : Type 1} → statement M
 write-one-spec =

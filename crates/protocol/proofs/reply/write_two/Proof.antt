@@ -16,7 +16,9 @@ write-value-requires-2 : tie.Need-write-value-requires-2
 write-value-requires-2 c κs = omega arith
 
 same-length : tie.Need-same-length
-same-length c = c .before .before .write-value2 .kept .0 ∙ c .before .before .before .before .before .before .write-value .kept .0 ∙ c .before .before .before .before .before .before .before .before .before .before .write-natural .kept .0
+same-length c =
+    c .before .before .write-value2 .kept .0 ∙ c .before .before .before .before .before .before .write-value .kept .0
+    ∙ c .before .before .before .before .before .before .before .before .before .before .write-natural .kept .0
 
 returns : tie.Need-returns
 returns c =

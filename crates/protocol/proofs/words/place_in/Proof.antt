@@ -19,9 +19,15 @@ abbrev μ-loop : tie.MeasureT-loop
 μ-loop table word at₀ before₀ at before = length table + 1 - at
 
 -- the word of the table ends within it
-within : (c : tie.Else1 Inv-loop μ-loop) → c .before .before .before .part-end .result ≤ length (c .before .before .before .before .before .before .before .before .args .table .now)
+within : (c : tie.Else1 Inv-loop μ-loop)
+    → c .before .before .before .part-end .result ≤ length (c .before .before .before .before .before .before .before .before .args .table .now)
 within c =
-    omega (arith, c .before .before .before .part-end .ensures, part-end-within 9 (c .before .before .before .before .before .before .before .before .args .table .now) (c .before .before .before .before .before .loop .at) (omega arith))
+    omega (
+      arith,
+      c .before .before .before .part-end .ensures,
+      part-end-within 9 (c .before .before .before .before .before .before .before .before .args .table .now) (c .before .before .before .before .before .loop .at)
+          (omega arith),
+    )
 
 loop-holds : tie.Need-loop-holds Inv-loop μ-loop
 loop-holds c = (omega arith, omega arith, omega (arith, ap (placeOf (c .before .before .args .word .now)) (from-start (c .before .before .args .table .now))))

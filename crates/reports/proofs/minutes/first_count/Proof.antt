@@ -15,13 +15,17 @@ cast-t5 : tie.Need-cast-t5
 cast-t5 c = omega (arith, c .bad-field .ensures .1)
 
 returns : tie.Need-returns
-returns c = ap (badAt 1) (c .bad-field .ensures .0) ∙ wedge-bad (c .before .before .before .before .args .line .now) (c .before .before .before .before .args .v) (not-true _ (c .before .if1 .taken))
+returns c =
+    let a = c .before .before .before .before .args in
+    ap (badAt 1) (c .bad-field .ensures .0) ∙ wedge-bad (a .line .now) (a .v) (not-true _ (c .before .if1 .taken))
 
 refusal-of-requires : tie.Need-refusal-of-requires
 refusal-of-requires c κs = search needs
 
 returns-2 : tie.Need-returns-2
-returns-2 c = wedge-good (c .before .before .before .before .args .line .now) (c .before .before .before .before .args .v) (c .refusal-of .result) (c .refusal-of .ensures) (not-false _ (c .before .if1 .left))
+returns-2 c =
+    let a = c .before .before .before .before .args in
+    wedge-good (a .line .now) (a .v) (c .refusal-of .result) (c .refusal-of .ensures) (not-false _ (c .before .if1 .left))
 
 pub first-count-spec : {M : Type 1} → statement M
 first-count-spec = tie.close (tie.spec bad-field-requires cast-t5 returns refusal-of-requires returns-2)

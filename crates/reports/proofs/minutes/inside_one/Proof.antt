@@ -22,7 +22,10 @@ contains-requires c κs = search needs
 
 -- what `contains` answers of the six numbers and the sample
 asked : (c : tie.After-contains)
-    → c .contains .result ≡ verdict (cornersRefusal (c .before .before .before .args .v)) (contained (corner1 (c .before .before .before .args .v)) (corner2 (c .before .before .before .args .v)) (corner3 (c .before .before .before .args .v)) (c .before .before .before .args .p .x, c .before .before .before .args .p .y))
+    → c .contains .result
+    ≡ verdict (cornersRefusal (c .before .before .before .args .v))
+    (contained (corner1 (c .before .before .before .args .v)) (corner2 (c .before .before .before .args .v)) (corner3 (c .before .before .before .args .v))
+    (c .before .before .before .args .p .x, c .before .before .before .args .p .y))
 asked c =
     let e = c .before .before .corners-of .ensures in
     let p = c .before .before .before .args .p in

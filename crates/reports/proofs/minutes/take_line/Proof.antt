@@ -14,7 +14,9 @@ with-line-requires c κs = c .before .before .before .pre
 
 returns : tie.Need-returns
 unfolding takeLine
-returns c = rw (c .before .before .if1 .taken) (ap (λ (k : Count). record { begun = true; wedge = c .before .before .before .before .args .t .wedge; count = k }) (c .with-line .ensures))
+returns c =
+    rw (c .before .before .if1 .taken)
+    (ap (λ (k : Count). record { begun = true; wedge = c .before .before .before .before .args .t .wedge; count = k }) (c .with-line .ensures))
 
 read-vertices-requires : tie.Need-read-vertices-requires
 read-vertices-requires c κs = search needs

@@ -34,7 +34,13 @@ returns c =
 
 -- a line that LF ends
 ended : (c : tie.Else1 Inv-loop μ-loop) → c .before .part-end .result < length (c .before .before .before .before .args .input .now)
-ended c = omega (arith, c .before .part-end .ensures, part-end-within 10 (c .before .before .before .before .args .input .now) (c .before .before .loop .next) (c .before .before .loop .inv .0), c .if1 .left)
+ended c =
+    omega (
+      arith,
+      c .before .part-end .ensures,
+      part-end-within 10 (c .before .before .before .before .args .input .now) (c .before .before .loop .next) (c .before .before .loop .inv .0),
+      c .if1 .left,
+    )
 
 sub-take-line : tie.Need-sub-take-line Inv-loop μ-loop
 sub-take-line c = omega (arith, c .before .part-end .ensures)
@@ -56,13 +62,15 @@ loop-less c = omega (arith, ended (c .before .before), c .before .before .before
 
 loop-again : tie.Need-loop-again Inv-loop μ-loop
 loop-again c =
+    let part-end = c .before .before .before .part-end in
     let l = c .before .before .before .before .loop in
     let s = c .before .before .before .before .before .before .args .input .now in
-    let e = c .before .before .before .part-end .ensures in
+    let e = part-end .ensures in
     let inside : lineEnd s (l .next) < length s = omega (arith, ended (c .before .before), e) in (
       omega (arith, ended (c .before .before)),
       subst Few (sym (c .take-line .ensures)) (take-few (l .tally) _ (l .inv .1)),
-      ap₂ (λ (k : ℕ) (t : Tally). handled always takeLine s (length s) k t) (ap (λ (k : ℕ). k + 1) e) (c .take-line .ensures ∙ ap (takeLine (l .tally)) (line-is s (l .next) (c .before .before .before .part-end .result) e))
+      ap₂ (λ (k : ℕ) (t : Tally). handled always takeLine s (length s) k t) (ap (λ (k : ℕ). k + 1) e)
+          (c .take-line .ensures ∙ ap (takeLine (l .tally)) (line-is s (l .next) (part-end .result) e))
           ∙ sym (handled-turn takeLine always s (l .next) (l .tally) inside refl)
           ∙ l .inv .2,
     )

@@ -14,7 +14,9 @@ is-counting-requires : tie.Need-is-counting-requires
 is-counting-requires c κs = search needs
 
 returns : tie.Need-returns
-returns c = line-settled (c .before .before .before .args .v) (c .before .before .before .args .k) (c .before .before .before .args .line .now) (sym (c .before .is-counting .ensures) ∙ not-true _ (c .if1 .taken))
+returns c =
+    let a = c .before .before .before .args in
+    line-settled (a .v) (a .k) (a .line .now) (sym (c .before .is-counting .ensures) ∙ not-true _ (c .if1 .taken))
 
 read-place-requires : tie.Need-read-place-requires
 read-place-requires c κs = search needs
@@ -24,9 +26,11 @@ with-sample-requires c κs = search needs
 
 returns-2 : tie.Need-returns-2
 returns-2 c =
+    let a = c .before .before .before .before .before .before .args in
     let e = c .before .before .read-place .ensures in
-    c .with-sample .ensures ∙ ap (withSample (c .before .before .before .before .before .before .args .v) (c .before .before .before .before .before .before .args .k)) e
-    ∙ line-good (c .before .before .before .before .before .before .args .v) (c .before .before .before .before .before .before .args .k) (c .before .before .before .before .before .before .args .line .now) (sym (c .before .before .before .before .is-counting .ensures) ∙ not-false _ (c .before .before .before .if1 .left)) (ap (λ (p : Place). p .ok) (sym e) ∙ c .before .if2 .taken)
+    c .with-sample .ensures ∙ ap (withSample (a .v) (a .k)) e
+    ∙ line-good (a .v) (a .k) (a .line .now) (sym (c .before .before .before .before .is-counting .ensures) ∙ not-false _ (c .before .before .before .if1 .left))
+    (ap (λ (p : Place). p .ok) (sym e) ∙ c .before .if2 .taken)
 
 cast-t7 : tie.Need-cast-t7
 cast-t7 c = search needs
@@ -42,8 +46,10 @@ cast-t10 c = omega (arith, c .bad-field .ensures .1)
 
 returns-3 : tie.Need-returns-3
 returns-3 c =
-    ap (badAt (c .before .before .before .before .before .before .before .args .k .samples + 2)) (c .bad-field .ensures .0)
-    ∙ line-bad (c .before .before .before .before .before .before .before .args .v) (c .before .before .before .before .before .before .before .args .k) (c .before .before .before .before .before .before .before .args .line .now) (sym (c .before .before .before .before .before .is-counting .ensures) ∙ not-false _ (c .before .before .before .before .if1 .left)) (ap (λ (p : Place). p .ok) (sym (c .before .before .before .read-place .ensures)) ∙ c .before .before .if2 .left)
+    let a = c .before .before .before .before .before .before .before .args in
+    ap (badAt (a .k .samples + 2)) (c .bad-field .ensures .0)
+    ∙ line-bad (a .v) (a .k) (a .line .now) (sym (c .before .before .before .before .before .is-counting .ensures) ∙ not-false _ (c .before .before .before .before .if1 .left))
+    (ap (λ (p : Place). p .ok) (sym (c .before .before .before .read-place .ensures)) ∙ c .before .before .if2 .left)
 
 pub with-line-spec : {M : Type 1} → statement M
 with-line-spec =

@@ -19,13 +19,17 @@ few : (c : tie.Else1) → c .before .before .args .k .samples < 4294967295
 few c = omega (arith, c .if1 .left, c .before .struct-known .given .1 .1 .1 .1 .1 .0 .fits)
 
 add-t6 : tie.Need-add-t6
-add-t6 c = omega (arith, few (c .before .before), c .before .before .before .before .pre, c .before .inside-one .ensures, inside-most (c .before .before .before .before .args .v) (c .before .before .before .before .args .p))
+add-t6 c =
+    let s = c .before .before .before .before in
+    omega (arith, few (c .before .before), s .pre, c .before .inside-one .ensures, inside-most (s .args .v) (s .args .p))
 
 add-t7 : tie.Need-add-t7
 add-t7 c = omega (arith, few (c .before .before .before))
 
 returns-2 : tie.Need-returns-2
-returns-2 c = ap (λ (n : ℕ). tally (c .before .before .before .before .before .args .k .inside + n) (c .before .before .before .before .before .args .k .samples + 1)) (c .before .before .inside-one .ensures) ∙ sample-more (c .before .before .before .before .before .args .v) (c .before .before .before .before .before .args .k) (c .before .before .before .before .before .args .p) (few (c .before .before .before))
+returns-2 c =
+    let a = c .before .before .before .before .before .args in
+    ap (λ (n : ℕ). tally (a .k .inside + n) (a .k .samples + 1)) (c .before .before .inside-one .ensures) ∙ sample-more (a .v) (a .k) (a .p) (few (c .before .before .before))
 
 pub with-sample-spec : {M : Type 1} → statement M
 with-sample-spec = tie.close (tie.spec returns inside-one-requires add-t6 add-t7 returns-2)

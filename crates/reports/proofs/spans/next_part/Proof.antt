@@ -36,17 +36,22 @@ least-requires c κs = search needs
 
 write-rows-requires : tie.Need-write-rows-requires
 write-rows-requires c κs =
-    let p = c .before .before .before .before .args .p in
-    let n = c .before .before .least .result in (
-      omega (arith, c .before .before .before .before .pre .0, at-once (c .before .before)),
-      subst (λ (z : ℤ). (z +ℤ pos n) ≤ℤ pos 131072) (sym (field-back w32 (p .first) (c .struct-told .given .1 .0 .1))) (fewer-below (p .first) (p .left) n (few (c .before .before)) (c .before .before .before .before .pre .1)),
+    let s = c .before .before .before .before in
+    let at = c .before .before in
+    let p = s .args .p in
+    let n = at .least .result in (
+      omega (arith, s .pre .0, at-once at),
+      subst (λ (z : ℤ). (z +ℤ pos n) ≤ℤ pos 131072) (sym (field-back w32 (p .first) (c .struct-told .given .1 .0 .1))) (fewer-below (p .first) (p .left) n (few at) (s .pre .1)),
     )
 
 cast-t8 : tie.Need-cast-t8
 cast-t8 c = search needs
 
 add-t9 : tie.Need-add-t9
-add-t9 c = let f = c .struct-told2 .given .1 .0 .1 in next (c .before .before .before .before .before .before .before) (field-back w32 (c .before .before .before .before .before .before .before .before .before .args .p .first) f) (record { sfits = f })
+add-t9 c =
+    let f = c .struct-told2 .given .1 .0 .1 in
+    next (c .before .before .before .before .before .before .before)
+    (field-back w32 (c .before .before .before .before .before .before .before .before .before .args .p .first) f) (record { sfits = f })
 
 sub-t10 : tie.Need-sub-t10
 sub-t10 c = search needs
@@ -56,12 +61,14 @@ same-length c = search needs
 
 returns : tie.Need-returns
 returns c =
-    let p = c .before .before .before .before .before .before .before .before .before .before .args .p in
-    let v = c .before .before .before .before .before .before .before .before .before .before .args .v in
+    let at = c .before .before .before .before .before .before .before .before in
+    let a = c .before .before .before .before .before .before .before .before .before .before .args in
+    let p = a .p in
+    let v = a .v in
     let f = c .before .struct-told2 .given .1 .0 .1 in
     let first = field-back w32 (p .first) f in
-    let w = wrote-as (c .before .before .before .before .before .before .before .before .before .before .args .out .now) 0 (ap₂ (λ (z : ℤ) (k : ℕ). rowLines v z k) first (c .before .before .before .before .before .before .before .before .least .ensures)) (c .before .before .before .before .before .write-rows .ensures) in
-    (next-part-is v p (w .0) (toZ-ofZ (next (c .before .before .before .before .before .before .before .before) first (record { sfits = f })) ∙ below (c .before .before .before .before .before .before .before .before) first) (c .before .before .before .before .before .before .before .before .least .ensures), w .1)
+    let w = wrote-as (a .out .now) 0 (ap₂ (λ (z : ℤ) (k : ℕ). rowLines v z k) first (at .least .ensures)) (c .before .before .before .before .before .write-rows .ensures) in
+    (next-part-is v p (w .0) (toZ-ofZ (next at first (record { sfits = f })) ∙ below at first) (at .least .ensures), w .1)
 
 pub next-part-spec : {M : Type 1} → statement M
 next-part-spec =

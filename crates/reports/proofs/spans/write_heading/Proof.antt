@@ -16,13 +16,17 @@ same-length : tie.Need-same-length
 same-length c = search needs
 
 returns : tie.Need-returns
-returns c = let g = c .before .before .before .before .before .before .args in wrote-as (g .out .now) (g .at) (heading-bad (g .ok) (g .rows) (not-true _ (c .before .before .before .before .if1 .taken))) (c .before .before .write-bad .ensures)
+returns c =
+    let g = c .before .before .before .before .before .before .args in
+    wrote-as (g .out .now) (g .at) (heading-bad (g .ok) (g .rows) (not-true _ (c .before .before .before .before .if1 .taken))) (c .before .before .write-bad .ensures)
 
 slice-aggregate-write-counted : tie.Need-slice-aggregate-write-counted
 slice-aggregate-write-counted c = search needs
 
 write-counted-requires : tie.Need-write-counted-requires
-write-counted-requires c κs = omega (arith, c .before .before .before .before .before .before .pre, counted-short refused (c .before .before .before .before .before .before .args .rows .number) (c .before .before .before .struct-known .given .0))
+write-counted-requires c κs =
+    let s = c .before .before .before .before .before .before in
+    omega (arith, s .pre, counted-short refused (s .args .rows .number) (c .before .before .before .struct-known .given .0))
 
 same-length-2 : tie.Need-same-length-2
 same-length-2 c = search needs
@@ -30,13 +34,16 @@ same-length-2 c = search needs
 returns-2 : tie.Need-returns-2
 returns-2 c =
     let g = c .before .before .before .before .before .before .before .before .before .args in
-    wrote-as (g .out .now) (g .at) (heading-refused (g .ok) (g .rows) (not-false _ (c .before .before .before .before .before .before .before .if1 .left)) (c .before .before .before .before .before .if2 .taken)) (c .before .before .write-counted .ensures)
+    wrote-as (g .out .now) (g .at) (heading-refused (g .ok) (g .rows) (not-false _ (c .before .before .before .before .before .before .before .if1 .left))
+    (c .before .before .before .before .before .if2 .taken)) (c .before .before .write-counted .ensures)
 
 slice-aggregate-write-counted-2 : tie.Need-slice-aggregate-write-counted-2
 slice-aggregate-write-counted-2 c = search needs
 
 write-counted-requires-2 : tie.Need-write-counted-requires-2
-write-counted-requires-2 c κs = omega (arith, c .before .before .before .before .before .before .pre, counted-short rows (c .before .before .before .before .before .before .args .rows .count) (c .before .before .before .struct-known .given .1 .1 .0))
+write-counted-requires-2 c κs =
+    let s = c .before .before .before .before .before .before in
+    omega (arith, s .pre, counted-short rows (s .args .rows .count) (c .before .before .before .struct-known .given .1 .1 .0))
 
 same-length-3 : tie.Need-same-length-3
 same-length-3 c = search needs
@@ -44,7 +51,9 @@ same-length-3 c = search needs
 returns-3 : tie.Need-returns-3
 returns-3 c =
     let g = c .before .before .before .before .before .before .before .before .before .args in
-    wrote-as (g .out .now) (g .at) (heading-rows (g .ok) (g .rows) (not-false _ (c .before .before .before .before .before .before .before .if1 .left)) (c .before .before .before .before .before .if2 .left)) (c .before .before .write-counted2 .ensures)
+    wrote-as (g .out .now) (g .at)
+    (heading-rows (g .ok) (g .rows) (not-false _ (c .before .before .before .before .before .before .before .if1 .left)) (c .before .before .before .before .before .if2 .left))
+    (c .before .before .write-counted2 .ensures)
 
 pub write-heading-spec : {M : Type 1} → statement M
 write-heading-spec =

@@ -41,8 +41,15 @@ read-i32-requires c κs = search needs
 
 returns : tie.Need-returns Inv-loop μ-loop
 returns c =
+    let part-end = c .before .before .before .before .part-end in
     let l = c .before .before .before .before .before .before .loop in
-    omega (arith, l .inv .2, bad-here (c .before .before .before .before .before .before .before .before .args .line .now) (l .at) (c .before .before .before .before .part-end .result) (c .before .before .before .before .before .loop-test .taken) (c .before .before .before .before .part-end .ensures) (c .before .before .read-i32 .result) (c .before .before .read-i32 .ensures) (not-true _ (c .if1 .taken)))
+    omega (
+      arith,
+      l .inv .2,
+      bad-here (c .before .before .before .before .before .before .before .before .args .line .now) (l .at) (part-end .result)
+          (c .before .before .before .before .before .loop-test .taken) (part-end .ensures) (c .before .before .read-i32 .result) (c .before .before .read-i32 .ensures)
+          (not-true _ (c .if1 .taken)),
+    )
 
 add-at : tie.Need-add-at Inv-loop μ-loop
 add-at c = omega (arith, past (c .before .before .before .before))
@@ -55,10 +62,17 @@ loop-less c = omega (arith, past (c .before .before .before .before), c .before 
 
 loop-again : tie.Need-loop-again Inv-loop μ-loop
 loop-again c =
+    let at = c .before .before .before .before in
     let l = c .before .before .before .before .before .before .loop in (
-      past (c .before .before .before .before),
-      omega (arith, l .inv .1, c .before .before .before .before .part-end .ensures),
-      omega (arith, l .inv .2, bad-behind (c .before .before .before .before .before .before .before .before .args .line .now) (l .at) (c .before .before .before .before .part-end .result) (c .before .before .before .before .before .loop-test .taken) (c .before .before .before .before .part-end .ensures) (c .before .before .read-i32 .result) (c .before .before .read-i32 .ensures) (not-false _ (c .if1 .left))),
+      past at,
+      omega (arith, l .inv .1, at .part-end .ensures),
+      omega (
+        arith,
+        l .inv .2,
+        bad-behind (c .before .before .before .before .before .before .before .before .args .line .now) (l .at) (at .part-end .result)
+            (c .before .before .before .before .before .loop-test .taken) (at .part-end .ensures) (c .before .before .read-i32 .result) (c .before .before .read-i32 .ensures)
+            (not-false _ (c .if1 .left)),
+      ),
     )
 
 returns-2 : tie.Need-returns-2 Inv-loop μ-loop

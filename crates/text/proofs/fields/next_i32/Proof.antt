@@ -28,7 +28,12 @@ read-i32-requires : tie.Need-read-i32-requires
 read-i32-requires c κs = search needs
 
 add-t12 : tie.Need-add-t12
-add-t12 c = omega (arith, field-ends (c .before .before .before .before .before .before .args .line .now) (c .before .before .before .before .if1 .taken) (c .before .before .before .part-end .ensures))
+add-t12 c =
+    omega (
+      arith,
+      field-ends (c .before .before .before .before .before .before .args .line .now) (c .before .before .before .before .if1 .taken)
+          (c .before .before .before .part-end .ensures),
+    )
 
 returns : tie.Need-returns
 returns c =

@@ -37,8 +37,10 @@ returns-2 c =
     let all = ended line 2 (last .next-i322 .result .next) (behind-two last) (c .before .before .if1 .left) in
     let n1 : numbers 1 (fields line) ≡ true = numbers-less 1 (fields line) (exactly-numbers 2 (fields line) all) in
     a-place (fields line) _ _ all
-    (field-back w32 (last .before .next-i32 .result .value) (c .before .struct-told .given .0 .1) ∙ then-value line 0 0 (last .before .next-i32 .result) refl (last .before .next-i32 .ensures) refl)
-    (field-back w32 (last .next-i322 .result .value) (c .struct-told2 .given .0 .1) ∙ then-value line 1 (last .before .next-i32 .result .next) (last .next-i322 .result) (behind-one (last .before)) (last .next-i322 .ensures) n1)
+    (field-back w32 (last .before .next-i32 .result .value) (c .before .struct-told .given .0 .1)
+    ∙ then-value line 0 0 (last .before .next-i32 .result) refl (last .before .next-i32 .ensures) refl)
+    (field-back w32 (last .next-i322 .result .value) (c .struct-told2 .given .0 .1)
+    ∙ then-value line 1 (last .before .next-i32 .result .next) (last .next-i322 .result) (behind-one (last .before)) (last .next-i322 .ensures) n1)
 
 pub read-place-spec : {M : Type 1} → statement M
 read-place-spec =

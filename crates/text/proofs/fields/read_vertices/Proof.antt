@@ -17,16 +17,24 @@ behind-two : (c : tie.After-next-i322) → c .next-i322 .result .next ≡ after 
 behind-two c = then-next (c .before .before .before .args .line .now) 1 (c .before .next-i32 .result .next) (c .next-i322 .result) (behind-one (c .before)) (c .next-i322 .ensures)
 
 behind-three : (c : tie.After-next-i323) → c .next-i323 .result .next ≡ after (c .before .before .before .before .args .line .now) 3
-behind-three c = then-next (c .before .before .before .before .args .line .now) 2 (c .before .next-i322 .result .next) (c .next-i323 .result) (behind-two (c .before)) (c .next-i323 .ensures)
+behind-three c =
+    then-next (c .before .before .before .before .args .line .now) 2 (c .before .next-i322 .result .next) (c .next-i323 .result) (behind-two (c .before))
+    (c .next-i323 .ensures)
 
 behind-four : (c : tie.After-next-i324) → c .next-i324 .result .next ≡ after (c .before .before .before .before .before .args .line .now) 4
-behind-four c = then-next (c .before .before .before .before .before .args .line .now) 3 (c .before .next-i323 .result .next) (c .next-i324 .result) (behind-three (c .before)) (c .next-i324 .ensures)
+behind-four c =
+    then-next (c .before .before .before .before .before .args .line .now) 3 (c .before .next-i323 .result .next) (c .next-i324 .result) (behind-three (c .before))
+    (c .next-i324 .ensures)
 
 behind-five : (c : tie.After-next-i325) → c .next-i325 .result .next ≡ after (c .before .before .before .before .before .before .args .line .now) 5
-behind-five c = then-next (c .before .before .before .before .before .before .args .line .now) 4 (c .before .next-i324 .result .next) (c .next-i325 .result) (behind-four (c .before)) (c .next-i325 .ensures)
+behind-five c =
+    then-next (c .before .before .before .before .before .before .args .line .now) 4 (c .before .next-i324 .result .next) (c .next-i325 .result) (behind-four (c .before))
+    (c .next-i325 .ensures)
 
 behind-six : (c : tie.After-next-i326) → c .next-i326 .result .next ≡ after (c .before .before .before .before .before .before .before .args .line .now) 6
-behind-six c = then-next (c .before .before .before .before .before .before .before .args .line .now) 5 (c .before .next-i325 .result .next) (c .next-i326 .result) (behind-five (c .before)) (c .next-i326 .ensures)
+behind-six c =
+    then-next (c .before .before .before .before .before .before .before .args .line .now) 5 (c .before .next-i325 .result .next) (c .next-i326 .result)
+    (behind-five (c .before)) (c .next-i326 .ensures)
 
 next-i32-requires : tie.Need-next-i32-requires
 next-i32-requires c κs = search needs
@@ -54,8 +62,9 @@ no-vertices-requires c κs = search needs
 
 returns : tie.Need-returns
 returns c =
+    let at = c .before .before .before in
     let line = c .before .before .before .before .before .before .before .before .before .before .args .line .now in
-    c .no-vertices .ensures ∙ no-vertices (fields line) (not-ended line 6 (c .before .before .before .next-i326 .result .next) (behind-six (c .before .before .before)) (c .before .if1 .taken))
+    c .no-vertices .ensures ∙ no-vertices (fields line) (not-ended line 6 (at .next-i326 .result .next) (behind-six at) (c .before .if1 .taken))
 
 returns-2 : tie.Need-returns-2
 returns-2 c =
@@ -68,12 +77,22 @@ returns-2 c =
     let n2 : numbers 2 (fields line) ≡ true = numbers-less 2 (fields line) n3 in
     let n1 : numbers 1 (fields line) ≡ true = numbers-less 1 (fields line) n2 in
     some-vertices (fields line) _ _ _ _ _ _ all
-    (field-back w32 (last .before .before .before .before .before .next-i32 .result .value) (c .before .before .before .before .before .struct-told .given .0 .1) ∙ then-value line 0 0 (last .before .before .before .before .before .next-i32 .result) refl (last .before .before .before .before .before .next-i32 .ensures) refl)
-    (field-back w32 (last .before .before .before .before .next-i322 .result .value) (c .before .before .before .before .struct-told2 .given .0 .1) ∙ then-value line 1 (last .before .before .before .before .before .next-i32 .result .next) (last .before .before .before .before .next-i322 .result) (behind-one (last .before .before .before .before .before)) (last .before .before .before .before .next-i322 .ensures) n1)
-    (field-back w32 (last .before .before .before .next-i323 .result .value) (c .before .before .before .struct-told3 .given .0 .1) ∙ then-value line 2 (last .before .before .before .before .next-i322 .result .next) (last .before .before .before .next-i323 .result) (behind-two (last .before .before .before .before)) (last .before .before .before .next-i323 .ensures) n2)
-    (field-back w32 (last .before .before .next-i324 .result .value) (c .before .before .struct-told4 .given .0 .1) ∙ then-value line 3 (last .before .before .before .next-i323 .result .next) (last .before .before .next-i324 .result) (behind-three (last .before .before .before)) (last .before .before .next-i324 .ensures) n3)
-    (field-back w32 (last .before .next-i325 .result .value) (c .before .struct-told5 .given .0 .1) ∙ then-value line 4 (last .before .before .next-i324 .result .next) (last .before .next-i325 .result) (behind-four (last .before .before)) (last .before .next-i325 .ensures) n4)
-    (field-back w32 (last .next-i326 .result .value) (c .struct-told6 .given .0 .1) ∙ then-value line 5 (last .before .next-i325 .result .next) (last .next-i326 .result) (behind-five (last .before)) (last .next-i326 .ensures) n5)
+    (field-back w32 (last .before .before .before .before .before .next-i32 .result .value) (c .before .before .before .before .before .struct-told .given .0 .1)
+    ∙ then-value line 0 0 (last .before .before .before .before .before .next-i32 .result) refl (last .before .before .before .before .before .next-i32 .ensures) refl)
+    (field-back w32 (last .before .before .before .before .next-i322 .result .value) (c .before .before .before .before .struct-told2 .given .0 .1)
+    ∙ then-value line 1 (last .before .before .before .before .before .next-i32 .result .next) (last .before .before .before .before .next-i322 .result)
+    (behind-one (last .before .before .before .before .before)) (last .before .before .before .before .next-i322 .ensures) n1)
+    (field-back w32 (last .before .before .before .next-i323 .result .value) (c .before .before .before .struct-told3 .given .0 .1)
+    ∙ then-value line 2 (last .before .before .before .before .next-i322 .result .next) (last .before .before .before .next-i323 .result)
+    (behind-two (last .before .before .before .before)) (last .before .before .before .next-i323 .ensures) n2)
+    (field-back w32 (last .before .before .next-i324 .result .value) (c .before .before .struct-told4 .given .0 .1)
+    ∙ then-value line 3 (last .before .before .before .next-i323 .result .next) (last .before .before .next-i324 .result) (behind-three (last .before .before .before))
+    (last .before .before .next-i324 .ensures) n3)
+    (field-back w32 (last .before .next-i325 .result .value) (c .before .struct-told5 .given .0 .1)
+    ∙ then-value line 4 (last .before .before .next-i324 .result .next) (last .before .next-i325 .result) (behind-four (last .before .before)) (last .before .next-i325 .ensures)
+    n4)
+    (field-back w32 (last .next-i326 .result .value) (c .struct-told6 .given .0 .1)
+    ∙ then-value line 5 (last .before .next-i325 .result .next) (last .next-i326 .result) (behind-five (last .before)) (last .next-i326 .ensures) n5)
 
 pub read-vertices-spec : {M : Type 1} → statement M
 read-vertices-spec =

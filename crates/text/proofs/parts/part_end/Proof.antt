@@ -10,7 +10,8 @@ use Rattle.text.proofs.Numbers.{rest-is}
 use Rattle.text.proofs.parts.part_end.Statement.{statement}
 use Rattle.text.proofs.parts.part_end.Tie as tie
 
-found : (c : tie.After-find) → c .find .result ≡ until (c .before .before .before .args .stop) (drop (c .before .before .before .args .at) (c .before .before .before .args .s .now))
+found : (c : tie.After-find)
+    → c .find .result ≡ until (c .before .before .before .args .stop) (drop (c .before .before .before .args .at) (c .before .before .before .args .s .now))
 found c = c .find .ensures ∙ ap (until (c .before .before .before .args .stop)) (rest-is (c .before .before .before .args .s .now) (c .before .before .before .args .at))
 
 sub-find : tie.Need-sub-find

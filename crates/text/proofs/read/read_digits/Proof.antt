@@ -68,7 +68,8 @@ returns-3 : tie.Need-returns-3 Inv-loop μ-loop
 returns-3 c =
     let a = c .before .before .before .before .before .args in
     let l = c .before .loop in
-    sym (scan-ends (a .most) (l .v) (a .s .now) (l .i) (c .loop-test .left)) ∙ l .inv .2 ∙ read-is (a .limit) (a .most) (a .s .now) (omega arith) (ltb-false (a .limit) (length (a .s .now)) (c .before .before .if2 .left))
+    sym (scan-ends (a .most) (l .v) (a .s .now) (l .i) (c .loop-test .left)) ∙ l .inv .2
+    ∙ read-is (a .limit) (a .most) (a .s .now) (omega arith) (ltb-false (a .limit) (length (a .s .now)) (c .before .before .if2 .left))
 
 pub read-digits-spec : {M : Type 1} → statement M
 read-digits-spec =

@@ -21,7 +21,8 @@ same-length c = c .before .before .write-number .kept .0 ∙ c .before .before .
 returns : tie.Need-returns
 returns c =
     let g = c .before .before .before .before .before .before .before .before .before .before .args in
-    wrote-then (g .buf .now) (g .at) (g .word .now) (numbered (g .n) 10) (c .before .before .before .before .before .before .write-bytes .ensures) (c .before .before .write-number .ensures)
+    wrote-then (g .buf .now) (g .at) (g .word .now) (numbered (g .n) 10) (c .before .before .before .before .before .before .write-bytes .ensures)
+    (c .before .before .write-number .ensures)
 
 pub write-counted-spec : {M : Type 1} → statement M
 write-counted-spec =

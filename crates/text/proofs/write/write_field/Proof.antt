@@ -13,10 +13,12 @@ use Rattle.text.proofs.write.write_field.Tie as tie
 
 -- what `write_i32` did, at the number itself
 number : (c : tie.After-write-i32)
-    → Wrote (c .before .before .before .args .buf .now) (c .before .before .before .args .at) (shownSigned (c .before .before .before .args .v)) (c .write-i32 .result) (c .write-i32 .last .0)
+    → Wrote (c .before .before .before .args .buf .now) (c .before .before .before .args .at) (shownSigned (c .before .before .before .args .v)) (c .write-i32 .result)
+    (c .write-i32 .last .0)
 number c =
-    let a = c .before .before .before .args in
-    subst (λ (z : ℤ). Wrote (a .buf .now) (a .at) (shownSigned z) (c .write-i32 .result) (c .write-i32 .last .0)) (toZ-ofZ (c .before .before .before .fits .v)) (c .write-i32 .ensures)
+    let s = c .before .before .before in
+    let a = s .args in
+    subst (λ (z : ℤ). Wrote (a .buf .now) (a .at) (shownSigned z) (c .write-i32 .result) (c .write-i32 .last .0)) (toZ-ofZ (s .fits .v)) (c .write-i32 .ensures)
 
 write-i32-requires : tie.Need-write-i32-requires
 write-i32-requires c κs =
@@ -25,8 +27,10 @@ write-i32-requires c κs =
 
 write-byte-requires : tie.Need-write-byte-requires
 write-byte-requires c κs =
-    let a = c .before .before .before .before .before .before .args in
-    omega (arith, c .before .before .before .before .before .before .pre, number (c .before .before .before) .0, c .before .before .before .write-i32 .kept .0, length-append (shownSigned (a .v)) (a .stop ∷ []))
+    let s = c .before .before .before .before .before .before in
+    let at = c .before .before .before in
+    let a = s .args in
+    omega (arith, s .pre, number at .0, at .write-i32 .kept .0, length-append (shownSigned (a .v)) (a .stop ∷ []))
 
 same-length : tie.Need-same-length
 same-length c = search needs

@@ -49,8 +49,11 @@ returns : tie.Need-returns
 returns c =
     let a = c .before .before .before .before .before .before .before .args in
     let e = with-minus (c .before .before .before .before) in
-    let w = c .before .before .write-u32 .ensures in
-    (w .0 ∙ omega (arith, ap length e), w .1 ∙ ap (λ (k : ℕ). sets (set (a .buf .now) (a .at) 45) k (shown (c .before .before .before .before .before .magnitude .result))) (add-one (a .at)) ∙ ap (sets (a .buf .now) (a .at)) (sym e))
+    let w = c .before .before .write-u32 .ensures in (
+      w .0 ∙ omega (arith, ap length e),
+      w .1 ∙ ap (λ (k : ℕ). sets (set (a .buf .now) (a .at) 45) k (shown (c .before .before .before .before .before .magnitude .result))) (add-one (a .at))
+          ∙ ap (sets (a .buf .now) (a .at)) (sym e),
+    )
 
 write-u32-requires-2 : tie.Need-write-u32-requires-2
 write-u32-requires-2 c κs = omega (arith, c .before .before .before .before .pre, ap length (without (c .before)))

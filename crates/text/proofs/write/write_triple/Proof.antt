@@ -9,7 +9,8 @@ use Rattle.text.proofs.write.write_triple.Statement.{statement}
 use Rattle.text.proofs.write.write_triple.Tie as tie
 
 one : (c : tie.After-write-field)
-    → Wrote (c .before .before .before .args .buf .now) (c .before .before .before .args .at) (numberField (c .before .before .before .args .a) 9) (c .write-field .result) (c .write-field .last .0)
+    → Wrote (c .before .before .before .args .buf .now) (c .before .before .before .args .at) (numberField (c .before .before .before .args .a) 9) (c .write-field .result)
+    (c .write-field .last .0)
 one c = at-field _ _ _ 9 (toZ-ofZ (c .before .before .before .fits .a)) (c .write-field .ensures)
 
 two : (c : tie.After-write-field2)
@@ -31,11 +32,13 @@ write-field-requires-2 c κs =
 
 write-field-requires-3 : tie.Need-write-field-requires-3
 write-field-requires-3 c κs =
+    let at = c .before .before .before .before .before .before .before in
+    let a = c .before .before .before in
     let s = c .before .before .before .before .before .before .before .before .before .before in
-    let w = one (c .before .before .before .before .before .before .before) in
-    let x = two (c .before .before .before) in
+    let w = one at in
+    let x = two a in
     rw (toZ-ofZ (s .fits .c))
-    (omega (arith, s .pre, triple-parts (s .args .a) (s .args .b) (s .args .c) (s .args .stop), w .0, x .0, c .before .before .before .before .before .before .before .write-field .kept .0, c .before .before .before .write-field2 .kept .0))
+    (omega (arith, s .pre, triple-parts (s .args .a) (s .args .b) (s .args .c) (s .args .stop), w .0, x .0, at .write-field .kept .0, a .write-field2 .kept .0))
 
 same-length : tie.Need-same-length
 same-length c =

@@ -18,9 +18,9 @@ pub handed-on : {f f′ : Frame} {d d′ : Drawing} {r : Drawn} {a : List ℕ} (
 handed-on b f d said = said ∙ (λ i. outcome (f i) (wholeWindow (f i)) (d i) b)
 
 -- a drawing of three corners, whose coordinates are put into points
-pub handed-on-three : (D : Point → Point → Point → Drawing) {f f′ : Frame} {x1 y1 x2 y2 x3 y3 : ℤ} {r : Drawn} {a : List ℕ} (b : List ℕ)
+pub handed-on-three : (D : Point → Point → Point → ℕ → Drawing) (colour : ℕ) {f f′ : Frame} {x1 y1 x2 y2 x3 y3 : ℤ} {r : Drawn} {a : List ℕ} (b : List ℕ)
     → f ≡ f′ → SFits w32 x1 → SFits w32 y1 → SFits w32 x2 → SFits w32 y2 → SFits w32 x3 → SFits w32 y3
     → _≡_ {A = Drawn × List ℕ} (r, a)
-    (outcome f (wholeWindow f) (D (toZ w32 (ofZ w32 x1), toZ w32 (ofZ w32 y1)) (toZ w32 (ofZ w32 x2), toZ w32 (ofZ w32 y2)) (toZ w32 (ofZ w32 x3), toZ w32 (ofZ w32 y3))) b)
-    → _≡_ {A = Drawn × List ℕ} (r, a) (outcome f′ (wholeWindow f′) (D (x1, y1) (x2, y2) (x3, y3)) b)
-handed-on-three D b f h1 k1 h2 k2 h3 k3 said = handed-on b f (λ i. D (place h1 k1 i) (place h2 k2 i) (place h3 k3 i)) said
+    (outcome f (wholeWindow f) (D (toZ w32 (ofZ w32 x1), toZ w32 (ofZ w32 y1)) (toZ w32 (ofZ w32 x2), toZ w32 (ofZ w32 y2)) (toZ w32 (ofZ w32 x3), toZ w32 (ofZ w32 y3)) colour) b)
+    → _≡_ {A = Drawn × List ℕ} (r, a) (outcome f′ (wholeWindow f′) (D (x1, y1) (x2, y2) (x3, y3) colour) b)
+handed-on-three D colour b f h1 k1 h2 k2 h3 k3 said = handed-on b f (λ i. D (place h1 k1 i) (place h2 k2 i) (place h3 k3 i) colour) said

@@ -13,7 +13,7 @@ use mir.Val.{toZ, ofZ}
 use Rattle.whole.proofs.Difference.{as-mk, mks, mk-eq, mk-lt, mk-le, lt-mk, le-mk, lt-nat, le-nat}
 use Rattle.whole.proofs.Machine.{Has, read, add-size, mul-size, minus-within}
 use Rattle.geometry.specs.declared.Point.{Point}
-use Rattle.geometry.specs.Bound.{Bounded}
+use Rattle.geometry.specs.Bound.{Coord, Bounded}
 use Rattle.geometry.proofs.Bound.{coord-size}
 use Rattle.line.specs.declared.Course.{Course}
 use Rattle.line.specs.declared.Walker.{Walker}
@@ -75,27 +75,17 @@ module _ {s e : Point} {c : Course} (h : CourseOf s e c) where
     down-read = read-as (h .down) (omega (arith, major-size start end)) tt
 
 module _ {s e : Point} {k m : ℕ} {w : Walker} (h : Stands s e k m w) where
+  -- a coordinate of the walker, after k steps of which m were minor ones
+  coord-read : {v : ℤ} (z a b : ℤ) → v ≡ z +ℤ a *ℤ pos k +ℤ b *ℤ pos m → Coord z → natAbs a ≤ 1 → natAbs b ≤ 1 → k ≤ major s e + 1
+      → Has w32 (toZ w32 (ofZ w32 v)) v 655362
+  coord-read z a b v-is near a-small b-small l =
+      read-as v-is (omega (arith, place-size z a b k m a-small b-small, coord-size near, major-size (h .start) (h .end), h .few)) tt
+
   pub x-read : k ≤ major s e + 1 → Has w32 (toZ w32 (ofZ w32 (w .x))) (w .x) 655362
-  x-read l =
-      read-as (h .x)
-      (omega (
-        arith,
-        place-size (s .0) (w .course .xmajor) (w .course .xminor) k m (xmajor-read (h .course) .size) (xminor-read (h .course) .size),
-        coord-size (h .start .x),
-        major-size (h .start) (h .end),
-        h .few,
-      )) tt
+  x-read l = coord-read (s .0) (w .course .xmajor) (w .course .xminor) (h .x) (h .start .x) (xmajor-read (h .course) .size) (xminor-read (h .course) .size) l
 
   pub y-read : k ≤ major s e + 1 → Has w32 (toZ w32 (ofZ w32 (w .y))) (w .y) 655362
-  y-read l =
-      read-as (h .y)
-      (omega (
-        arith,
-        place-size (s .1) (w .course .ymajor) (w .course .yminor) k m (ymajor-read (h .course) .size) (yminor-read (h .course) .size),
-        coord-size (h .start .y),
-        major-size (h .start) (h .end),
-        h .few,
-      )) tt
+  y-read l = coord-read (s .1) (w .course .ymajor) (w .course .yminor) (h .y) (h .start .y) (ymajor-read (h .course) .size) (yminor-read (h .course) .size) l
 
   pub error-read : 2 * minor s e * k ≤ 2 * major s e * m + major s e + 2 * minor s e → Has w32 (toZ w32 (ofZ w32 (w .error))) (w .error) 786432
   error-read u =
@@ -137,11 +127,18 @@ module _ {s e : Point} {k : ℕ} {w : Walker} (at : WalkerAt s e k w) (walked : 
   stands-y = at .stands .y ∙ ap (λ (n : ℕ). s .1 +ℤ w .course .ymajor *ℤ pos k +ℤ w .course .yminor *ℤ pos n) m-is ∙ course-y (at .stands .course) k
 
 -- ---- moves over ℤ
-more-major : (s a b k m : ℤ) → (s +ℤ a *ℤ k +ℤ b *ℤ m) +ℤ a ≡ s +ℤ a *ℤ (k +ℤ pos 1) +ℤ b *ℤ m
-more-major s a b k m = rw (as-mk s, as-mk a, as-mk b, as-mk k, as-mk m) (simp mks (mk-eq _ _ _ _ (omega arith)))
+module _ {u v : ℤ} (s a b : ℤ) (k m : ℕ) where
+  after-major : u ≡ v +ℤ a → v ≡ s +ℤ a *ℤ pos k +ℤ b *ℤ pos m → u ≡ s +ℤ a *ℤ pos (k + 1) +ℤ b *ℤ pos m
+  after-major e f = e ∙ ap (λ (z : ℤ). z +ℤ a) f ∙ more s a b (pos k) (pos m)
+    where
+      more : (s a b k m : ℤ) → (s +ℤ a *ℤ k +ℤ b *ℤ m) +ℤ a ≡ s +ℤ a *ℤ (k +ℤ pos 1) +ℤ b *ℤ m
+      more s a b k m = rw (as-mk s, as-mk a, as-mk b, as-mk k, as-mk m) (simp mks (mk-eq _ _ _ _ (omega arith)))
 
-more-minor : (s a b k m : ℤ) → (s +ℤ a *ℤ k +ℤ b *ℤ m) +ℤ b ≡ s +ℤ a *ℤ k +ℤ b *ℤ (m +ℤ pos 1)
-more-minor s a b k m = rw (as-mk s, as-mk a, as-mk b, as-mk k, as-mk m) (simp mks (mk-eq _ _ _ _ (omega arith)))
+  after-minor : u ≡ v +ℤ b → v ≡ s +ℤ a *ℤ pos k +ℤ b *ℤ pos m → u ≡ s +ℤ a *ℤ pos k +ℤ b *ℤ pos (m + 1)
+  after-minor e f = e ∙ ap (λ (z : ℤ). z +ℤ b) f ∙ more s a b (pos k) (pos m)
+    where
+      more : (s a b k m : ℤ) → (s +ℤ a *ℤ k +ℤ b *ℤ m) +ℤ b ≡ s +ℤ a *ℤ k +ℤ b *ℤ (m +ℤ pos 1)
+      more s a b k m = rw (as-mk s, as-mk a, as-mk b, as-mk k, as-mk m) (simp mks (mk-eq _ _ _ _ (omega arith)))
 
 less : (x y z : ℤ) → (x -ℤ y) -ℤ z ≡ x -ℤ (y +ℤ z)
 less x y z = rw (as-mk x, as-mk y, as-mk z) (simp mks (mk-eq _ _ _ _ (omega arith)))
@@ -208,12 +205,8 @@ module _ {s e : Point} {k : ℕ} {w r : Walker} (same : r .course ≡ w .course)
           start = st .start;
           end = st .end;
           course = subst (CourseOf s e) (sym same) (st .course);
-          x =
-              rx ∙ ap (λ (z : ℤ). z +ℤ w .course .xminor) (st .x) ∙ more-minor (s .0) (w .course .xmajor) (w .course .xminor) (pos k) (pos m)
-              ∙ ap (λ (c : Course). s .0 +ℤ c .xmajor *ℤ pos k +ℤ c .xminor *ℤ pos (m + 1)) (sym same);
-          y =
-              ry ∙ ap (λ (z : ℤ). z +ℤ w .course .yminor) (st .y) ∙ more-minor (s .1) (w .course .ymajor) (w .course .yminor) (pos k) (pos m)
-              ∙ ap (λ (c : Course). s .1 +ℤ c .ymajor *ℤ pos k +ℤ c .yminor *ℤ pos (m + 1)) (sym same);
+          x = after-minor (s .0) (w .course .xmajor) (w .course .xminor) k m rx (st .x) ∙ ap (λ (c : Course). s .0 +ℤ c .xmajor *ℤ pos k +ℤ c .xminor *ℤ pos (m + 1)) (sym same);
+          y = after-minor (s .1) (w .course .ymajor) (w .course .yminor) k m ry (st .y) ∙ ap (λ (c : Course). s .1 +ℤ c .ymajor *ℤ pos k +ℤ c .yminor *ℤ pos (m + 1)) (sym same);
           error = re ∙ ap₂ _-ℤ_ (st .error) (st .course .down) ∙ less (pos (2 * n * k)) (pos (2 * M * m)) (pos (2 * M)) ∙ ap (λ (a : ℕ). pos (2 * n * k) -ℤ pos a) (twice-more M m);
           few = still-few M n k m (narrow s e) due;
           low = still-low M n k m due;
@@ -234,12 +227,8 @@ module _ {s e : Point} {k : ℕ} {w r : Walker} (same : r .course ≡ w .course)
           start = st .start;
           end = st .end;
           course = subst (CourseOf s e) (sym same) (st .course);
-          x =
-              rx ∙ ap (λ (z : ℤ). z +ℤ w .course .xmajor) (st .x) ∙ more-major (s .0) (w .course .xmajor) (w .course .xminor) (pos k) (pos m)
-              ∙ ap (λ (c : Course). s .0 +ℤ c .xmajor *ℤ pos (k + 1) +ℤ c .xminor *ℤ pos m) (sym same);
-          y =
-              ry ∙ ap (λ (z : ℤ). z +ℤ w .course .ymajor) (st .y) ∙ more-major (s .1) (w .course .ymajor) (w .course .yminor) (pos k) (pos m)
-              ∙ ap (λ (c : Course). s .1 +ℤ c .ymajor *ℤ pos (k + 1) +ℤ c .yminor *ℤ pos m) (sym same);
+          x = after-major (s .0) (w .course .xmajor) (w .course .xminor) k m rx (st .x) ∙ ap (λ (c : Course). s .0 +ℤ c .xmajor *ℤ pos (k + 1) +ℤ c .xminor *ℤ pos m) (sym same);
+          y = after-major (s .1) (w .course .ymajor) (w .course .yminor) k m ry (st .y) ∙ ap (λ (c : Course). s .1 +ℤ c .ymajor *ℤ pos (k + 1) +ℤ c .yminor *ℤ pos m) (sym same);
           error = re ∙ ap₂ _+ℤ_ (st .error) (st .course .up) ∙ more (pos (2 * n * k)) (pos (2 * M * m)) (pos (2 * n)) ∙ ap (λ (a : ℕ). pos a -ℤ pos (2 * M * m)) (twice-more n k);
           few = omega (arith, st .few);
           low = later-low M n k m (st .low);

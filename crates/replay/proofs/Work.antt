@@ -7,7 +7,7 @@ use lib.ListN.{length, take}
 use Rattle.text.proofs.Streaming.{handled-within}
 use Rattle.streams.specs.declared.State.{State}
 use Rattle.streams.specs.State.{Within, Standing, started}
-use Rattle.streams.proofs.Answers.{there-is}
+use Rattle.streams.proofs.Refilling.{there-is}
 use Rattle.streams.proofs.Turns.{Kept, Going, going-first}
 use Rattle.calls.specs.declared.screen.Screen.{Screen}
 use Rattle.calls.specs.Lines.{Session, answered, room}
@@ -32,8 +32,9 @@ module _ (input : List ℕ) (st : State) (o : Work) (s : Standing st input (o .0
   lines-within =
       let p : List ℕ = take (st .end) input in
       let x : Session = ((st .at, o .0), o .1) in
+      let filled : length p ≡ st .end = there-is input st (s .within) (s .input-size) in
       record {
-        ahead = omega (arith, there-is input st (o .0) s, handled-within answered room p (length p) (st .next) x (omega (arith, there-is input st (o .0) s, s .within .ahead)));
+        ahead = omega (arith, filled, handled-within answered room p (length p) (st .next) x (omega (arith, filled, s .within .ahead)));
         most = s .within .most;
       }
 

@@ -14,6 +14,7 @@ use Rattle.text.proofs.Streaming.{handled-seen, handled-keeps, handled-within, 
 use Rattle.streams.specs.declared.State.{State}
 use Rattle.streams.specs.State.{Within, Standing, standsAt, emptied, written, lastIs}
 use Rattle.streams.specs.Refill.{whole as line-left, Refilled}
+use Rattle.streams.proofs.Refilling.{there-is}
 use Rattle.streams.specs.Answers.{said, output, answered, room, afterLines, afterLast}
 
 -- ---- a program to which a line of more than 128 bytes is bad looks at no more than 129
@@ -61,10 +62,6 @@ refilled-at input st r after f = by (line-left input st) refl
     by true w = ap (λ (q : State). q .at) (f .stays w .0)
     by false w = ap (λ (q : State). q .at) (f .reads w .state)
 
--- ---- the part of the input's buffer that is filled
-pub there-is : (input : List ℕ) (st : State) (out : List ℕ) → Standing st input out → length (take (st .end) input) ≡ st .end
-there-is input st out s = length-take-le (st .end) input (omega (arith, s .within .most, s .input-size))
-
 module _ (answer : List ℕ → List ℕ) (most : ℕ) (short : (line : List ℕ) → length (answer line) ≤ most) where
   abbrev pub Fits : ℕ → ℕ × List ℕ → Type 0
   Fits size o = (o .0 ≤ length (o .1)) × (length (o .1) ≡ size)
@@ -87,9 +84,9 @@ module _ (answer : List ℕ → List ℕ) (most : ℕ) (short : (line : List ℕ
           ahead =
               omega (
                 arith,
-                there-is input st out s,
+                there-is input st (s .within) (s .input-size),
                 handled-within (answered answer) (room most) (take (st .end) input) (length (take (st .end) input)) (st .next) (st .at, out)
-                    (omega (arith, there-is input st out s, s .within .ahead)),
+                    (omega (arith, there-is input st (s .within) (s .input-size), s .within .ahead)),
               );
           most = s .within .most;
         }

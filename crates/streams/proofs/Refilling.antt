@@ -6,12 +6,16 @@ use Prim.Native.Nat.{ℕ, _+_, _≤_, _<_}
 use native.Mathlib.Omega.{arith}
 use lib.Dec.{ltb}
 use lib.ListN.{length, take, drop}
-use lib.Seq.{sets, sets-eq, take-at}
+use lib.Seq.{sets, sets-eq, take-at, length-take-le}
 use borrow.Author.Tests.{lt-ltb, le-ltb}
 use Rattle.text.specs.Lines.{lineEnd}
 use Rattle.streams.specs.declared.State.{State}
 use Rattle.streams.specs.State.{Within}
 use Rattle.streams.specs.Refill.{whole, turned, ReadOn, Refilled}
+
+-- the part of the input's buffer that is filled
+pub there-is : (input : List ℕ) (st : State) → Within st → length input ≡ 65536 → length (take (st .end) input) ≡ st .end
+there-is input st w h = length-take-le (st .end) input (omega (arith, w .most, h))
 
 -- what was put at the front stands there
 pub front : (l s : List ℕ) → length s ≤ length l → take (length s) (sets l 0 s) ≡ s

@@ -17,9 +17,8 @@ same-length c = search needs
 returns : tie.Need-returns
 returns c =
     let s = c .before .before .before .before .before .before in
-    let f = s .fits in
-    handed-on-three (λ v1 v2 v3. triangleDrawing v1 v2 v3 (s .args .colour)) (s .args .buf .now) (c .before .before .before .frame .ensures) (f .x1) (f .y1) (f .x2) (f .y2)
-    (f .x3) (f .y3) (c .before .before .draw-triangle .ensures)
+    handed-on-three triangleDrawing (s .args .colour) (s .args .buf .now) (c .before .before .before .frame .ensures)
+    (s .fits .x1) (s .fits .y1) (s .fits .x2) (s .fits .y2) (s .fits .x3) (s .fits .y3) (c .before .before .draw-triangle .ensures)
 
 pub beamacorn-draw-triangle-spec : {M : Type 1} → statement M
 beamacorn-draw-triangle-spec = tie.close (tie.spec frame-requires draw-triangle-requires same-length returns)

@@ -175,8 +175,11 @@ begun c =
     let part = take k (drop at b) in
     joined (a .frame) _ (a .colour) (ok s) (s .pre .1) (a .y) (a .from) _ _ (a .buf .now) (d .merge-at2 .last .0) (middle c)
     (head-after (a .frame) _ (a .colour) (ok s) (s .pre .1) (a .from)) (p .0) (first d)
-    (whole-is (a .frame) _ (a .colour) (ok s) (s .pre .1) (a .y) (d .merge-at2 .last .0) (s .pre .2) (λ i. c .before .before .slice-known3 .given i .fits) (a .from * a .frame .depth / 8 + 1) (a .past * a .frame .depth / 8) part (c .set-all .last .0) at k
-    (order u) (omega arith) (omega arith) (omega arith) (omega arith) refl (c .set-all .ensures ∙ ap (λ (v : ℕ). setRun 0 (length part) (λ j. v) part) (c .before .before .before .before .before .before .before .before .before .before .before .pattern .ensures)))
+    (whole-is (a .frame) _ (a .colour) (ok s) (s .pre .1) (a .y) (d .merge-at2 .last .0) (s .pre .2) (λ i. c .before .before .slice-known3 .given i .fits)
+    (a .from * a .frame .depth / 8 + 1) (a .past * a .frame .depth / 8) part (c .set-all .last .0) at k
+    (order u) (omega arith) (omega arith) (omega arith) (omega arith) refl
+    (c .set-all .ensures
+    ∙ ap (λ (v : ℕ). setRun 0 (length part) (λ j. v) part) (c .before .before .before .before .before .before .before .before .before .before .before .pattern .ensures)))
 
 longer : (c : tie.After-set-all)
     → length (middle c) ≡ length (c .before .before .before .before .before .before .before .before .before .before .before .before .before .args .buf .now)

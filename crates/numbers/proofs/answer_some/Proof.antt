@@ -6,19 +6,19 @@ use native.Mathlib.Omega.{arith}
 use borrow.Author.Needs.{needs}
 use Rattle.streams.specs.declared.State.{State}
 use Rattle.streams.specs.State.{standsAt}
-use Rattle.streams.proofs.Answers.{there-is}
+use Rattle.streams.proofs.Refilling.{there-is}
 use Rattle.numbers.proofs.answer_some.Statement.{statement}
 use Rattle.numbers.proofs.answer_some.Tie as tie
 
 slice-aggregate-answer-lines : tie.Need-slice-aggregate-answer-lines
 slice-aggregate-answer-lines c =
     let s = c .before .before .before in
-    sym (there-is (s .args .input .now) (s .args .st) (s .args .out .now) (s .pre))
+    sym (there-is (s .args .input .now) (s .args .st) (s .pre .within) (s .pre .input-size))
 
 answer-lines-requires : tie.Need-answer-lines-requires
 answer-lines-requires c κs =
     let s = c .before .before .before .before in
-    omega (arith, s .pre .within .ahead, there-is (s .args .input .now) (s .args .st) (s .args .out .now) (s .pre))
+    omega (arith, s .pre .within .ahead, there-is (s .args .input .now) (s .args .st) (s .pre .within) (s .pre .input-size))
 
 stands-at-requires : tie.Need-stands-at-requires
 stands-at-requires c κs = search needs

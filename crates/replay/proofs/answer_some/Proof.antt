@@ -5,7 +5,7 @@ use native.Mathlib.Omega.{arith}
 use borrow.Author.Needs.{needs}
 use Rattle.streams.specs.declared.State.{State}
 use Rattle.streams.specs.State.{standsAt}
-use Rattle.streams.proofs.Answers.{there-is}
+use Rattle.streams.proofs.Refilling.{there-is}
 use Rattle.calls.specs.Lines.{Session}
 use Rattle.replay.specs.Session.{Work}
 use Rattle.replay.proofs.answer_some.Statement.{statement}
@@ -14,13 +14,17 @@ use Rattle.replay.proofs.answer_some.Tie as tie
 slice-aggregate-answer-lines : tie.Need-slice-aggregate-answer-lines
 slice-aggregate-answer-lines c =
     let s = c .before .before .before .before in
-    sym (there-is (s .args .input .now) (s .args .st) (s .args .out .now) (s .pre .0))
+    sym (there-is (s .args .input .now) (s .args .st) (s .pre .0 .within) (s .pre .0 .input-size))
 
 answer-lines-requires : tie.Need-answer-lines-requires
 answer-lines-requires c κs =
     let s = c .before .before .before .before .before .before in
-    let p = s .pre in
-    (omega (arith, p .0 .within .ahead, there-is (s .args .input .now) (s .args .st) (s .args .out .now) (p .0)), p .1 .0, p .1 .1, omega (arith, p .0 .filled, p .0 .out-size))
+    let p = s .pre in (
+      omega (arith, p .0 .within .ahead, there-is (s .args .input .now) (s .args .st) (p .0 .within) (p .0 .input-size)),
+      p .1 .0,
+      p .1 .1,
+      omega (arith, p .0 .filled, p .0 .out-size),
+    )
 
 stands-at-requires : tie.Need-stands-at-requires
 stands-at-requires c κs = search needs

@@ -3,11 +3,10 @@ use mathlib.Core.Path.{sym, ap, _∙_}
 use Prim.Native.Nat.{ℕ, _+_, _≤_}
 use native.Mathlib.Omega.{arith}
 use lib.ListN.{length, take}
-use lib.Seq.{length-take-le}
 use borrow.Author.Needs.{needs}
 use Rattle.text.proofs.Writing.{kept-count}
 use Rattle.streams.specs.Refill.{rest, came}
-use Rattle.streams.proofs.Refilling.{front, stayed, did-read}
+use Rattle.streams.proofs.Refilling.{there-is, front, stayed, did-read}
 use Rattle.streams.proofs.refill.Statement.{statement}
 use Rattle.streams.proofs.refill.Tie as tie
 
@@ -15,14 +14,12 @@ slice-reshare-prefix-part-end : tie.Need-slice-reshare-prefix-part-end
 slice-reshare-prefix-part-end c = search needs
 
 slice-aggregate-part-end : tie.Need-slice-aggregate-part-end
-slice-aggregate-part-end c =
-    let s = c .before .before in
-    sym (length-take-le (s .args .st .end) (s .args .input .now) (omega (arith, s .pre .0 .most, s .pre .2)))
+slice-aggregate-part-end c = let s = c .before .before in sym (there-is (s .args .input .now) (s .args .st) (s .pre .0) (s .pre .2))
 
 part-end-requires : tie.Need-part-end-requires
 part-end-requires c κs =
     let s = c .before .before in
-    omega (arith, s .pre .0 .ahead, length-take-le (s .args .st .end) (s .args .input .now) (omega (arith, s .pre .0 .most, s .pre .2)))
+    omega (arith, s .pre .0 .ahead, there-is (s .args .input .now) (s .args .st) (s .pre .0) (s .pre .2))
 
 sub-t11 : tie.Need-sub-t11
 sub-t11 c = search needs

@@ -20,11 +20,26 @@ use Rattle.protocol.proofs.Replies.{two-read}
 use Rattle.protocol.proofs.digits.dump.Statement.{statement}
 use Rattle.protocol.proofs.digits.dump.Tie as tie
 
-few : (c : tie.Else1) → c .before .before .next-u322 .result .value ≤ 4096
-few c =
-    let n = c .before .before .next-u322 .result in
-    leb-true (n .value) 4096 (and-second (isLast (c .before .before .before .before .before .before .before .args .said .now) (n .next)) (leb (n .value) 4096)
-    (sym (c .before .ends-within .ensures) ∙ not-false _ (c .if1 .left)))
+-- the bytes that are shown are few, and so are their digits
+module _ (c : tie.Else1) where
+  abbrev entry : tie.Start
+  entry = c .before .before .before .before .before .before .before
+
+  abbrev from : ℕ
+  from = c .before .before .before .next-u32 .result .value
+
+  abbrev count : ℕ
+  count = c .before .before .next-u322 .result .value
+
+  few : count ≤ 4096
+  few =
+      let next = c .before .before .next-u322 .result .next in
+      leb-true count 4096 (and-second (isLast (entry .args .said .now) next) (leb count 4096) (sym (c .before .ends-within .ensures) ∙ not-false _ (c .if1 .left)))
+
+  digits : length (hexText (take (from + count - from) (drop from (entry .args .memory .now)))) ≤ 8192
+  digits =
+      let part = drop from (entry .args .memory .now) in
+      omega (arith, few, hex-count (take (from + count - from) part), length-take (from + count - from) part)
 
 next-u32-requires : tie.Need-next-u32-requires
 next-u32-requires c κs = search needs
@@ -51,7 +66,8 @@ returns c =
     let n = next-u322 .result .value in
     let w = wrote-as (s .args .out .now) (s .args .to)
     (two-read (dumpBy (s .args .said .now) (s .args .memory .now)) (λ (n : NextU32). nextU32 (s .args .said .now) (n .next)) (next-u32 .ensures) (next-u322 .ensures)
-    (ap (λ (b : Bool). cond (b && leb (f + n) (length (s .args .memory .now))) (hexText (take n (drop f (s .args .memory .now))) ++ (10 ∷ [])) badLine) (sym (not-true _ (c .before .before .before .before .if1 .taken)) ∙ c .before .before .before .before .before .ends-within .ensures)))
+    (ap (λ (b : Bool). cond (b && leb (f + n) (length (s .args .memory .now))) (hexText (take n (drop f (s .args .memory .now))) ++ (10 ∷ [])) badLine)
+    (sym (not-true _ (c .before .before .before .before .if1 .taken)) ∙ c .before .before .before .before .before .ends-within .ensures)))
     (c .before .before .write-bad .ensures) in
     (w .0, w .1, omega (arith, c .before .before .write-bad .ensures .0))
 
@@ -81,7 +97,8 @@ returns-2 c =
     let t = isLast (s .args .said .now) (next-u322 .result .next) && leb n 4096 in
     let w = wrote-as (s .args .out .now) (s .args .to)
     (two-read (dumpBy (s .args .said .now) (s .args .memory .now)) (λ (n : NextU32). nextU32 (s .args .said .now) (n .next)) (next-u32 .ensures) (next-u322 .ensures)
-    (ap (λ (b : Bool). cond b (hexText (take n (drop f (s .args .memory .now))) ++ (10 ∷ [])) badLine) (sym (ap (λ (b : Bool). t && b) (lt-leb (f + n) (length (s .args .memory .now)) (omega (arith, c .before .before .before .before .if2 .taken))) ∙ and-false t))))
+    (ap (λ (b : Bool). cond b (hexText (take n (drop f (s .args .memory .now))) ++ (10 ∷ [])) badLine)
+    (sym (ap (λ (b : Bool). t && b) (lt-leb (f + n) (length (s .args .memory .now)) (omega (arith, c .before .before .before .before .if2 .taken))) ∙ and-false t))))
     (c .before .before .write-bad2 .ensures) in
     (w .0, w .1, omega (arith, c .before .before .write-bad2 .ensures .0))
 
@@ -96,48 +113,18 @@ part-write-hex-end c = omega arith
 
 write-hex-requires : tie.Need-write-hex-requires
 write-hex-requires c κs =
-    let next-u32 = c .before .before .before .before .before .before .before .before .next-u32 in
-    let s = c .before .before .before .before .before .before .before .before .before .before .before .before in
-    let next-u322 = c .before .before .before .before .before .before .before .next-u322 in
-    let part = take (next-u32 .result .value + next-u322 .result .value - next-u32 .result .value) (drop (next-u32 .result .value) (s .args .memory .now)) in
-    omega (
-      arith,
-      s .pre,
-      few (c .before .before .before .before .before),
-      hex-count part,
-      length-take (next-u32 .result .value + next-u322 .result .value - next-u32 .result .value) (drop (next-u32 .result .value) (s .args .memory .now)),
-    )
+    let e = c .before .before .before .before .before in
+    omega (arith, entry e .pre, digits e)
 
 slice-write-out : tie.Need-slice-write-out
 slice-write-out c =
-    let next-u32 = c .before .before .before .before .before .before .before .before .before .before .before .next-u32 in
-    let s = c .before .before .before .before .before .before .before .before .before .before .before .before .before .before .before in
-    let next-u322 = c .before .before .before .before .before .before .before .before .before .before .next-u322 in
-    let part = take (next-u32 .result .value + next-u322 .result .value - next-u32 .result .value) (drop (next-u32 .result .value) (s .args .memory .now)) in
-    omega (
-      arith,
-      s .pre,
-      few (c .before .before .before .before .before .before .before .before),
-      hex-count part,
-      length-take (next-u32 .result .value + next-u322 .result .value - next-u32 .result .value) (drop (next-u32 .result .value) (s .args .memory .now)),
-      c .before .before .write-hex .ensures .0,
-      c .before .before .write-hex .kept .0,
-    )
+    let e = c .before .before .before .before .before .before .before .before in
+    omega (arith, entry e .pre, digits e, c .before .before .write-hex .ensures .0, c .before .before .write-hex .kept .0)
 
 add-result : tie.Need-add-result
 add-result c =
-    let next-u32 = c .before .before .before .before .before .before .before .before .before .before .before .next-u32 in
-    let s = c .before .before .before .before .before .before .before .before .before .before .before .before .before .before .before in
-    let next-u322 = c .before .before .before .before .before .before .before .before .before .before .next-u322 in
-    let part = take (next-u32 .result .value + next-u322 .result .value - next-u32 .result .value) (drop (next-u32 .result .value) (s .args .memory .now)) in
-    omega (
-      arith,
-      s .pre,
-      few (c .before .before .before .before .before .before .before .before),
-      hex-count part,
-      length-take (next-u32 .result .value + next-u322 .result .value - next-u32 .result .value) (drop (next-u32 .result .value) (s .args .memory .now)),
-      c .before .before .write-hex .ensures .0,
-    )
+    let e = c .before .before .before .before .before .before .before .before in
+    omega (arith, entry e .pre, digits e, c .before .before .write-hex .ensures .0)
 
 same-length-3 : tie.Need-same-length-3
 same-length-3 c = simp length-set (c .before .before .write-hex .kept .0)

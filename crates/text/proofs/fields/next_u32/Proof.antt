@@ -24,11 +24,8 @@ read-u32-requires c κs = search needs
 
 add-t12 : tie.Need-add-t12
 add-t12 c =
-    omega (
-      arith,
-      field-ends (c .before .before .before .before .before .before .args .line .now) (c .before .before .before .before .if1 .taken)
-          (c .before .before .before .part-end .ensures),
-    )
+    let s = c .before .before .before in
+    omega (arith, field-ends (s .before .before .before .args .line .now) (s .before .if1 .taken) (s .part-end .ensures))
 
 returns : tie.Need-returns
 returns c =

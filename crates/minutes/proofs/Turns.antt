@@ -17,14 +17,14 @@ use Rattle.reports.specs.declared.Count.{Count}
 use Rattle.reports.specs.declared.Tally.{Tally}
 use Rattle.reports.specs.Minutes.{fresh, takeLine, always, countLine}
 use Rattle.reports.proofs.Counting.{Few, take-few}
-use Rattle.minutes.specs.Counted.{countedSome, told, lines}
+use Rattle.minutes.specs.Counted.{countedSome, told, bytes, lines}
 
 module _ (first : List ℕ) where
   pub record Running (st : State) (input : List ℕ) (t : Tally) : Type 0 where
     pub within : Within st
     pub size : length input ≡ 65536
     pub few : Few t
-    pub ran : Ran lines (fresh, first) st input (t, first)
+    pub ran : Ran bytes lines (fresh, first) st input (t, first)
 
   pub starts : (st : State) (input : List ℕ) (t : Tally) → st ≡ started → t ≡ fresh → length input ≡ 65536 → Running st input t
   starts st input t e f i =
@@ -64,7 +64,7 @@ module _ (first : List ℕ) where
             within = refilled-within input w r after next-within g;
             size = same ∙ run .size;
             few = handled-keeps takeLine always Few (λ q l a b. take-few q l b) (take (st .end) input) (length (take (st .end) input)) (st .next) t (run .few);
-            ran = turn st input (t, first) false r after (run .ran) on h;
+            ran = turn st input (t, first) false r after (run .ran) on (omega arith) h;
           })
 
 -- ---- whether the count is told

@@ -24,6 +24,9 @@ abbrev pub told : State → Count → List ℕ → State × List ℕ
 told st k out = cond (not (st .more) && not (st .unread)) (standsAt st (st .end) (length (countLine k)), sets out 0 (countLine k)) (standsAt st (st .next) 0, out)
 
 -- ---- the same of the count and the output together
+abbrev pub bytes : Tally × List ℕ → List ℕ
+bytes o = o .1
+
 abbrev pub lines : List ℕ → State → Tally × List ℕ → State × (Tally × List ℕ)
 lines input st o = (standsAt st (countedSome input st (o .0) .0) 0, (countedSome input st (o .0) .1, o .1))
 

@@ -7,7 +7,7 @@ ghost use lib.ListN.{length};
 ghost use Rattle.streams.specs.State.{Within};
 ghost use Rattle.streams.specs.Run.{Ended};
 ghost use Rattle.reports.specs.Minutes.{fresh};
-ghost use Rattle.minutes.specs.Counted.{countedSome, countedLast, told, lines, last};
+ghost use Rattle.minutes.specs.Counted.{countedSome, countedLast, told, bytes, lines, last};
 use reports::Count;
 use reports::Taken;
 use reports::Tally;
@@ -53,7 +53,7 @@ fn tell(out: &mut [u8], st: State, k: Count) -> State
 // Turn after turn, until the input ends.
 fn run(input: &mut [u8], out: &mut [u8]) -> State
     requires { ⌜ (length (now input) ≡ 65536) × (length (now out) ≡ 64) ⌝ }
-    ensures { λ r. ⌜ Ended lines last (fresh, now (out .entry)) r ⌝ }
+    ensures { λ r. ⌜ Ended bytes lines last (fresh, now (out .entry)) r (now (input .exit)) (now (out .exit)) ⌝ }
 {
     let mut st = streams::start();
     let mut tally = reports::no_lines();

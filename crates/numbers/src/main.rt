@@ -6,7 +6,7 @@ mod lines;
 ghost use mathlib.Core.Path.{_≡_};
 ghost use lib.ListN.{length};
 ghost use Rattle.streams.specs.State.{Standing};
-ghost use Rattle.streams.specs.Answers.{afterLines, afterLast};
+ghost use Rattle.streams.specs.Answers.{bytes, afterLines, afterLast};
 ghost use Rattle.streams.specs.Run.{Ended};
 ghost use Rattle.numbers.specs.Answer.{answer};
 use answer::answer_line;
@@ -40,7 +40,7 @@ fn last_line(input: &[u8], out: &mut [u8], st: State) -> State
 // Turn after turn, until the input ends.
 fn run(input: &mut [u8], out: &mut [u8]) -> State
     requires { ⌜ (length (now input) ≡ 65536) × (length (now out) ≡ 65536) ⌝ }
-    ensures { λ r. ⌜ Ended (afterLines answer 72) (afterLast answer) (now (out .entry)) r ⌝ }
+    ensures { λ r. ⌜ Ended bytes (afterLines answer 72) (afterLast answer) (now (out .entry)) r (now (input .exit)) (now (out .exit)) ⌝ }
 {
     let mut st = streams::start();
     while streams::goes_on(st) {

@@ -25,7 +25,8 @@ enough said l = by (leb (length said) 128) refl
         sym (answer-long said l (leb-false (length said) 128 e))
         ∙ answer-long (take 129 said) l (omega (arith, leb-false (length said) 128 e, length-take 129 said))
 
+pub told-enough : (o : List ℕ × Left) (said : List ℕ) → told o said ≡ told o (take 129 said)
+told-enough o said = ap {B = List ℕ × Left} (λ (a : List ℕ × Left). (o .0 ++ a .0, a .1)) (enough said (o .1))
+
 pub any-parts : (memory : List ℕ) (parts : List (List ℕ)) → streamed told 129 ([], (start, memory)) [] parts .0 ≡ output memory (whole parts)
-any-parts memory parts =
-    ap (λ (o : List ℕ × Left). o .0)
-    (streamed-is told 128 (λ o said. ap {B = List ℕ × Left} (λ (a : List ℕ × Left). (o .0 ++ a .0, a .1)) (enough said (o .1))) ([], (start, memory)) [] parts)
+any-parts memory parts = ap (λ (o : List ℕ × Left). o .0) (streamed-is told 128 told-enough ([], (start, memory)) [] parts)

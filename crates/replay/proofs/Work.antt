@@ -13,10 +13,7 @@ use Rattle.calls.specs.declared.screen.Screen.{Screen}
 use Rattle.calls.specs.Lines.{Session, answered, room}
 use Rattle.calls.specs.Screen.{start}
 use Rattle.calls.proofs.Lent.{lines-lent}
-use Rattle.replay.specs.Session.{Work, Sound, first, afterLines}
-
-abbrev pub bytes : Work → List ℕ
-bytes o = o .0
+use Rattle.replay.specs.Session.{Work, bytes, Sound, first, afterLines}
 
 -- the program came turn by turn to where it stands
 abbrev pub Runs : List ℕ → List ℕ → State → List ℕ → Work → Type 0

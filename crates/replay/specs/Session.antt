@@ -21,6 +21,9 @@ output memory input = over told ([], (start, memory)) input .0
 abbrev pub Work : Type 0
 Work = List ℕ × Left
 
+abbrev pub bytes : Work → List ℕ
+bytes o = o .0
+
 abbrev pub first : List ℕ → List ℕ → Work
 first out memory = (out, (start, memory))
 

@@ -5,7 +5,7 @@ ghost use Prim.Native.Nat.{_≤_};
 ghost use lib.ListN.{length};
 ghost use Rattle.streams.specs.State.{Standing};
 ghost use Rattle.streams.specs.Run.{Ended};
-ghost use Rattle.replay.specs.Session.{Sound, first, afterLines, afterLast};
+ghost use Rattle.replay.specs.Session.{bytes, Sound, first, afterLines, afterLast};
 use calls::Screen;
 use streams::State;
 
@@ -58,7 +58,7 @@ fn last_line(input: &[u8], memory: &mut [u8], out: &mut [u8], st: State, screen:
 // Turn after turn, until the input ends.
 fn run(input: &mut [u8], memory: &mut [u8], out: &mut [u8]) -> State
     requires { ⌜ (length (now input) ≡ 65536) × (length (now memory) ≡ 65536) × (length (now out) ≡ 65536) ⌝ }
-    ensures { λ r. ⌜ Ended afterLines afterLast (first (now (out .entry)) (now (memory .entry))) r ⌝ }
+    ensures { λ r. ⌜ Ended bytes afterLines afterLast (first (now (out .entry)) (now (memory .entry))) r (now (input .exit)) (now (out .exit)) ⌝ }
 {
     let mut st = streams::start();
     let mut screen = calls::first_screen();

@@ -142,7 +142,7 @@ unfolding takeLine withLine
 long-is t line h =
     rw (← no-place (fields line) (too-long 2 line (omega arith)), ← no-vertices (fields line) (too-long 6 line (omega arith)), ← amiss-long 2 line h, ← amiss-long 6 line h)
 
-take-blind : (t : Tally) (line : List ℕ) → takeLine t line ≡ takeLine t (take 129 line)
+pub take-blind : (t : Tally) (line : List ℕ) → takeLine t line ≡ takeLine t (take 129 line)
 take-blind t line = by (leb (length line) 128) refl
   where
     by : (b : Bool) → leb (length line) 128 ≡ b → takeLine t line ≡ takeLine t (take 129 line)

@@ -1,10 +1,11 @@
 -- What `spans` says of a line (01, the end of "Known small answers").
+use mathlib.Core.Path.{_≡_}
 use mathlib.Core.Bool.{Bool, cond}
 use mathlib.Core.List.{List, [], _++_}
-use Prim.Native.Nat.{ℕ, zero, suc, _-_, min}
+use Prim.Native.Nat.{ℕ, zero, suc, _+_, _-_, _≤_, min}
 use lib.Dec.{eqb}
 use lib.IntN.{ℤ, pos, _+ℤ_}
-use lib.ListN.{length}
+use lib.ListN.{length, take, drop}
 use Rattle.geometry.specs.declared.Span.{Span}
 use Rattle.geometry.specs.Answer.{span}
 use Rattle.triangle.specs.declared.RowRange.{RowRange}
@@ -64,3 +65,9 @@ nextPart v p = record { end = length (partText v p); first = p .first +ℤ pos (
 abbrev pub parts : Vertices → ℕ → Part → List ℕ
 parts v zero p = []
 parts v (suc n) p = partText v p ++ parts v n (nextPart v p)
+
+-- after so many bytes of the report the first `end` of a buffer are those that follow
+pub record Next (v : Vertices) (told end : ℕ) (out : List ℕ) : Type 0 where
+  pub room : end ≤ length out
+  pub within : told + end ≤ length (report v)
+  pub same : take end out ≡ take end (drop told (report v))

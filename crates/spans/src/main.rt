@@ -2,11 +2,11 @@
 // `spans` of the crate `reports`: `bad line`, or `refused` and the number, or `rows`, how many, and a line a row.
 ghost use mathlib.Core.Path.{_≡_};
 ghost use mathlib.Core.Bool.{false, not, _&&_};
-ghost use Prim.Native.Nat.{_+_, _≤_};
+ghost use Prim.Native.Nat.{_+_};
 ghost use Rattle.streams.specs.State.{Within, goesOn};
 ghost use Rattle.streams.specs.Refill.{whole};
 ghost use lib.ListN.{length};
-ghost use Rattle.reports.specs.Spans.{report};
+ghost use Rattle.reports.specs.Spans.{report, Next};
 use streams::State;
 use text::Vertices;
 
@@ -28,25 +28,25 @@ fn read_line(input: &mut [u8]) -> State
     }
 }
 
-// Hands the first `end` bytes over to `write`, and answers how many were handed over by then.
-fn hand_over(out: &[u8], end: usize, told: u64) -> u64
-    requires { ⌜ (end ≤ length (now out)) × (told + end ≤ 18446744073709551615) ⌝ }
+// Hands the first `end` bytes over to `write`, which are the report's behind the `told` that were handed over before, and answers how many were by then.
+fn hand_over(out: &[u8], end: usize, told: u64, v: Vertices) -> u64
+    requires { ⌜ Next v told end (now out) ⌝ }
     ensures { λ r. ⌜ r ≡ told + end ⌝ }
 {
     console::write(out, end);
     told + end as u64
 }
 
-// Hands the report over, part after part, and answers how many bytes that were: as many as the report has.
+// Hands the report over, part after part: each of its bytes once, in their order, and no other. Answers how many bytes that were: as many as the report has.
 fn list(out: &mut [u8], v: Vertices) -> u64
     requires { ⌜ length (now out) ≡ 65536 ⌝ }
     ensures { λ r. ⌜ r ≡ length (report v) ⌝ }
 {
     let mut part = reports::first_part(out, v);
-    let mut told = hand_over(out, part.end, 0);
+    let mut told = hand_over(out, part.end, 0, v);
     while part.left > 0 {
         part = reports::next_part(out, v, part);
-        told = hand_over(out, part.end, told);
+        told = hand_over(out, part.end, told, v);
     }
     told
 }

@@ -101,21 +101,29 @@ module _ (answer : List ℕ → List ℕ) (most : ℕ) (short : (line : List ℕ
         by true = omega (arith, s .filled, short line)
         by false = omega (arith, s .filled)
 
-  -- ---- what was written before and the filled part of the buffer are together what was said
-  abbrev seen : List ℕ → ℕ × List ℕ → List ℕ
-  seen before o = before ++ take (o .0) (o .1)
+-- ---- what was written before and the filled part of the buffer are together what was said
+abbrev pub seen : List ℕ → ℕ × List ℕ → List ℕ
+seen before o = before ++ take (o .0) (o .1)
 
-  one-line : (before : List ℕ) (o : ℕ × List ℕ) (line : List ℕ) → room most o ≡ true → seen before (answered answer o line) ≡ said answer (seen before o) line
-  one-line before o line r =
-      let fits : o .0 + length (answer line) ≤ length (o .1) = omega (arith, leb-true (o .0 + most) (length (o .1)) r, short line) in
-      let filled : length (take (o .0) (o .1) ++ answer line) ≡ o .0 + length (answer line) =
-      omega (arith, length-append (take (o .0) (o .1)) (answer line), length-take-le (o .0) (o .1) (omega arith)) in
-      ap (λ (l : List ℕ). before ++ take (o .0 + length (answer line)) l) (sets-eq (answer line) (o .1) (o .0) fits)
-      ∙ ap (λ (l : List ℕ). before ++ l) (take-at (take (o .0) (o .1) ++ answer line) (drop (o .0 + length (answer line)) (o .1)) (o .0 + length (answer line)) filled)
-      ∙ sym (append-assoc before (take (o .0) (o .1)) (answer line))
+-- the buffer has room for what fills it
+abbrev pub Room : ℕ × List ℕ → Type 0
+Room o = o .0 ≤ length (o .1)
 
-  -- what the lines that are there leave to be answered, with what they were answered, is what there was to answer
-  pub lines-said : (before s more : List ℕ) (turns at : ℕ) (o : ℕ × List ℕ)
-      → over (said answer) (seen before o) (drop at s ++ more)
-      ≡ over (said answer) (seen before (handled (room most) (answered answer) s turns at o .1)) (drop (handled (room most) (answered answer) s turns at o .0) s ++ more)
-  lines-said before s more turns at o = handled-seen (said answer) (room most) (answered answer) (seen before) (one-line before) s more turns at o
+module _ (o : ℕ × List ℕ) (text : List ℕ) (fits : Room (o .0 + length text, sets (o .1) (o .0) text)) where
+  pub room-before : Room o
+  room-before = omega (arith, fits, length-sets (o .1) (o .0) text)
+
+  pub one-more : (before : List ℕ) → seen before (o .0 + length text, sets (o .1) (o .0) text) ≡ seen before o ++ text
+  one-more before =
+      let room : o .0 + length text ≤ length (o .1) = omega (arith, fits, length-sets (o .1) (o .0) text) in
+      let filled : length (take (o .0) (o .1) ++ text) ≡ o .0 + length text = omega (arith, length-append (take (o .0) (o .1)) text, length-take-le (o .0) (o .1) (omega arith)) in
+      ap (λ (l : List ℕ). before ++ take (o .0 + length text) l) (sets-eq text (o .1) (o .0) room)
+      ∙ ap (λ (l : List ℕ). before ++ l) (take-at (take (o .0) (o .1) ++ text) (drop (o .0 + length text) (o .1)) (o .0 + length text) filled)
+      ∙ sym (append-assoc before (take (o .0) (o .1)) text)
+
+-- what the lines that are there leave to be answered, with what they were answered, is what there was to answer
+pub lines-said : (answer : List ℕ → List ℕ) (most : ℕ) (before s more : List ℕ) (turns at : ℕ) (o : ℕ × List ℕ) → Room (handled (room most) (answered answer) s turns at o .1)
+    → over (said answer) (seen before o) (drop at s ++ more)
+    ≡ over (said answer) (seen before (handled (room most) (answered answer) s turns at o .1)) (drop (handled (room most) (answered answer) s turns at o .0) s ++ more)
+lines-said answer most before s more turns at o =
+    handled-seen (said answer) (room most) (answered answer) (seen before) Room (λ x l h. room-before x (answer l) h) (λ x l r h. one-more x (answer l) h before) s more turns at o

@@ -5,14 +5,11 @@ use Prim.Native.Nat.{ℕ, _≤_}
 use lib.ListN.{length}
 use Rattle.streams.specs.declared.State.{State}
 use Rattle.streams.specs.State.{Standing}
-use Rattle.streams.specs.Answers.{afterLines, afterLast}
+use Rattle.streams.specs.Answers.{bytes, afterLines, afterLast}
 use Rattle.streams.proofs.Answers.{lines-fit, lines-standing, last-within}
 use Rattle.streams.proofs.Turns.{Kept, Going}
 
--- it works on these bytes, and asks nothing of them
-abbrev pub bytes : List ℕ → List ℕ
-bytes o = o
-
+-- it asks nothing of them
 abbrev pub Any : List ℕ → Type 0
 Any o = Unit {0}
 

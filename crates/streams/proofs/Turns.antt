@@ -15,14 +15,17 @@ use Rattle.streams.proofs.Refilling.{refilled-within}
 use Rattle.streams.proofs.Answers.{written-half, written-within, written-turns, refilled-at}
 
 -- ---- turns
-pub some-turns : (st : State) → goesOn st ≡ true → 0 < st .turns
-some-turns st e = by (st .unread) (st .unwritten) (st .more) e
+pub still-goes : (st : State) → goesOn st ≡ true → (st .more ≡ true) × (0 < st .turns)
+still-goes st e = by (st .unread) (st .unwritten) (st .more) e
   where
-    by : (a b c : Bool) → not a && (not b && (c && ltb 0 (st .turns))) ≡ true → 0 < st .turns
-    by false false true q = ltb-true 0 (st .turns) q
+    by : (a b c : Bool) → not a && (not b && (c && ltb 0 (st .turns))) ≡ true → (c ≡ true) × (0 < st .turns)
+    by false false true q = (refl, ltb-true 0 (st .turns) q)
     by false false false q = absurd (false≢true q)
     by false true c q = absurd (false≢true q)
     by true b c q = absurd (false≢true q)
+
+pub some-turns : (st : State) → goesOn st ≡ true → 0 < st .turns
+some-turns st e = still-goes st e .1
 
 pub refilled-turns : (input : List ℕ) (st r : State) (after : List ℕ) → Refilled input st r after → r .turns ≡ st .turns - 1
 refilled-turns input st r after f = by (whole input st) refl
@@ -45,7 +48,7 @@ module _ {O : Type 0} (out : O → List ℕ) (Sound : O → Type 0) where
     pub record Going (st : State) (input : List ℕ) (o : O) : Type 0 where
       pub stands : Standing st input (out o)
       pub sound : Sound o
-      pub ran : Ran lines first st input o
+      pub ran : Ran out lines first st input o
 
     pub going-first : (st : State) (input : List ℕ) → st ≡ started → length input ≡ 65536 → length (out first) ≡ 65536 → Sound first → Going st input first
     going-first st input e i o s =
@@ -82,12 +85,21 @@ module _ {O : Type 0} (out : O → List ℕ) (Sound : O → Type 0) where
                 out-size = k .size;
               };
               sound = k .sound;
-              ran = subst (λ (x : State × O). Ran lines first r after (x .1)) (sym e)
-                  (turn st input o (w .unwritten) r after (g .ran) on (subst (λ (x : State × O). Refilled input (written (x .0) (w .unwritten)) r after) e q));
+              ran = subst (λ (x : State × O). Ran out lines first r after (x .1)) (sym e)
+                  (turn st input o (w .unwritten) r after (g .ran) on (subst (λ (x : State × O). x .0 .at ≤ length (out (x .1))) e (k .filled))
+                  (subst (λ (x : State × O). Refilled input (written (x .0) (w .unwritten)) r after) e q));
             }
 
     -- at the end
     pub over : (last : List ℕ → State → O → State × O) (st : State) (input : List ℕ) (o : O) → Going st input o → goesOn st ≡ false
-        → (p : State × O) → p ≡ last input st o → (r : State) → r ≡ emptied (p .0) (r .unwritten) → Ended lines last first r
-    over last st input o g off p e r f =
-        record { st = st; input = input; left = o; ran = g .ran; over = off; done = f ∙ ap (λ (x : State × O). emptied (x .0) (r .unwritten)) e }
+        → (p : State × O) → p ≡ last input st o → p .0 .at ≤ length (out (p .1)) → (r : State) → r ≡ emptied (p .0) (r .unwritten) → Ended out lines last first r input (out (p .1))
+    over last st input o g off p e k r f =
+        record {
+          st = st;
+          left = o;
+          ran = g .ran;
+          over = off;
+          leaves = ap (λ (x : State × O). out (x .1)) e;
+          fits = subst (λ (x : State × O). x .0 .at ≤ length (out (p .1))) e k;
+          done = f ∙ ap (λ (x : State × O). emptied (x .0) (r .unwritten)) e;
+        }

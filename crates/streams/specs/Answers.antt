@@ -16,6 +16,10 @@ said answer out line = out ++ answer line
 abbrev pub output : (List ℕ → List ℕ) → List ℕ → List ℕ
 output answer input = over (said answer) [] input
 
+-- ---- it works on nothing but its output's bytes
+abbrev pub bytes : List ℕ → List ℕ
+bytes out = out
+
 -- ---- answers one behind the other in a buffer: how far it is filled, and its bytes
 abbrev pub answered : (List ℕ → List ℕ) → ℕ × List ℕ → List ℕ → ℕ × List ℕ
 answered answer o line = (o .0 + length (answer line), sets (o .1) (o .0) (answer line))

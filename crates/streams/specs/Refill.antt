@@ -30,6 +30,7 @@ pub record ReadOn (input : List ℕ) (st r : State) (after : List ℕ) : Type 0 
   pub count : ℕ
   pub state : r ≡ came input st count (r .unread)
   pub room : length (rest input st) + count ≤ 65536
+  pub there : length (rest input st) + count ≤ length after
   pub kept : take (length (rest input st)) after ≡ rest input st
   pub none : r .unread ≡ true → count ≡ 0
 

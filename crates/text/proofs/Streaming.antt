@@ -55,7 +55,7 @@ until-past stop (b ∷ s) t h = by (eqb b stop) refl (until-past stop s t)
     by true e r = absurd (omega (arith, rw e at h))
     by false e r = rw e (omega (arith, r (omega (arith, rw e at h))))
 
-until-take : (stop : ℕ) (s : List ℕ) (k : ℕ) → until stop s ≡ length s → until stop (take k s) ≡ length (take k s)
+pub until-take : (stop : ℕ) (s : List ℕ) (k : ℕ) → until stop s ≡ length s → until stop (take k s) ≡ length (take k s)
 until-take stop s zero h = refl
 until-take stop [] (suc k) h = refl
 until-take stop (b ∷ s) (suc k) h = by (eqb b stop) refl (until-take stop s k)
@@ -83,24 +83,36 @@ module _ {S : Type 0} (f : S → List ℕ → S) where
       more = omega arith
 
   -- ---- handling lines from a place on leaves those behind it to be handled. The handler may be another, g, if what it does is, seen through a view,
-  -- what f does, as long as there is room
-  pub handled-seen : {X : Type 0} (room : X → Bool) (g : X → List ℕ → X) (view : X → S) → ((x : X) (l : List ℕ) → room x ≡ true → view (g x l) ≡ f (view x) l)
-      → (s t : List ℕ) (turns at : ℕ) (x : X)
-      → over f (view x) (drop at s ++ t) ≡ over f (view (handled room g s turns at x .1)) (drop (handled room g s turns at x .0) s ++ t)
-  unfolding handled
-  handled-seen room g view same s t zero at x = refl
-  handled-seen {X} room g view same s t (suc turns) at x =
-      by (ltb (lineEnd s at) (length s)) (room x) (handled room g s turns (lineEnd s at + 1) (g x (lineAt s at))) refl refl
-      (handled-seen room g view same s t turns (lineEnd s at + 1) (g x (lineAt s at)))
-    where
-      by : (a b : Bool) (n : ℕ × X) → ltb (lineEnd s at) (length s) ≡ a → room x ≡ b
-          → over f (view (g x (lineAt s at))) (drop (lineEnd s at + 1) s ++ t) ≡ over f (view (n .1)) (drop (n .0) s ++ t)
-          → over f (view x) (drop at s ++ t) ≡ over f (view (cond (a && b) n (at, x) .1)) (drop (cond (a && b) n (at, x) .0) s ++ t)
-      by true true n e q r =
-          over-at (view x) s t at (ltb-true (lineEnd s at) (length s) e)
-          ∙ ap (λ (y : S). over f y (drop (lineEnd s at + 1) s ++ t)) (sym (same x (lineAt s at) q)) ∙ r
-      by true false n e q r = refl
-      by false b n e q r = refl
+  -- what f does, as long as there is room and what it leaves is good; if what is left at the end is good, what was left before is
+  module _ {X : Type 0} (room : X → Bool) (g : X → List ℕ → X) (view : X → S) (Good : X → Type 0) (back : (x : X) (l : List ℕ) → Good (g x l) → Good x)
+      (same : (x : X) (l : List ℕ) → room x ≡ true → Good (g x l) → view (g x l) ≡ f (view x) l) where
+    handled-back : (s : List ℕ) (turns at : ℕ) (x : X) → Good (handled room g s turns at x .1) → Good x
+    unfolding handled
+    handled-back s zero at x h = h
+    handled-back s (suc turns) at x h =
+        by (ltb (lineEnd s at) (length s) && room x) (handled room g s turns (lineEnd s at + 1) (g x (lineAt s at))) (handled-back s turns (lineEnd s at + 1) (g x (lineAt s at))) h
+      where
+        by : (a : Bool) (n : ℕ × X) → (Good (n .1) → Good (g x (lineAt s at))) → Good (cond a n (at, x) .1) → Good x
+        by true n r h = back x (lineAt s at) (r h)
+        by false n r h = h
+
+    pub handled-seen : (s t : List ℕ) (turns at : ℕ) (x : X) → Good (handled room g s turns at x .1)
+        → over f (view x) (drop at s ++ t) ≡ over f (view (handled room g s turns at x .1)) (drop (handled room g s turns at x .0) s ++ t)
+    unfolding handled
+    handled-seen s t zero at x h = refl
+    handled-seen s t (suc turns) at x h =
+        by (ltb (lineEnd s at) (length s)) (room x) (handled room g s turns (lineEnd s at + 1) (g x (lineAt s at))) refl refl
+        (handled-seen s t turns (lineEnd s at + 1) (g x (lineAt s at))) (handled-back s turns (lineEnd s at + 1) (g x (lineAt s at))) h
+      where
+        by : (a b : Bool) (n : ℕ × X) → ltb (lineEnd s at) (length s) ≡ a → room x ≡ b
+            → (Good (n .1) → over f (view (g x (lineAt s at))) (drop (lineEnd s at + 1) s ++ t) ≡ over f (view (n .1)) (drop (n .0) s ++ t))
+            → (Good (n .1) → Good (g x (lineAt s at))) → Good (cond (a && b) n (at, x) .1)
+            → over f (view x) (drop at s ++ t) ≡ over f (view (cond (a && b) n (at, x) .1)) (drop (cond (a && b) n (at, x) .0) s ++ t)
+        by true true n e q r k h =
+            over-at (view x) s t at (ltb-true (lineEnd s at) (length s) e)
+            ∙ ap (λ (y : S). over f y (drop (lineEnd s at + 1) s ++ t)) (sym (same x (lineAt s at) q (k h))) ∙ r h
+        by true false n e q r k h = refl
+        by false b n e q r k h = refl
 
   pub handled-within : (room : S → Bool) (s : List ℕ) (turns at : ℕ) (st : S) → at ≤ length s → handled room f s turns at st .0 ≤ length s
   unfolding handled
@@ -130,7 +142,7 @@ module _ {S : Type 0} (f : S → List ℕ → S) where
 
   pub handled-over : (room : S → Bool) (s t : List ℕ) (turns at : ℕ) (st : S)
       → over f st (drop at s ++ t) ≡ over f (handled room f s turns at st .1) (drop (handled room f s turns at st .0) s ++ t)
-  handled-over room s t turns at st = handled-seen room f (λ (x : S). x) (λ x l r. refl) s t turns at st
+  handled-over room s t turns at st = handled-seen room f (λ (x : S). x) (λ (x : S). Unit {0}) (λ x l h. tt) (λ x l r h. refl) s t turns at st tt
 
   -- with turns enough and room for all, no LF is left
   handled-all : (s : List ℕ) (turns at : ℕ) (st : S) → at ≤ length s → length s ≤ at + turns
@@ -191,7 +203,7 @@ module _ {S : Type 0} (f : S → List ℕ → S) where
       more = omega arith
 
   -- what handles a line looks at its first `cut` bytes alone, and so they are enough of an open line
-  over-cut : (cut : ℕ) → ((st : S) (l : List ℕ) → f st l ≡ f st (take (suc cut) l))
+  pub over-cut : (cut : ℕ) → ((st : S) (l : List ℕ) → f st l ≡ f st (take (suc cut) l))
       → (st : S) (s t : List ℕ) → until 10 s ≡ length s → over f st (s ++ t) ≡ over f st (take (suc cut) s ++ t)
   over-cut cut blind st [] t h = refl
   over-cut cut blind st (b ∷ s) t h =

@@ -117,15 +117,15 @@ shift-turn l from i h =
     place c = omega arith
 
 -- ---- what is kept of a buffer's part
+pub drop-take : (k n : ℕ) (l : List ℕ) → drop k (take n l) ≡ take (n - k) (drop k l)
+drop-take zero n l = ap (λ (m : ℕ). take m l) (sym (sub-zero n))
+drop-take (suc k) zero l = ap (λ (m : ℕ). take m (drop (suc k) l)) (sym (zero-sub (suc k)))
+drop-take (suc k) (suc n) [] = sym (take-nil (suc n - suc k))
+drop-take (suc k) (suc n) (b ∷ l) = drop-take k n l ∙ ap (λ (m : ℕ). take m (drop k l)) (sym (suc-sub-suc n k))
+
 pub kept-is : (buf : List ℕ) (from end most : ℕ) → end ≤ length buf → take (min (end - from) most) (drop from buf) ≡ keptPart buf from end most
 kept-is buf from end most h = sym (ap (take most) (drop-take from end buf) ∙ take-min most (end - from) (drop from buf))
   where
-    drop-take : (k n : ℕ) (l : List ℕ) → drop k (take n l) ≡ take (n - k) (drop k l)
-    drop-take zero n l = ap (λ (m : ℕ). take m l) (sym (sub-zero n))
-    drop-take (suc k) zero l = ap (λ (m : ℕ). take m (drop (suc k) l)) (sym (zero-sub (suc k)))
-    drop-take (suc k) (suc n) [] = sym (take-nil (suc n - suc k))
-    drop-take (suc k) (suc n) (b ∷ l) = drop-take k n l ∙ ap (λ (m : ℕ). take m (drop k l)) (sym (suc-sub-suc n k))
-
     take-min : (m n : ℕ) (l : List ℕ) → take m (take n l) ≡ take (min n m) l
     take-min m n l = by (leb m n) refl
       where

@@ -78,7 +78,8 @@ paint-columns-requires c κs =
     let i = inner (c .before .before .before .before) in
     let l =
     in-between (natAbs (a .y)) (a .brush .window .top) (a .brush .window .bottom)
-    (ap (λ (z : ℤ). between (pos (a .brush .window .top)) (pos (a .brush .window .bottom)) z) (sym (between-pos (a .y) (a .brush .window .top) (a .brush .window .bottom) i)) ∙ i) .1 in
+    (ap (λ (z : ℤ). between (pos (a .brush .window .top)) (pos (a .brush .window .bottom)) z) (sym (between-pos (a .y) (a .brush .window .top) (a .brush .window .bottom) i)) ∙ i) .1
+    in
     let p = past (c .before .before) in
     let h = clip-bounds (a .end) (a .brush .window .left) (a .brush .window .right) (s .pre .within .across) .1 in
     (s .pre .drawable, subst (λ (z : ℤ). natAbs z < a .brush .frame .height) (sym (toZ-ofZ (s .fits .y))) (omega arith), omega arith, omega arith)

@@ -1,9 +1,10 @@
 -- `minutes::run` stands within its buffer from turn to turn, and the turns that are left get fewer. Assumes nothing.
-use mathlib.Core.Path.{_≡_, sym, ap, _∙_}
+use mathlib.Core.Path.{_≡_, sym, ap, subst, _∙_}
 use mathlib.Core.Bool.{true, false}
 use mathlib.Core.List.{List}
-use Prim.Native.Nat.{ℕ}
+use Prim.Native.Nat.{ℕ, _≤_}
 use native.Mathlib.Omega.{arith}
+use lib.ListN.{length}
 use borrow.Author.Needs.{needs}
 use Rattle.streams.specs.declared.State.{State}
 use Rattle.streams.specs.State.{goesOn, emptied}
@@ -105,20 +106,23 @@ same-length-2 c = search needs
 
 returns : tie.Need-returns Inv-loop μ-loop
 returns c =
+    let start = c .before .before .before .before .before .before .before .before .before .before .before .before .before .before .before .before in
     let l = c .before .before .before .before .before .before .before .before .before .before .before .loop in
-    let out = c .before .before .before .before .before .before .before .before .before .before .before .before .before .before .before .before .args .out .now in
+    let out = start .args .out .now in
     let w = c .empty .result .unwritten in
+    let t = c .before .before .before .before .tell in
+    let counted = c .before .before .before .before .before .before .before .count-last .ensures in
+    let is = t .ensures .0 ∙ ap (λ (k : Tally). told (l .st) (k .count) out) counted in
     record {
       st = l .st;
-      input = l .input;
       left = (l .tally, out);
       ran = l .inv .ran;
       over =
           sym (c .before .before .before .before .before .before .before .before .before .before .goes-on .ensures)
           ∙ c .before .before .before .before .before .before .before .before .before .if1 .left;
-      done =
-          c .empty .ensures ∙ ap (λ (p : State × List ℕ). emptied (p .0) w) (c .before .before .before .before .tell .ensures .0)
-          ∙ ap (λ (t : Tally). emptied (told (l .st) (t .count) out .0) w) (c .before .before .before .before .before .before .before .count-last .ensures);
+      leaves = ap (λ (p : State × List ℕ). p .1) is;
+      fits = subst (λ (p : State × List ℕ). p .0 .at ≤ length (t .last .0)) is (omega (arith, t .ensures .1, t .kept .0, start .pre .1));
+      done = c .empty .ensures ∙ ap (λ (p : State × List ℕ). emptied (p .0) w) is;
     }
 
 pub run-spec : {M : Type 1} → statement M

@@ -2,14 +2,15 @@
 use mathlib.Core.Path.{_≡_, sym, _∙_}
 use mathlib.Core.Bool.{true, false}
 use mathlib.Core.List.{List}
-use Prim.Native.Nat.{ℕ, _<_}
+use Prim.Native.Nat.{ℕ, _≤_, _<_}
 use native.Mathlib.Omega.{arith}
+use lib.ListN.{length}
 use borrow.Author.Needs.{needs}
 use Rattle.streams.specs.declared.State.{State}
 use Rattle.streams.specs.State.{goesOn}
-use Rattle.streams.specs.Answers.{afterLines, afterLast}
+use Rattle.streams.specs.Answers.{bytes, afterLines, afterLast}
 use Rattle.streams.proofs.Turns.{Kept, going-first, may-read, turns-fewer, going-on, over}
-use Rattle.streams.proofs.Run.{bytes, Any, Running, lines-keep, last-fits}
+use Rattle.streams.proofs.Run.{Any, Running, lines-keep, last-fits}
 use Rattle.numbers.specs.Answer.{answer}
 use Rattle.numbers.proofs.Answers.{answer-short}
 use Rattle.numbers.proofs.run.Statement.{statement}
@@ -102,16 +103,14 @@ module _ (c : tie.After-last-line Inv-loop μ-loop) where
   abbrev all : State × List ℕ
   all = (c .last-line .result, c .last-line .last .1 .0)
 
+  fits : all .0 .at ≤ length (all .1)
+  fits =
+      let l = ended .loop in
+      let most : all .0 .at ≤ 65536 = last-fits answer 72 answer-short (l .st) (l .input) (l .out) (l .inv .stands) all (c .last-line .ensures) (omega arith) in
+      omega (arith, c .last-line .kept .1 .0, l .inv .stands .out-size, most)
+
 empty-requires : tie.Need-empty-requires Inv-loop μ-loop
-empty-requires c κs =
-    let w = c .before .before .before in
-    let l = ended w .loop in
-    omega (
-      arith,
-      w .last-line .kept .1 .0,
-      l .inv .stands .out-size,
-      last-fits answer 72 answer-short (l .st) (l .input) (l .out) (l .inv .stands) (all w) (w .last-line .ensures) (omega arith),
-    )
+empty-requires c κs = fits (c .before .before .before)
 
 same-length : tie.Need-same-length Inv-loop μ-loop
 same-length c =
@@ -128,8 +127,8 @@ returns c =
     let w = c .before .before .before .before in
     let l = ended w .loop in
     let off : goesOn (l .st) ≡ false = sym (w .before .before .before .before .goes-on .ensures) ∙ w .before .before .before .if1 .left in
-    over bytes Any (afterLines answer 72) (entry w .args .out .now) (afterLast answer) (l .st) (l .input) (l .out) (l .inv) off (all w) (w .last-line .ensures)
-    (c .empty .result) (c .empty .ensures)
+    over bytes Any (afterLines answer 72) (entry w .args .out .now) (afterLast answer) (l .st) (l .input) (l .out) (l .inv) off
+    (all w) (w .last-line .ensures) (fits w) (c .empty .result) (c .empty .ensures)
 
 pub run-spec : {M : Type 1} → statement M
 run-spec =

@@ -7,8 +7,8 @@ use borrow.Author.Needs.{needs}
 use Rattle.streams.specs.declared.State.{State}
 use Rattle.streams.specs.State.{goesOn}
 use Rattle.streams.proofs.Turns.{Kept, may-read, turns-fewer, going-on, over}
-use Rattle.replay.specs.Session.{Work, Sound, first, afterLines, afterLast}
-use Rattle.replay.proofs.Work.{bytes, Runs, begins, lines-keep}
+use Rattle.replay.specs.Session.{Work, bytes, Sound, first, afterLines, afterLast}
+use Rattle.replay.proofs.Work.{Runs, begins, lines-keep}
 use Rattle.replay.proofs.run.Statement.{statement}
 use Rattle.replay.proofs.run.Tie as tie
 
@@ -136,7 +136,8 @@ returns c =
     over bytes Sound afterLines (first (s .out .now) (s .memory .now)) afterLast (l .st) (l .input) (l .out, (l .screen, l .memory)) (l .inv)
     (sym (c .before .before .before .before .before .before .before .before .before .before .before .goes-on .ensures)
     ∙ c .before .before .before .before .before .before .before .before .before .before .if1 .left)
-    (w .result .st, (w .last .1 .1 .0, (w .result .screen, w .last .1 .0))) (w .ensures .0) (c .empty .result) (c .empty .ensures)
+    (w .result .st, (w .last .1 .1 .0, (w .result .screen, w .last .1 .0))) (w .ensures .0)
+    (omega (arith, w .ensures .1, w .kept .1 .1 .0, l .inv .stands .out-size)) (c .empty .result) (c .empty .ensures)
 
 pub run-spec : {M : Type 1} → statement M
 run-spec =

@@ -14,7 +14,9 @@ slice-reshare-prefix-part-end : tie.Need-slice-reshare-prefix-part-end
 slice-reshare-prefix-part-end c = search needs
 
 slice-aggregate-part-end : tie.Need-slice-aggregate-part-end
-slice-aggregate-part-end c = let s = c .before .before in sym (there-is (s .args .input .now) (s .args .st) (s .pre .0) (s .pre .2))
+slice-aggregate-part-end c =
+    let s = c .before .before in
+    sym (there-is (s .args .input .now) (s .args .st) (s .pre .0) (s .pre .2))
 
 part-end-requires : tie.Need-part-end-requires
 part-end-requires c κs =
@@ -79,6 +81,7 @@ returns-2 c =
             turns = came input st 0 (r .result .failed) .turns;
           }) (k .ensures .0);
       room = omega (arith, r .ensures .0, k .ensures .0, k .kept .0, s .pre .2);
+      there = omega (arith, r .ensures .0, k .ensures .0, r .kept .0);
       kept =
           ap (λ (n : ℕ). take n (r .last .0)) (sym (k .ensures .0)) ∙ r .ensures .1 ∙ ap (λ (n : ℕ). take n (k .last .0)) (k .ensures .0)
           ∙ ap (take (length (rest input st))) (k .ensures .1) ∙ front input (rest input st) (few a);

@@ -1,4 +1,2 @@
 pub mod Words
 pub mod Draw
-pub mod Screen
-pub mod Lines

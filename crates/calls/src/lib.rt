@@ -1,11 +1,98 @@
-// The lines on the buffer and its frame, and answering a line: any that is none of these may be a question.
-mod draw;
-mod lines;
-mod screen;
+// The drawing calls on the lent bytes. The numbers of a line start at `at`.
+ghost use mathlib.Core.Path.{_≡_};
+ghost use Rattle.calls.specs.Draw.{pixelCall, fillCall, lineCall, triangleCall, outlineCall, circleCall, drawCall};
+use framebuffer::Frame;
+use protocol::Reply;
+use protocol::ends_at;
+use protocol::next_circle;
+use protocol::next_ends;
+use protocol::next_point;
+use protocol::next_vertices;
+use protocol::place_in;
+use questions::ask;
 
-pub use lines::Answered;
-pub use lines::Progress;
-pub use lines::answer_line;
-pub use lines::answer_lines;
-pub use screen::Screen;
-pub use screen::first_screen;
+fn pixel(said: &[u8], at: usize, buf: &mut [u8], frame: Frame) -> Reply
+    ensures { λ r. ⌜ (r, now (buf .exit)) ≡ pixelCall (now (said .entry)) at frame (now (buf .entry)) ⌝ }
+{
+    let place = next_point(said, at);
+    let colour = text::next_u32(said, place.next);
+    if !ends_at(said, colour.next) {
+        return Reply::Bad;
+    }
+    let drawn = framebuffer::set_pixel(buf, frame, place.point, colour.value);
+    Reply::Number(drawn.number)
+}
+
+fn fill(said: &[u8], at: usize, buf: &mut [u8], frame: Frame) -> Reply
+    ensures { λ r. ⌜ (r, now (buf .exit)) ≡ fillCall (now (said .entry)) at frame (now (buf .entry)) ⌝ }
+{
+    let colour = text::next_u32(said, at);
+    if !ends_at(said, colour.next) {
+        return Reply::Bad;
+    }
+    let drawn = framebuffer::fill(buf, frame, colour.value);
+    Reply::Number(drawn.number)
+}
+
+fn line(said: &[u8], at: usize, buf: &mut [u8], frame: Frame) -> Reply
+    ensures { λ r. ⌜ (r, now (buf .exit)) ≡ lineCall (now (said .entry)) at frame (now (buf .entry)) ⌝ }
+{
+    let ends = next_ends(said, at);
+    let colour = text::next_u32(said, ends.next);
+    if !ends_at(said, colour.next) {
+        return Reply::Bad;
+    }
+    let drawn = drawing::draw_line(buf, frame, ends.start, ends.end, colour.value);
+    Reply::Number(drawn.number)
+}
+
+fn triangle(said: &[u8], at: usize, buf: &mut [u8], frame: Frame) -> Reply
+    ensures { λ r. ⌜ (r, now (buf .exit)) ≡ triangleCall (now (said .entry)) at frame (now (buf .entry)) ⌝ }
+{
+    let t = next_vertices(said, at);
+    let colour = text::next_u32(said, t.next);
+    if !ends_at(said, colour.next) {
+        return Reply::Bad;
+    }
+    let drawn = drawing::draw_triangle(buf, frame, t.v1, t.v2, t.v3, colour.value);
+    Reply::Number(drawn.number)
+}
+
+fn outline(said: &[u8], at: usize, buf: &mut [u8], frame: Frame) -> Reply
+    ensures { λ r. ⌜ (r, now (buf .exit)) ≡ outlineCall (now (said .entry)) at frame (now (buf .entry)) ⌝ }
+{
+    let t = next_vertices(said, at);
+    let colour = text::next_u32(said, t.next);
+    if !ends_at(said, colour.next) {
+        return Reply::Bad;
+    }
+    let drawn = drawing::draw_outline(buf, frame, t.v1, t.v2, t.v3, colour.value);
+    Reply::Number(drawn.number)
+}
+
+fn circle(said: &[u8], at: usize, buf: &mut [u8], frame: Frame) -> Reply
+    ensures { λ r. ⌜ (r, now (buf .exit)) ≡ circleCall (now (said .entry)) at frame (now (buf .entry)) ⌝ }
+{
+    let round = next_circle(said, at);
+    let colour = text::next_u32(said, round.next);
+    if !ends_at(said, colour.next) {
+        return Reply::Bad;
+    }
+    let drawn = drawing::draw_circle(buf, frame, round.topleft, round.diameter, colour.value);
+    Reply::Number(drawn.number)
+}
+
+// Makes the call that starts with the word; a line that starts with none of these words may be a question.
+pub fn draw(word: &[u8], said: &[u8], at: usize, buf: &mut [u8], frame: Frame) -> Reply
+    ensures { λ r. ⌜ (r, now (buf .exit)) ≡ drawCall (now (word .entry)) (now (said .entry)) at frame (now (buf .entry)) ⌝ }
+{
+    match place_in(b"pixel\tfill\tline\ttriangle\toutline\tcircle", word) {
+        0 => pixel(said, at, buf, frame),
+        1 => fill(said, at, buf, frame),
+        2 => line(said, at, buf, frame),
+        3 => triangle(said, at, buf, frame),
+        4 => outline(said, at, buf, frame),
+        5 => circle(said, at, buf, frame),
+        _ => ask(word, said, at),
+    }
+}

@@ -10,9 +10,9 @@ use lib.Seq.{take-all}
 use borrow.Author.Tests.{leb-true, leb-false}
 use Rattle.text.specs.Lines.{whole, streamed}
 use Rattle.text.proofs.Streaming.{streamed-is}
-use Rattle.calls.specs.Lines.{Left, answer}
-use Rattle.calls.specs.Screen.{start}
-use Rattle.calls.proofs.Answers.{answer-long}
+use Rattle.session.specs.Lines.{Left, answer}
+use Rattle.session.specs.Screen.{start}
+use Rattle.session.proofs.Answers.{answer-long}
 use Rattle.replay.specs.Session.{told, output}
 
 -- 129 bytes of a line are enough

@@ -9,10 +9,10 @@ use Rattle.streams.specs.declared.State.{State}
 use Rattle.streams.specs.State.{Within, Standing, started}
 use Rattle.streams.proofs.Refilling.{there-is}
 use Rattle.streams.proofs.Turns.{Kept, Going, going-first}
-use Rattle.calls.specs.declared.screen.Screen.{Screen}
-use Rattle.calls.specs.Lines.{Session, answered, room}
-use Rattle.calls.specs.Screen.{start}
-use Rattle.calls.proofs.Lent.{lines-lent}
+use Rattle.session.specs.declared.screen.Screen.{Screen}
+use Rattle.session.specs.Lines.{Session, answered, room}
+use Rattle.session.specs.Screen.{start}
+use Rattle.session.proofs.Lent.{lines-lent}
 use Rattle.replay.specs.Session.{Work, bytes, Sound, first, afterLines}
 
 -- the program came turn by turn to where it stands

@@ -7,8 +7,8 @@ use lib.ListN.{length, take, drop}
 use Rattle.text.specs.Lines.{over}
 use Rattle.streams.specs.declared.State.{State}
 use Rattle.streams.specs.State.{standsAt, lastIs}
-use Rattle.calls.specs.Lines.{Left, Session, answer, answered, afterAll}
-use Rattle.calls.specs.Screen.{start}
+use Rattle.session.specs.Lines.{Left, Session, answer, answered, afterAll}
+use Rattle.session.specs.Screen.{start}
 
 -- the answers to the lines, from the first screen on
 abbrev pub told : List ℕ × Left → List ℕ → List ℕ × Left

@@ -6,7 +6,7 @@ ghost use lib.ListN.{length};
 ghost use Rattle.streams.specs.State.{Standing};
 ghost use Rattle.streams.specs.Run.{Ended};
 ghost use Rattle.replay.specs.Session.{bytes, Sound, first, afterLines, afterLast};
-use calls::Screen;
+use session::Screen;
 use streams::State;
 
 // Where the program stands, and the screen that the lines left.
@@ -28,7 +28,7 @@ fn answer_some(
         × (r .st .at ≤ 65536) ⌝ }
 {
     let end = st.end;
-    let done = calls::answer_lines(&input[..end], st.next, memory, screen, out, st.at);
+    let done = session::answer_lines(&input[..end], st.next, memory, screen, out, st.at);
     let left = done.screen;
     Reached {
         st: streams::stands_at(st, done.next, done.at),
@@ -47,7 +47,7 @@ fn last_line(input: &[u8], memory: &mut [u8], out: &mut [u8], st: State, screen:
     }
     let next = st.next;
     let end = st.end;
-    let last = calls::answer_line(&input[next..end], memory, screen, out, st.at);
+    let last = session::answer_line(&input[next..end], memory, screen, out, st.at);
     let left = last.screen;
     Reached {
         st: streams::stands_at(st, end, last.at),
@@ -61,7 +61,7 @@ fn run(input: &mut [u8], memory: &mut [u8], out: &mut [u8]) -> State
     ensures { λ r. ⌜ Ended bytes afterLines afterLast (first (now (out .entry)) (now (memory .entry))) r (now (input .exit)) (now (out .exit)) ⌝ }
 {
     let mut st = streams::start();
-    let mut screen = calls::first_screen();
+    let mut screen = session::first_screen();
     while streams::goes_on(st) {
         let reached = answer_some(input, memory, out, st, screen);
         screen = reached.screen;

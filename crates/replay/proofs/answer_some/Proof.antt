@@ -6,7 +6,7 @@ use borrow.Author.Needs.{needs}
 use Rattle.streams.specs.declared.State.{State}
 use Rattle.streams.specs.State.{standsAt}
 use Rattle.streams.proofs.Refilling.{there-is}
-use Rattle.calls.specs.Lines.{Session}
+use Rattle.session.specs.Lines.{Session}
 use Rattle.replay.specs.Session.{Work}
 use Rattle.replay.proofs.answer_some.Statement.{statement}
 use Rattle.replay.proofs.answer_some.Tie as tie

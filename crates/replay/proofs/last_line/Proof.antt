@@ -6,7 +6,7 @@ use borrow.Author.Needs.{needs}
 use borrow.Author.Tests.{not-true, not-false}
 use Rattle.streams.specs.declared.State.{State}
 use Rattle.streams.specs.State.{standsAt, lastIs}
-use Rattle.calls.specs.Lines.{Session}
+use Rattle.session.specs.Lines.{Session}
 use Rattle.replay.specs.Session.{Work}
 use Rattle.replay.proofs.last_line.Statement.{statement}
 use Rattle.replay.proofs.last_line.Tie as tie

@@ -1,0 +1,16 @@
+-- `session::screen::first_screen` makes the description that says nothing. Assumes nothing.
+use mathlib.Core.Path.{ap}
+use borrow.Author.Needs.{needs}
+use Rattle.framebuffer.specs.declared.Frame.{Frame}
+use Rattle.session.specs.Screen.{screenOf}
+use Rattle.session.proofs.screen.first_screen.Statement.{statement}
+use Rattle.session.proofs.screen.first_screen.Tie as tie
+
+new-requires : tie.Need-new-requires
+new-requires c κs = search needs
+
+returns : tie.Need-returns
+returns c = ap (λ (f : Frame). screenOf f 0) (c .new .ensures)
+
+pub first-screen-spec : {M : Type 1} → statement M
+first-screen-spec = tie.close (tie.spec new-requires returns)

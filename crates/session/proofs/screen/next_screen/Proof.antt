@@ -1,0 +1,53 @@
+-- `session::screen::next_screen` reads five numbers, one behind the other, and tests the last two. Assumes nothing.
+use borrow.Author.Needs.{needs}
+use Rattle.session.specs.Screen.{nextScreen}
+use Rattle.session.proofs.Turns.{descriptions}
+use Rattle.session.proofs.screen.next_screen.Statement.{statement}
+use Rattle.session.proofs.screen.next_screen.Tie as tie
+
+next-u32-requires : tie.Need-next-u32-requires
+next-u32-requires c κs = search needs
+
+next-u32-requires-2 : tie.Need-next-u32-requires-2
+next-u32-requires-2 c κs = search needs
+
+next-u32-requires-3 : tie.Need-next-u32-requires-3
+next-u32-requires-3 c κs = search needs
+
+next-u32-requires-4 : tie.Need-next-u32-requires-4
+next-u32-requires-4 c κs = search needs
+
+next-u32-requires-5 : tie.Need-next-u32-requires-5
+next-u32-requires-5 c κs = search needs
+
+new-requires : tie.Need-new-requires
+new-requires c κs = search needs
+
+cast-t11 : tie.Need-cast-t11
+cast-t11 c = search needs
+
+returns : tie.Need-returns
+unfolding nextScreen
+returns c = search descriptions
+
+ends-within-requires : tie.Need-ends-within-requires
+ends-within-requires c κs = search needs
+
+returns-2 : tie.Need-returns-2
+unfolding nextScreen
+returns-2 c = search descriptions
+
+pub next-screen-spec : {M : Type 1} → statement M
+next-screen-spec =
+    tie.close
+    (tie.spec
+    next-u32-requires
+    next-u32-requires-2
+    next-u32-requires-3
+    next-u32-requires-4
+    next-u32-requires-5
+    new-requires
+    cast-t11
+    returns
+    ends-within-requires
+    returns-2)

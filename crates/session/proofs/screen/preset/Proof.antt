@@ -1,0 +1,53 @@
+-- `session::screen::preset` sets every byte, where the line is the value alone. Assumes nothing.
+use mathlib.Core.Path.{sym, _∙_}
+use native.Mathlib.Omega.{arith}
+use lib.Dec.{leb}
+use borrow.Author.Needs.{needs}
+use borrow.Author.Tests.{not-false, leb-true}
+use Rattle.text.proofs.And.{and-second}
+use Rattle.protocol.specs.Fields.{isLast}
+use Rattle.session.specs.Screen.{presetCall}
+use Rattle.session.proofs.Turns.{turns}
+use Rattle.session.proofs.screen.preset.Statement.{statement}
+use Rattle.session.proofs.screen.preset.Tie as tie
+
+next-u32-requires : tie.Need-next-u32-requires
+next-u32-requires c κs = search needs
+
+ends-within-requires : tie.Need-ends-within-requires
+ends-within-requires c κs = search needs
+
+returns : tie.Need-returns
+unfolding presetCall
+returns c = search turns
+
+cast-set-all : tie.Need-cast-set-all
+cast-set-all c =
+    let v = c .before .before .before .before .next-u32 .result in
+    omega (
+      arith,
+      leb-true (v .value) 255 (and-second (isLast (c .before .before .before .before .before .before .before .args .said .now) (v .next)) (leb (v .value) 255)
+          (sym (c .before .before .before .ends-within .ensures) ∙ not-false _ (c .before .before .if1 .left))),
+    )
+
+set-all-requires : tie.Need-set-all-requires
+set-all-requires c κs = search needs
+
+same-length : tie.Need-same-length
+same-length c = search needs
+
+returns-2 : tie.Need-returns-2
+unfolding presetCall
+returns-2 c = search turns
+
+pub preset-spec : {M : Type 1} → statement M
+preset-spec =
+    tie.close
+    (tie.spec
+    next-u32-requires
+    ends-within-requires
+    returns
+    cast-set-all
+    set-all-requires
+    same-length
+    returns-2)

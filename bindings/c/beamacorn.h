@@ -1,14 +1,14 @@
 /*
- * Beamacorn: lines, triangles, circles and packed frames, exact for every input. docs/RULES.md has the rules.
+ * Beamacorn: lines, triangles, circles, packed frames and image files of them, exact for every input. docs/RULES.md has the rules.
  *
  * Link libbeamacorn.a, which `rt staticlib beamacorn` proves and writes to target/staticlib. It needs nothing but the C library's memory functions,
  * allocates nothing and keeps nothing between calls, so that any thread may call at any time; two calls at once must not lend the same buffer if one
- * of them draws.
+ * of them draws or writes into it.
  *
- * Every function takes whatever numbers it is given. An answer's `number` is 0, or says why the call was refused; several reasons give the lowest.
- * With a refusal every other number of the answer is 0, `yes` is false, and no byte of the buffer is changed. So no value means anything before the
- * number was looked at, and `false` alone does not mean "outside": ask `beamacorn_says`, which has three answers. With BEAMACORN_STRICT defined, GCC
- * and Clang warn wherever a C program reads `yes` itself.
+ * Every function takes whatever numbers it is given. An answer's `number` is 0, or says why the call was refused: of several reasons the first, in the
+ * order that the function names. With a refusal every other number of the answer is 0, `yes` is false, and no byte of a buffer is changed. So no value
+ * means anything before the number was looked at, and `false` alone does not mean "outside": ask `beamacorn_says`, which has three answers. With
+ * BEAMACORN_STRICT defined, GCC and Clang warn wherever a C program reads `yes` itself.
  *
  * The range: coordinates of a vertex, of a line end and of a circle's top-left corner are accepted from -131,072 to 131,071; x grows to the right, y
  * downwards. A pixel or a row that is asked about, or set, may be any int32_t. A frame has at most 2,048 by 2,048 pixels.
@@ -25,10 +25,10 @@
 #include <stdint.h>
 
 /* The version of this header and of the library, as in CHANGELOG.md. */
-#define BEAMACORN_VERSION "0.1.0"
+#define BEAMACORN_VERSION "0.1.1"
 #define BEAMACORN_VERSION_MAJOR 0
 #define BEAMACORN_VERSION_MINOR 1
-#define BEAMACORN_VERSION_PATCH 0
+#define BEAMACORN_VERSION_PATCH 1
 
 #if defined BEAMACORN_STRICT && defined __GNUC__ && !defined __cplusplus
 #define BEAMACORN_BEHIND_THE_NUMBER __attribute__((deprecated("no with a refusal too: ask beamacorn_says")))
@@ -50,7 +50,9 @@ enum {
     BEAMACORN_OUT_OF_BOUNDS = 5,  /* a vertex, line end or circle top-left has a coordinate outside -131,072 to 131,071 */
     BEAMACORN_CIRCLE_TOO_FAR = 6, /* left + diameter or top + diameter is above 131,072 */
     BEAMACORN_PAST_LAST_STEP = 7, /* a point of a line is asked at a step past its last */
-    BEAMACORN_OUTSIDE_FRAME = 8   /* a pixel is read outside the frame */
+    BEAMACORN_OUTSIDE_FRAME = 8,  /* a pixel is read outside the frame */
+    BEAMACORN_SHORT_OUTPUT = 9,   /* the output is shorter than what is written into it */
+    BEAMACORN_UNFIT_FRAME = 10    /* the operation takes no frame of this depth, or none without pixels */
 };
 
 /* ---- Questions on lines, triangles and circles ---- */
@@ -210,7 +212,7 @@ beamacorn_span beamacorn_circle_row_span(int32_t left, int32_t top, uint32_t dia
  * touched and `buf` may be any pointer, NULL too. Such a buffer is enough for a frame without pixels, and refused with 3 for any other.
  */
 
-/* How many bytes a frame takes. */
+/* How many bytes a frame takes, or its image file. */
 typedef struct {
     uint32_t number;
     uint32_t bytes;
@@ -305,6 +307,36 @@ beamacorn_drawn beamacorn_draw_outline(uint8_t *buf, size_t len, uint32_t width,
  */
 beamacorn_drawn beamacorn_draw_circle(uint8_t *buf, size_t len, uint32_t width, uint32_t height, uint32_t depth, uint32_t order,
                                       int32_t left, int32_t top, uint32_t diameter, uint32_t colour);
+
+/*
+ * ---- Image files. These may change with the second part of the version. ----
+ *
+ * A frame as a Netpbm file: depth 1 as P4, depth 8 as P5 with the maximum 255, depth 24 as P6, red in the colour's high byte. The file holds the picture
+ * alone: whatever the frame's byte order, padding and tail, the same picture has the same file. The pixel value 1 is black in a P4.
+ *
+ * `out` points to `out_len` bytes that the caller lends for the file and that are no part of `buf`; they may be more than the file takes. Where
+ * `out_len` is 0 it may be any pointer, NULL too.
+ */
+
+/*
+ * How many bytes the frame's image file has, in either order and whatever its pixels are.
+ * Refused with 1, 2 and 10, in this order: 10 for a depth that is not 1, 8 or 24, and for a width or a height of 0.
+ *
+ *     beamacorn_size file = beamacorn_image_size(320, 200, 1);
+ *     if (file.number == 0) { out = malloc(file.bytes); }
+ */
+beamacorn_size beamacorn_image_size(uint32_t width, uint32_t height, uint32_t depth);
+
+/*
+ * Writes the frame's image file into the first bytes of `out`, and says how many they are. The bytes past them stay as they are.
+ * Refused with 1, 2, 3, 10 and 9, in this order: 10 as above, and 9 where `out_len` is less than the file's length.
+ *
+ *     beamacorn_size file = beamacorn_write_image(buf, len, 320, 200, 1, 0, out, out_len);
+ *     if (file.number != 0) { return refused(file.number); }
+ *     fwrite(out, 1, file.bytes, attachment);
+ */
+beamacorn_size beamacorn_write_image(const uint8_t *buf, size_t len, uint32_t width, uint32_t height, uint32_t depth, uint32_t order,
+                                     uint8_t *out, size_t out_len);
 
 #ifdef __cplusplus
 }

@@ -3,7 +3,7 @@
  * must come back as the proved program says.
  *
  *     replay                        answers standard input
- *     replay --functions            lists the functions and how many numbers each takes, buffer and length left aside
+ *     replay --functions            lists the functions and how many numbers each takes, buffers and their lengths left aside
  *     replay --swap FUNCTION I J    answers with two of a function's numbers changed over, counted from 0
  */
 #include <inttypes.h>
@@ -19,6 +19,10 @@ enum { BYTES = 65536, MOST_DUMPED = 4096, LONGEST_LINE = 128, FRAME = 4, MOST_NU
 static uint8_t buffer[BYTES];
 static int64_t frame[FRAME] = {0, 0, 1, 0};
 static size_t lent;
+
+/* The file buffer, and how much of it an image is given. */
+static uint8_t file[BYTES];
+static size_t room;
 
 static void say(int64_t number) { printf("%" PRId64, number); }
 static void say_also(int64_t value) { printf("\t%" PRId64, value); }
@@ -50,6 +54,8 @@ static void draw_line(const int64_t *n) { say_drawn(beamacorn_draw_line(ON_FRAME
 static void draw_triangle(const int64_t *n) { say_drawn(beamacorn_draw_triangle(ON_FRAME, n[4], n[5], n[6], n[7], n[8], n[9], n[10])); }
 static void draw_outline(const int64_t *n) { say_drawn(beamacorn_draw_outline(ON_FRAME, n[4], n[5], n[6], n[7], n[8], n[9], n[10])); }
 static void draw_circle(const int64_t *n) { say_drawn(beamacorn_draw_circle(ON_FRAME, n[4], n[5], n[6], n[7])); }
+static void image_size(const int64_t *n) { say_size(beamacorn_image_size(n[0], n[1], n[2])); }
+static void write_image(const int64_t *n) { say_size(beamacorn_write_image(ON_FRAME, file, room)); }
 
 /* A line's word, the numbers that follow it (s signed, u unsigned), and the function: with the frame's numbers first, if it is asked of the frame. */
 typedef struct {
@@ -74,10 +80,12 @@ static const question questions[] = {
     {"triangle", "ssssssu", "beamacorn_draw_triangle", draw_triangle, true},
     {"outline", "ssssssu", "beamacorn_draw_outline", draw_outline, true},
     {"circle", "ssuu", "beamacorn_draw_circle", draw_circle, true},
+    {"imagesize", "", "beamacorn_image_size", image_size, true},
 };
 
-/* The one function of `frame`, whose line has an order and a length besides. */
+/* The functions of `frame`, whose line has an order and a length besides, and of `image`, whose line has the length of the output. */
 static const question size_of_frame = {"frame", "uuu", "beamacorn_frame_size", frame_size, false};
+static const question image_of_frame = {"image", "", "beamacorn_write_image", write_image, true};
 
 /* Which numbers of which function are changed over, if any. */
 static const char *swapped = "";
@@ -144,19 +152,33 @@ static bool describe(char *fields)
     return true;
 }
 
-static bool preset(char *fields)
+static bool image(char *fields)
+{
+    int64_t given;
+
+    if (!read_numbers(fields, "u", &given) || given > BYTES) {
+        return false;
+    }
+    room = (size_t)given;
+    answer(&image_of_frame, &given);
+    return true;
+}
+
+/* `preset` and `wipe`. */
+static bool set_all(uint8_t *bytes, char *fields)
 {
     int64_t value;
 
     if (!read_numbers(fields, "u", &value) || value > UINT8_MAX) {
         return false;
     }
-    memset(buffer, (int)value, sizeof buffer);
+    memset(bytes, (int)value, BYTES);
     say(0);
     return true;
 }
 
-static bool dump(char *fields)
+/* `dump` and `file`. */
+static bool show(const uint8_t *bytes, char *fields)
 {
     int64_t n[2];
 
@@ -164,7 +186,7 @@ static bool dump(char *fields)
         return false;
     }
     for (int64_t i = n[0]; i < n[0] + n[1]; ++i) {
-        printf("%02x", buffer[i]);
+        printf("%02x", bytes[i]);
     }
     return true;
 }
@@ -186,10 +208,19 @@ static bool answer_line(char *line, size_t length)
         return describe(fields);
     }
     if (strcmp(line, "preset") == 0) {
-        return preset(fields);
+        return set_all(buffer, fields);
     }
     if (strcmp(line, "dump") == 0) {
-        return dump(fields);
+        return show(buffer, fields);
+    }
+    if (strcmp(line, "image") == 0) {
+        return image(fields);
+    }
+    if (strcmp(line, "wipe") == 0) {
+        return set_all(file, fields);
+    }
+    if (strcmp(line, "file") == 0) {
+        return show(file, fields);
     }
     for (size_t i = 0; i < sizeof questions / sizeof *questions; ++i) {
         if (strcmp(line, questions[i].word) == 0) {
@@ -232,6 +263,7 @@ int main(int argc, char **argv)
 
     if (argc == 2 && strcmp(argv[1], "--functions") == 0) {
         list(&size_of_frame);
+        list(&image_of_frame);
         for (size_t i = 0; i < sizeof questions / sizeof *questions; ++i) {
             list(&questions[i]);
         }

@@ -166,7 +166,7 @@ static void drawing(void)
     CHECK(beamacorn_draw_circle(buf, 9, 10, 4, 1, 0, 0, 0, 4, 1).number == 0);
     CHECK(buf[0] == 0x60 && buf[2] == 0xf0 && buf[4] == 0xf0 && buf[6] == 0x60);
 
-    /* The lowest reason wins, and no byte changes. */
+    /* The first reason is given, and no byte changes. */
     memset(buf, 0xa5, sizeof buf);
     CHECK(beamacorn_draw_line(buf, 0, 2049, 4, 3, 0, 131072, 0, 5, 2, 2).number == 1);
     CHECK(beamacorn_draw_triangle(buf, 0, 2049, 4, 1, 0, 131072, 0, 5, 2, 0, 0, 2).number == 2);
@@ -178,6 +178,48 @@ static void drawing(void)
     CHECK(all(buf, 9, 0xa5));
 }
 
+static void image_files(void)
+{
+    /* Three rows of ten pixels, a bit each, all padding set; a grey row; a pixel of colour 0x010203, its little end first and its big end first. */
+    static const uint8_t one_bit[] = {0x80, 0x3f, 0x00, 0x7f, 0xff, 0xff}, grey[] = {7, 200}, little[] = {3, 2, 1}, big[] = {1, 2, 3};
+    static const char p4[] = "P4\n10 3\n\x80\x00\x00\x40\xff\xc0", p5[] = "P5\n2 1\n255\n\x07\xc8", p6[] = "P6\n1 1\n255\n\x01\x02\x03";
+    uint8_t out[16];
+
+    CHECK(is_size(beamacorn_image_size(10, 3, 1), 0, 14));
+    CHECK(is_size(beamacorn_image_size(3, 10, 1), 0, 18));
+    CHECK(is_size(beamacorn_image_size(2, 1, 8), 0, 13));
+    CHECK(is_size(beamacorn_image_size(2048, 2048, 24), 0, 12582929));
+    CHECK(is_size(beamacorn_image_size(2049, 0, 3), 1, 0));
+    CHECK(is_size(beamacorn_image_size(2049, 0, 2), 2, 0));
+    CHECK(is_size(beamacorn_image_size(10, 3, 2), 10, 0));
+    CHECK(is_size(beamacorn_image_size(10, 0, 1), 10, 0));
+
+    memset(out, 0xa5, sizeof out);
+    CHECK(is_size(beamacorn_write_image(one_bit, 6, 10, 3, 1, 0, out, 14), 0, 14));
+    CHECK(memcmp(out, p4, 14) == 0 && all(out + 14, 2, 0xa5));
+    memset(out, 0xa5, sizeof out);
+    CHECK(is_size(beamacorn_write_image(grey, 2, 2, 1, 8, 0, out, 16), 0, 13));
+    CHECK(memcmp(out, p5, 13) == 0 && all(out + 13, 3, 0xa5));
+    CHECK(is_size(beamacorn_write_image(little, 3, 1, 1, 24, 0, out, 16), 0, 14));
+    CHECK(memcmp(out, p6, 14) == 0);
+    memset(out, 0xa5, sizeof out);
+    CHECK(is_size(beamacorn_write_image(big, 3, 1, 1, 24, 4294967295u, out, 14), 0, 14));
+    CHECK(memcmp(out, p6, 14) == 0 && all(out + 14, 2, 0xa5));
+
+    /* The first reason is given, 10 before 9, and no byte changes. */
+    memset(out, 0xa5, sizeof out);
+    CHECK(is_size(beamacorn_write_image(one_bit, 0, 2049, 0, 3, 0, out, 0), 1, 0));
+    CHECK(is_size(beamacorn_write_image(one_bit, 0, 2049, 0, 2, 0, out, 0), 2, 0));
+    CHECK(is_size(beamacorn_write_image(one_bit, 5, 10, 3, 1, 0, out, 0), 3, 0));
+    CHECK(is_size(beamacorn_write_image(one_bit, 6, 3, 3, 2, 0, out, 0), 10, 0));
+    CHECK(is_size(beamacorn_write_image(one_bit, 6, 0, 3, 1, 0, out, 0), 10, 0));
+    CHECK(is_size(beamacorn_write_image(one_bit, 6, 10, 3, 1, 0, out, 13), 9, 0));
+    CHECK(all(out, 16, 0xa5));
+    CHECK(is_size(beamacorn_write_image(NULL, 0, 10, 3, 1, 0, out, 16), 3, 0));
+    CHECK(is_size(beamacorn_write_image(NULL, 0, 0, 0, 1, 0, NULL, 0), 10, 0));
+    CHECK(is_size(beamacorn_write_image(one_bit, 6, 10, 3, 1, 0, NULL, 0), 9, 0));
+}
+
 int main(void)
 {
     lines();
@@ -186,6 +228,7 @@ int main(void)
     verdicts();
     frames();
     drawing();
+    image_files();
     printf("%d checks, %d failed\n", checks, failures);
     return failures != 0;
 }

@@ -5,6 +5,7 @@ from itertools import product
 from . import corners, frames, grids
 from .figures import Figures
 from .frames import Drawings
+from .images import Images
 from .refusals import Limits
 
 FRAMES = [*product((0, 1, 2, 3, 5, 8, 9, 13, 17, 24, 33), (0, 1, 2, 5, 12, 20)), (100, 80), (320, 9), (2, 2_048), (2_048, 2)]
@@ -53,12 +54,13 @@ def round_by_model(random):
     """Kinds and what makes a batch, beyond what the Rust can answer."""
     far = Figures(random, -131_072, 131_071, -(2**31), 2**31 - 1)
     drawings = Drawings(random, FRAMES, far.low, far.high, with_fill=True, refused=0.2)
-    limits = Limits(random)
+    limits, files = Limits(random), Images(random)
     return {
         "far lines": lambda: far.lines(1_000),
         "far triangles": lambda: far.triangles(1_000),
         "far circles": lambda: far.circles(100),
         "drawing, fills and refused calls": lambda: drawings.sequences(300),
+        "image files": lambda: files.sequences(150),
         "questions at their limits": lambda: limits.questions(3_000),
         "calls at their limits": lambda: limits.calls(300),
         "bad lines": lambda: limits.bad_lines(3_000),

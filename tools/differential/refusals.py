@@ -83,6 +83,7 @@ class Limits:
         return asked(self.random.choice(words), *numbers)
 
     def other_number(self, word, numbers):
+        numbers = numbers or [""]
         numbers[self.random.randrange(len(numbers))] = self.random.choice(NUMBERS_NOT_TAKEN + NUMBERS_TAKEN)
         return asked(word, *numbers)
 

@@ -1,9 +1,9 @@
-"""Models that are wrong in one way each: the errors that look right of 01 (docs/RULES.md) and others of their kind, which a run must find."""
+"""Models that are wrong in one way each: the errors that look right of 01 (docs/RULES.md) and others of their kind, in image files too, which a run must find."""
 
 from contextlib import contextmanager
 from unittest.mock import patch
 
-from model import numbers, replay
+from model import images, numbers, replay
 from model.circles import Circle
 from model.frames import Frame
 from model.lines import Line
@@ -48,7 +48,7 @@ def models():
         WrongModel("filling clears the padding", Replay, "fill", fill_all),
         WrongModel("little end first always", Frame, "order", lambda self: "little"),
         WrongModel("first pixel in the low bits", Frame, "place", low_bits_first(Frame.place)),
-        WrongModel("the highest refusal wins", numbers, "lowest", highest),
+        WrongModel("the highest refusal wins", numbers, "first", highest),
         WrongModel("a refused call draws", Replay, "drawn", drawn_all_the_same),
         WrongModel("a circle's row is not shortened on the right", Circle, "span", not_shortened(Circle.span)),
         WrongModel("a line without its last point", Line, "contains", without_last(Line.contains)),
@@ -58,6 +58,12 @@ def models():
         WrongModel("no circle from 6,000 on", Circle, "contains", small_circles(Circle.contains, 6_000), "drawing"),
         WrongModel("columns from 1,024 on not painted", Frame, "paint", painted_to(1_024, 2_048), "drawing on wide and high frames"),
         WrongModel("rows from 1,024 on not painted", Frame, "paint", painted_to(2_048, 1_024), "drawing on wide and high frames"),
+        WrongModel("padding kept in a file's rows", images, "row", as_it_stands(1, images.row), "image files"),
+        WrongModel("the frame's byte order in a P6", images, "row", as_it_stands(24, images.row), "image files"),
+        WrongModel("a room one byte too short", numbers, "output", one_short(numbers.output), "image files"),
+        WrongModel("9 before 10", numbers, "first", lowest, "image files"),
+        WrongModel("width and height swapped", images, "header", turned(images.header), "image files"),
+        WrongModel("bytes behind the file cleared", Replay, "image", clearing(Replay.image), "image files"),
     ]
 
 
@@ -114,8 +120,12 @@ def highest(*tests):
     return max((number for test in tests for number, applies in test.items() if applies), default=0)
 
 
+def lowest(*tests):
+    return min((number for test in tests for number, applies in test.items() if applies), default=0)
+
+
 def drawn_all_the_same(self, change, colour, *tests):
-    number = numbers.lowest(*self.lent(), numbers.colour(self.now, colour), *tests)
+    number = numbers.first(*self.lent(), numbers.colour(self.now, colour), *tests)
     if number in (0, 5, 6):
         change()
     return [number]
@@ -159,3 +169,31 @@ def painted_to(columns, rows):
                     self.set(buffer, x, y, colour)
 
     return paint
+
+
+def as_it_stands(depth, row):
+    """The rows of a depth copied from the frame, byte by byte."""
+
+    def replacement(frame, buffer, y):
+        start = y * frame.row_bytes()
+        return buffer[start:start + frame.row_bytes()] if frame.depth == depth else row(frame, buffer, y)
+
+    return replacement
+
+
+def one_short(output):
+    return lambda frame, room: output(frame, room + 1)
+
+
+def turned(header):
+    return lambda frame: header(Frame(frame.height, frame.width, frame.depth, frame.big))
+
+
+def clearing(image):
+    def replacement(self, room):
+        answer = image(self, room)
+        if answer[0] == 0:
+            self.file_buffer[answer[1]:] = bytes(replay.BYTES - answer[1])
+        return answer
+
+    return replacement

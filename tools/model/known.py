@@ -1,4 +1,4 @@
-"""The known answers 1 to 14 of 01 (docs/RULES.md), the listing of `spans`, and errors that look right."""
+"""The known answers 1 to 14 of 01 (docs/RULES.md), the listing of `spans`, errors that look right, and image files worked out by hand from 02's words."""
 
 # Under each number the lines that ask for it and, behind ->, the answers.
 KNOWN = """
@@ -70,6 +70,53 @@ errors inside 0 0 4 2 2 1 1 0 -> 0 1
     inside 2 1 0 0 4 2 1 0 -> 0 1
     inside 0 0 -2 2 2 0 -1 0 -> 0 0
     disc 0 0 3 0 0 -> 0 0
+one-bit frame 10 3 1 0 6 -> 0 6
+    preset 255 -> 0
+    fill 0 -> 0
+    pixel 0 0 1 -> 0
+    pixel 9 1 1 -> 0
+    line 0 2 9 2 1 -> 0
+    dump 0 6 -> 803f007fffff
+    imagesize -> 0 14
+    wipe 170 -> 0
+    image 13 -> 9 0
+    file 0 14 -> aaaaaaaaaaaaaaaaaaaaaaaaaaaa
+    image 14 -> 0 14
+    file 0 16 -> 50340a313020330a80000040ffc0aaaa
+grey frame 2 1 8 0 2 -> 0 2
+    pixel 0 0 7 -> 0
+    pixel 1 0 200 -> 0
+    image 65536 -> 0 13
+    file 0 14 -> 50350a3220310a3235350a07c8c0
+colour frame 1 1 24 0 3 -> 0 3
+    pixel 0 0 66051 -> 0
+    dump 0 3 -> 030201
+    wipe 0 -> 0
+    image 14 -> 0 14
+    file 0 15 -> 50360a3120310a3235350a01020300
+    frame 1 1 24 1 3 -> 0 3
+    pixel 0 0 66051 -> 0
+    dump 0 3 -> 010203
+    wipe 0 -> 0
+    image 14 -> 0 14
+    file 0 15 -> 50360a3120310a3235350a01020300
+refused frame 3 2 16 0 12 -> 0 12
+    imagesize -> 10 0
+    image 0 -> 10 0
+    image 65536 -> 10 0
+    frame 0 2 1 0 0 -> 0 0
+    imagesize -> 10 0
+    image 65536 -> 10 0
+    frame 3 2 8 0 5 -> 0 6
+    imagesize -> 0 17
+    image 0 -> 3 0
+    frame 3 2 8 0 6 -> 0 6
+    image 16 -> 9 0
+    image 17 -> 0 17
+    frame 2049 1 1 0 0 -> 2 0
+    imagesize -> 2 0
+    image 0 -> 2 0
+    file 0 15 -> 50350a3320320a3235350a00000000
 """
 
 

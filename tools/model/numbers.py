@@ -1,9 +1,11 @@
-"""01 (docs/RULES.md), "Numbers an operation may answer": each refusal by the table's words, and which one wins."""
+"""01 and 02 (docs/RULES.md), "Numbers an operation may answer": each refusal by the table's words, and which one is given."""
+
+from . import images
 
 
-def lowest(*tests):
-    """The lowest number that applies; 0 if none does."""
-    return min((number for test in tests for number, applies in test.items() if applies), default=0)
+def first(*tests):
+    """The first number that applies, in the order that the operation asks; 0 if none does."""
+    return next((number for test in tests for number, applies in test.items() if applies), 0)
 
 
 def description(frame):
@@ -33,3 +35,11 @@ def step(line, k):
 
 def read(frame, x, y):
     return {8: not frame.has(x, y)}
+
+
+def image(frame):
+    return {10: not images.has_format(frame)}
+
+
+def output(frame, room):
+    return {9: room < images.length(frame)}

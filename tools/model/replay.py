@@ -3,7 +3,7 @@
 import re
 from functools import lru_cache
 
-from . import numbers
+from . import images, numbers
 from .circles import Circle
 from .frames import Frame
 from .lines import Line
@@ -16,6 +16,7 @@ LONGEST_LINE = 128
 # The numbers that follow each word: s signed, u unsigned, of 32 bits.
 FIELDS = {
     "frame": "uuuuu", "preset": "u", "read": "ss", "dump": "uu",
+    "image": "u", "imagesize": "", "file": "uu", "wipe": "u",
     "pixel": "ssu", "fill": "u", "line": "ssssu", "triangle": "ssssssu", "outline": "ssssssu", "circle": "ssuu",
     "length": "ssss", "point": "ssssu", "online": "ssssss",
     "inside": "ssssssss", "span": "sssssss", "rows": "ssssss", "disc": "ssuss", "discspan": "ssus",
@@ -37,6 +38,7 @@ class BadLine(Exception):
 class Replay:
     def __init__(self):
         self.frame_is(Frame(0, 0, 1, False), 0)
+        self.file_buffer = bytearray(BYTES)
 
     def frame_is(self, frame, length):
         self.now, self.lent_bytes, self.buffer = frame, length, bytearray(BYTES)
@@ -56,25 +58,43 @@ class Replay:
         if order > 1 or length > BYTES:
             raise BadLine
         self.frame_is(Frame(width, height, depth, order == 1), length)
-        return answered(numbers.lowest(numbers.description(self.now)), 1, lambda: [self.now.size()])
+        return answered(numbers.first(numbers.description(self.now)), 1, lambda: [self.now.size()])
 
     def preset(self, value):
-        if value > 255:
-            raise BadLine
-        self.buffer = bytearray([value]) * BYTES
+        self.buffer = filled(value)
         return [0]
 
     def dump(self, start, count):
-        if count > MOST_DUMPED or start + count > BYTES:
-            raise BadLine
-        return self.buffer[start:start + count].hex()
+        return shown(self.buffer, start, count)
 
     def read(self, x, y):
-        number = numbers.lowest(*self.lent(), numbers.read(self.now, x, y))
+        number = numbers.first(*self.lent(), numbers.read(self.now, x, y))
         return answered(number, 1, lambda: [self.now.read(self.buffer, x, y)])
 
     def lent(self):
         return numbers.description(self.now), numbers.buffer(self.now, self.lent_bytes)
+
+    # Image files, in a buffer of their own.
+
+    def image(self, room):
+        if room > BYTES:
+            raise BadLine
+        number = numbers.first(*self.lent(), numbers.image(self.now), numbers.output(self.now, room))
+        if number == 0:
+            file = images.written(self.now, self.buffer)
+            self.file_buffer[:len(file)] = file
+        return answered(number, 1, lambda: [images.length(self.now)])
+
+    def imagesize(self):
+        number = numbers.first(numbers.description(self.now), numbers.image(self.now))
+        return answered(number, 1, lambda: [images.length(self.now)])
+
+    def file(self, start, count):
+        return shown(self.file_buffer, start, count)
+
+    def wipe(self, value):
+        self.file_buffer = filled(value)
+        return [0]
 
     # Drawing calls.
 
@@ -104,7 +124,7 @@ class Replay:
         return self.drawn(lambda: self.now.paint(self.buffer, contains, colour), colour, *tests)
 
     def drawn(self, change, colour, *tests):
-        number = numbers.lowest(*self.lent(), numbers.colour(self.now, colour), *tests)
+        number = numbers.first(*self.lent(), numbers.colour(self.now, colour), *tests)
         if number == 0:
             change()
         return [number]
@@ -112,35 +132,48 @@ class Replay:
     # Questions on figures.
 
     def length(self, *ends):
-        return answered(numbers.lowest(numbers.coordinates(*ends)), 1, lambda: [line(*ends).points()])
+        return answered(numbers.first(numbers.coordinates(*ends)), 1, lambda: [line(*ends).points()])
 
     def point(self, *given):
         *ends, k = given
-        number = numbers.lowest(numbers.coordinates(*ends), numbers.step(line(*ends), k))
+        number = numbers.first(numbers.coordinates(*ends), numbers.step(line(*ends), k))
         return answered(number, 2, lambda: line(*ends).point(k))
 
     def online(self, *given):
         *ends, x, y = given
-        return answered(numbers.lowest(numbers.coordinates(*ends)), 1, lambda: [line(*ends).contains(x, y)])
+        return answered(numbers.first(numbers.coordinates(*ends)), 1, lambda: [line(*ends).contains(x, y)])
 
     def inside(self, *given):
         *vertices, x, y = given
-        return answered(numbers.lowest(numbers.coordinates(*vertices)), 1, lambda: [triangle(*vertices).contains(x, y)])
+        return answered(numbers.first(numbers.coordinates(*vertices)), 1, lambda: [triangle(*vertices).contains(x, y)])
 
     def span(self, *given):
         *vertices, y = given
-        return answered(numbers.lowest(numbers.coordinates(*vertices)), 2, lambda: triangle(*vertices).span(y))
+        return answered(numbers.first(numbers.coordinates(*vertices)), 2, lambda: triangle(*vertices).span(y))
 
     def rows(self, *vertices):
-        return answered(numbers.lowest(numbers.coordinates(*vertices)), 2, lambda: triangle(*vertices).rows())
+        return answered(numbers.first(numbers.coordinates(*vertices)), 2, lambda: triangle(*vertices).rows())
 
     def disc(self, left, top, diameter, x, y):
-        number = numbers.lowest(*on_circle(left, top, diameter))
+        number = numbers.first(*on_circle(left, top, diameter))
         return answered(number, 1, lambda: [circle(left, top, diameter).contains(x, y)])
 
     def discspan(self, left, top, diameter, y):
-        number = numbers.lowest(*on_circle(left, top, diameter))
+        number = numbers.first(*on_circle(left, top, diameter))
         return answered(number, 2, lambda: circle(left, top, diameter).span(y))
+
+
+def filled(value):
+    """A buffer in which each byte is the value."""
+    if value > 255:
+        raise BadLine
+    return bytearray([value]) * BYTES
+
+
+def shown(buffer, start, count):
+    if count > MOST_DUMPED or start + count > BYTES:
+        raise BadLine
+    return buffer[start:start + count].hex()
 
 
 def on_circle(left, top, diameter):

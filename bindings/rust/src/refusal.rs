@@ -21,6 +21,10 @@ impl Refusal {
     pub const CIRCLE_TOO_FAR: Refusal = Refusal(NonZeroU32::new(6).unwrap());
     /// 7: a point of a line is asked at a step past its last.
     pub const PAST_LAST_STEP: Refusal = Refusal(NonZeroU32::new(7).unwrap());
+    /// 9: the output is shorter than what is written into it. No question is refused with it.
+    pub const SHORT_OUTPUT: Refusal = Refusal(NonZeroU32::new(9).unwrap());
+    /// 10: the operation takes no frame of this depth, or none without pixels. No question is refused with it.
+    pub const UNFIT_FRAME: Refusal = Refusal(NonZeroU32::new(10).unwrap());
 
     /// The number in the library's table.
     pub const fn number(self) -> u32 {
@@ -42,6 +46,8 @@ impl fmt::Display for Refusal {
             Refusal::OUT_OF_BOUNDS => "a coordinate is outside -131072 to 131071",
             Refusal::CIRCLE_TOO_FAR => "the circle's box ends past 131072",
             Refusal::PAST_LAST_STEP => "the step is past the line's last",
+            Refusal::SHORT_OUTPUT => "the output is too short",
+            Refusal::UNFIT_FRAME => "the frame's depth or size is not taken",
             _ => "see the library's table",
         };
         write!(f, "refused with {}: {why}", self.0)

@@ -1,5 +1,10 @@
 -- Each exported contract determines its answer and every byte: any two results that it allows of the same arguments are equal. `Post` is the
 -- contract as the source states it; the buffer, which comes first, is at exit the first of s. Assumes nothing.
+use mathlib.Core.Path.{_≡_}
+use mathlib.Core.List.{List}
+use Prim.Native.Nat.{ℕ}
+use denote.Ref.{now}
+use Rattle.framebuffer.specs.declared.Size.{Size}
 use Rattle.whole.proofs.Determined.{One, OneBuffer, same}
 use Rattle.beamacorn.proofs.beamacorn_line_length.Reads as line-length
 use Rattle.beamacorn.proofs.beamacorn_line_point.Reads as line-point
@@ -17,6 +22,8 @@ use Rattle.beamacorn.proofs.beamacorn_draw_line.Reads as draw-line
 use Rattle.beamacorn.proofs.beamacorn_draw_triangle.Reads as draw-triangle
 use Rattle.beamacorn.proofs.beamacorn_draw_outline.Reads as draw-outline
 use Rattle.beamacorn.proofs.beamacorn_draw_circle.Reads as draw-circle
+use Rattle.beamacorn.proofs.beamacorn_image_size.Reads as image-size
+use Rattle.beamacorn.proofs.beamacorn_write_image.Reads as write-image
 
 -- ---- questions
 pub line-length-one : One line-length.Post
@@ -67,3 +74,12 @@ draw-outline-one κs args r q s t = same
 
 pub draw-circle-one : OneBuffer draw-circle.Post
 draw-circle-one κs args r q s t = same
+
+-- ---- image files
+pub image-size-one : One image-size.Post
+image-size-one κs args r q s t = same
+
+-- the output is lent last
+pub write-image-one : (κs : _) (args : _) (r q : _) (s t : _) → write-image.Post κs args r s → write-image.Post κs args q t
+    → _≡_ {A = Size × List ℕ} (r, now (s .1 .1 .1 .1 .1 .0)) (q, now (t .1 .1 .1 .1 .1 .0))
+write-image-one κs args r q s t = same

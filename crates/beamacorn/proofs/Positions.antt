@@ -13,10 +13,13 @@ use Rattle.triangle.specs.Answer.{vertexTests, rowsAnswer}
 use Rattle.circle.specs.Circle as circle
 use Rattle.circle.specs.Refusal.{circleTests}
 use Rattle.framebuffer.specs.declared.Drawn.{Drawn}
+use Rattle.framebuffer.specs.declared.Size.{Size}
 use Rattle.framebuffer.specs.Answer.{sized}
 use Rattle.framebuffer.specs.Description.{size, descriptionTests}
 use Rattle.framebuffer.specs.Drawing.{pixelDrawing, fillDrawing}
 use Rattle.drawing.specs.Drawing.{lineDrawing, outlineDrawing, triangleDrawing, circleDrawing}
+use Rattle.netpbm.specs.Image.{imageLength}
+use Rattle.netpbm.specs.Written.{imageSizeTests, written}
 use Rattle.beamacorn.specs.Plain.{frameOf, plainStep, outcomeOn, pixelOn}
 use Rattle.beamacorn.proofs.beamacorn_line_length.Reads as line-length
 use Rattle.beamacorn.proofs.beamacorn_line_point.Reads as line-point
@@ -34,6 +37,8 @@ use Rattle.beamacorn.proofs.beamacorn_draw_line.Reads as draw-line
 use Rattle.beamacorn.proofs.beamacorn_draw_triangle.Reads as draw-triangle
 use Rattle.beamacorn.proofs.beamacorn_draw_outline.Reads as draw-outline
 use Rattle.beamacorn.proofs.beamacorn_draw_circle.Reads as draw-circle
+use Rattle.beamacorn.proofs.beamacorn_image_size.Reads as image-size
+use Rattle.beamacorn.proofs.beamacorn_write_image.Reads as write-image
 
 -- ---- questions: two or three points, each x first; a circle is left, top, diameter; what is asked of them comes last
 pub line-length-at : (κs : _) (a : _) (r : _) (s : _) → line-length.Post κs a r s
@@ -119,3 +124,13 @@ pub draw-circle-at : (κs : _) (a : _) (r : _) (s : _) → draw-circle.Post κs 
     → _≡_ {A = Drawn × List ℕ} (r, s .0 .now) (outcomeOn (a .1 .0) (a .1 .1 .0) (a .1 .1 .1 .0) (a .1 .1 .1 .1 .0)
     (circleDrawing (a .1 .1 .1 .1 .1 .0, a .1 .1 .1 .1 .1 .1 .0) (a .1 .1 .1 .1 .1 .1 .1 .0) (a .1 .1 .1 .1 .1 .1 .1 .1 .0)) (a .0 .now))
 draw-circle-at κs a r s h = h
+
+-- ---- image files: the same of the frame, and the output comes last
+pub image-size-at : (κs : _) (a : _) (r : _) (s : _) → image-size.Post κs a r s
+    → r ≡ sized (first (imageSizeTests (frameOf (a .0) (a .1 .0) (a .1 .1 .0) 0))) (imageLength (frameOf (a .0) (a .1 .0) (a .1 .1 .0) 0))
+image-size-at κs a r s h = h
+
+pub write-image-at : (κs : _) (a : _) (r : _) (s : _) → write-image.Post κs a r s
+    → _≡_ {A = Size × List ℕ} (r, s .1 .1 .1 .1 .1 .0 .now)
+    (written (frameOf (a .1 .0) (a .1 .1 .0) (a .1 .1 .1 .0) (a .1 .1 .1 .1 .0)) (a .0 .now) (a .1 .1 .1 .1 .1 .0 .now))
+write-image-at κs a r s h = h

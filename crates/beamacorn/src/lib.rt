@@ -14,6 +14,8 @@ ghost use Rattle.framebuffer.specs.Answer.{sized};
 ghost use Rattle.framebuffer.specs.Description.{size, descriptionTests};
 ghost use Rattle.framebuffer.specs.Drawing.{pixelDrawing, fillDrawing};
 ghost use Rattle.drawing.specs.Drawing.{lineDrawing, outlineDrawing, triangleDrawing, circleDrawing};
+ghost use Rattle.netpbm.specs.Image.{imageLength};
+ghost use Rattle.netpbm.specs.Written.{imageSizeTests, written};
 ghost use Rattle.beamacorn.specs.Plain.{frameOf, plainStep, outcomeOn, pixelOn};
 use framebuffer::Drawn;
 use framebuffer::Frame;
@@ -309,4 +311,29 @@ pub extern "C" fn beamacorn_draw_circle(
         diameter,
         colour,
     )
+}
+
+// ---- image files
+
+// The bytes that the image file of a frame takes.
+#[no_mangle]
+pub extern "C" fn beamacorn_image_size(width: u32, height: u32, depth: u32) -> framebuffer::Size
+    ensures { λ r. ⌜ r ≡ sized (first (imageSizeTests (frameOf width height depth 0))) (imageLength (frameOf width height depth 0)) ⌝ }
+{
+    netpbm::image_size(frame(width, height, depth, 0))
+}
+
+// Writes the frame as an image file into the output, from its first byte on, and answers how many bytes that were.
+#[no_mangle]
+pub extern "C" fn beamacorn_write_image(
+    buf: &[u8],
+    width: u32,
+    height: u32,
+    depth: u32,
+    order: u32,
+    out: &mut [u8],
+) -> framebuffer::Size
+    ensures { λ r. ⌜ (r, now (out .exit)) ≡ written (frameOf width height depth order) (now (buf .entry)) (now (out .entry)) ⌝ }
+{
+    netpbm::write_image(buf, frame(width, height, depth, order), out)
 }

@@ -154,8 +154,8 @@ pub fn buffer_size_bpp(frame: Frame) -> Size
     }
 }
 
-// The refusal of a frame over a buffer of `len` bytes, 1 to 3, or 0.
-fn frame_refusal(frame: Frame, len: usize) -> u32
+// Inside the library: the refusal of a frame over a buffer of `len` bytes, 1 to 3, or 0.
+pub fn frame_refusal(frame: Frame, len: usize) -> u32
     ensures { λ r. ⌜ r ≡ first (frameTests frame len) ⌝ }
 {
     let number = description_refusal(frame);

@@ -40,7 +40,7 @@ bit-of-digit F (suc q) s v h =
     ap (λ (k : ℕ). digit 2 k v) e ∙ high-bit F (q * F + s) v ∙ bit-of-digit F q s (v / 2 ^ F) h
 
 -- numbers that agree in a digit agree in its bits
-same-bit : (F t u v : ℕ) → 0 < F → digit (2 ^ F) (t / F) u ≡ digit (2 ^ F) (t / F) v → digit 2 t u ≡ digit 2 t v
+pub same-bit : (F t u v : ℕ) → 0 < F → digit (2 ^ F) (t / F) u ≡ digit (2 ^ F) (t / F) v → digit 2 t u ≡ digit 2 t v
 same-bit F t u v p e =
     let h = mod-lt t p in
     let d : t / F * F + t % F ≡ t = div-add-mod' t F in

@@ -129,12 +129,12 @@ module _ (l : Layout) (P : Placing l) where
           ∙ go v b x y hx hy k (omega arith)
 
 -- ---- a zero-filled buffer shows the colour 0 everywhere
-getD-zeros : (n i : ℕ) → _≡_ {A = ℕ} (getD (replicate n 0) i 0) 0
+pub getD-zeros : (n i : ℕ) → _≡_ {A = ℕ} (getD (replicate n 0) i 0) 0
 getD-zeros zero i = refl
 getD-zeros (suc n) zero = refl
 getD-zeros (suc n) (suc i) = getD-zeros n i
 
-digit-zero : (B j : ℕ) → digit B j 0 ≡ 0
+pub digit-zero : (B j : ℕ) → digit B j 0 ≡ 0
 digit-zero B zero = zero-mod B
 digit-zero B (suc j) = ap (digit B j) (zero-div B) ∙ digit-zero B j
 

@@ -9,7 +9,7 @@ use native.Mathlib.Omega.{arith}
 use lib.Dec.{eqb}
 use borrow.Author.Tests.{eqb-true, eqb-false, eq-eqb, ne-eqb, not-true}
 use Rattle.whole.proofs.Tests.{and-true}
-use Rattle.refusals.specs.First.{Tests, first, numbered, absent}
+use Rattle.refusals.specs.First.{Tests, first, numbered}
 
 -- the first number is not 0, and neither are the others
 some : (n : ℕ) (ts : Tests) → not (eqb n 0) && numbered ts ≡ true → (n ≡ 0 → ⊥) × (numbered ts ≡ true)
@@ -58,24 +58,13 @@ exactly n ts h = (split n ts h, λ s. ap first (s .is) ∙ found n (s .before) (
 pub exactly-0 : (ts : Tests) → numbered ts ≡ true → first ts ≡ 0 ↔ Fail ts
 exactly-0 ts h = (all-fail ts h, fail-all ts)
 
--- a number that stands once, as the numbers of one call do: the tests before it, by name
-apart : (n m : ℕ) (ts : Tests) → not (eqb m n) && absent n ts ≡ true → (m ≡ n → ⊥) × (absent n ts ≡ true)
-apart n m ts h = let p = and-true (not (eqb m n)) (absent n ts) h in (eqb-false m n (not-true _ (p .0)), p .1)
+-- both, of an operation's list
+pub record Exact (ts : Tests) : Type 0 where
+  pub done : first ts ≡ 0 ↔ Fail ts
+  pub when : (n : ℕ) → (n ≡ 0 → ⊥) → first ts ≡ n ↔ Split n ts
 
-absent-not : (n : ℕ) (ts : Tests) → (n ≡ 0 → ⊥) → absent n ts ≡ true → first ts ≡ n → ⊥
-absent-not n [] h a e = h (sym e)
-absent-not n ((m, true) ∷ ts) h a e = apart n m ts a .0 e
-absent-not n ((m, false) ∷ ts) h a e = absent-not n ts h (apart n m ts a .1) e
-
-pub exactly-once : (xs : Tests) (n : ℕ) (t : Bool) (ys : Tests) → eqb n 0 ≡ false → absent n xs ≡ true → absent n ys ≡ true
-    → first (xs ++ ((n, t) ∷ ys)) ≡ n ↔ (Fail xs × (t ≡ true))
-exactly-once xs n t ys z a b = (there xs t a, λ h. ap (λ (u : Bool). first (xs ++ ((n, u) ∷ ys))) (h .1) ∙ found n xs ys (h .0))
-  where
-    there : (xs : Tests) (t : Bool) → absent n xs ≡ true → first (xs ++ ((n, t) ∷ ys)) ≡ n → Fail xs × (t ≡ true)
-    there [] true a e = (tt, refl)
-    there [] false a e = absurd (absent-not n ys (eqb-false n 0 z) b e)
-    there ((m, true) ∷ xs) t a e = absurd (apart n m xs a .0 e)
-    there ((m, false) ∷ xs) t a e = let p = there xs t (apart n m xs a .1) e in ((refl, p .0), p .1)
+pub first-wins : (ts : Tests) → numbered ts ≡ true → Exact ts
+first-wins ts h = record { done = exactly-0 ts h; when = λ n k. exactly n ts k }
 
 -- ---- tests after tests
 pub first-append : (xs ys : Tests) → numbered xs ≡ true → first (xs ++ ys) ≡ cond (eqb (first xs) 0) (first ys) (first xs)

@@ -1,15 +1,14 @@
 -- THE LOWEST NUMBER WINS, where the numbers rise. Assumes nothing.
 use mathlib.Core.Path.{_≡_, refl}
-use mathlib.Core.Bool.{Bool, true, false, not, _&&_}
+use mathlib.Core.Bool.{Bool, true, false, _&&_}
 use mathlib.Core.List.{[], _∷_}
-use mathlib.Core.Logic.{_↔_}
 use Prim.Native.Nat.{ℕ, _≤_, _<_}
 use native.Mathlib.Omega.{arith}
-use lib.Dec.{eqb, ltb}
+use lib.Dec.{ltb}
 use borrow.Author.Tests.{ltb-true, ne-eqb}
 use Rattle.whole.proofs.Tests.{and-true}
 use Rattle.refusals.specs.First.{Tests, first, numbered, rising}
-use Rattle.refusals.proofs.First.{Fail, Split, exactly, exactly-0}
+use Rattle.refusals.proofs.First.{Exact, first-wins}
 
 -- the number k is in the list, and its test holds
 pub data Applies (k : ℕ) : Tests → Type 0 where
@@ -45,16 +44,14 @@ first-least m ((n, false) ∷ ts) r (later a) = first-least n ts (rises m n ts r
 
 -- what 01 says of an operation's numbers where they rise: exactly when each is answered, and that the lowest that applies wins
 pub record Lowest (ts : Tests) : Type 0 where
-  pub done : first ts ≡ 0 ↔ Fail ts
-  pub when : (n : ℕ) → (n ≡ 0 → ⊥) → first ts ≡ n ↔ Split n ts
+  pub exact : Exact ts
   pub applies : (first ts ≡ 0 → ⊥) → Applies (first ts) ts
   pub least : {k : ℕ} → Applies k ts → first ts ≤ k
 
 pub lowest-wins : (ts : Tests) → rising 0 ts ≡ true → Lowest ts
 lowest-wins ts r =
     record {
-      done = exactly-0 ts (rising-numbered 0 ts r);
-      when = λ n h. exactly n ts h;
+      exact = first-wins ts (rising-numbered 0 ts r);
       applies = first-applies ts;
       least = λ a. first-least 0 ts r a;
     }

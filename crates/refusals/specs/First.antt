@@ -24,8 +24,3 @@ numbered (t ∷ ts) = not (eqb (t .0) 0) && numbered ts
 abbrev pub rising : ℕ → Tests → Bool
 rising m [] = true
 rising m (t ∷ ts) = ltb m (t .0) && rising (t .0) ts
-
--- no test has the number n
-abbrev pub absent : ℕ → Tests → Bool
-absent n [] = true
-absent n (t ∷ ts) = not (eqb (t .0) n) && absent n ts

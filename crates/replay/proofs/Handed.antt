@@ -16,6 +16,7 @@ use Rattle.streams.specs.Run.{Ended}
 use Rattle.streams.specs.Handed.{handedAll, cameAll}
 use Rattle.streams.proofs.Answers.{seen, Room, room-before, one-more}
 use Rattle.streams.proofs.Handed.{ahead, lastLine, last-or-none, Follows, cut-short, all-handled}
+use Rattle.session.specs.Files.{Buffers}
 use Rattle.session.specs.Lines.{Left, Session, answer, answered, room}
 use Rattle.replay.specs.Session.{told, output, Work, bytes, first, afterLines, afterLast}
 use Rattle.replay.proofs.Parts.{told-enough}
@@ -56,27 +57,27 @@ said-behind before l (line ∷ ls) =
     ∙ append-assoc before (answer line l .0) (each told ([], answer line l .1) ls .0)
     ∙ ap (λ (t : List ℕ). before ++ t) (sym (said-behind (answer line l .0) (answer line l .1) ls))
 
-module _ (out memory : List ℕ) (r : State) (input left : List ℕ) (e : Ended bytes afterLines afterLast (first out memory) r input left) where
-  all-said : r .more ≡ false → r .unread ≡ false → handedAll e ≡ output memory (cameAll e)
+module _ (out : List ℕ) (m : Buffers) (r : State) (input left : List ℕ) (e : Ended bytes afterLines afterLast (first out m) r input left) where
+  all-said : r .more ≡ false → r .unread ≡ false → handedAll e ≡ output m (cameAll e)
   all-said no-more no-failure =
       sym (append-nil (handedAll e))
-      ∙ sym (ap (λ (o : List ℕ × Left). o .0) (all-handled bytes afterLines afterLast (first out memory) told work (follows (first out memory)) r input left e no-more no-failure))
+      ∙ sym (ap (λ (o : List ℕ × Left). o .0) (all-handled bytes afterLines afterLast (first out m) told work (follows (first out m)) r input left e no-more no-failure))
 
-  some-said : (not (r .more) && not (r .unread)) ≡ false → (more : List ℕ) → take (length (handedAll e)) (output memory (cameAll e ++ more)) ≡ handedAll e
+  some-said : (not (r .more) && not (r .unread)) ≡ false → (more : List ℕ) → take (length (handedAll e)) (output m (cameAll e ++ more)) ≡ handedAll e
   some-said early more =
       let line : List ℕ = ahead input (e .st) ++ more in
       let l : Left = afterLast input (e .st) (e .left) .1 .1 in
       ap (take (length (handedAll e)))
-      (ap (λ (o : List ℕ × Left). o .0) (cut-short bytes afterLines afterLast (first out memory) told work (follows (first out memory)) r input left e early more)
+      (ap (λ (o : List ℕ × Left). o .0) (cut-short bytes afterLines afterLast (first out m) told work (follows (first out m)) r input left e early more)
       ∙ ap (λ (s : List ℕ). over told (s, l) line .0) (append-nil (handedAll e))
       ∙ said-behind (handedAll e) l (parted line))
       ∙ take-at (handedAll e) (over told ([], l) line .0) (length (handedAll e)) refl
 
--- `run` is lent the input, the memory and the output
+-- `run` is lent the input, the two buffers and the output
 module _ (κs : _) (args : _) (r : _) (s : _) (e : run.Post κs args r s) where
-  pub hands-over-the-answers : r .more ≡ false → r .unread ≡ false → handedAll e ≡ output (now (args .1 .0)) (cameAll e)
-  hands-over-the-answers = all-said (now (args .1 .1 .0)) (now (args .1 .0)) r _ _ e
+  pub hands-over-the-answers : r .more ≡ false → r .unread ≡ false → handedAll e ≡ output (now (args .1 .0), now (args .1 .1 .0)) (cameAll e)
+  hands-over-the-answers = all-said (now (args .1 .1 .1 .0)) (now (args .1 .0), now (args .1 .1 .0)) r _ _ e
 
   pub hands-over-no-other : (not (r .more) && not (r .unread)) ≡ false → (more : List ℕ)
-      → take (length (handedAll e)) (output (now (args .1 .0)) (cameAll e ++ more)) ≡ handedAll e
-  hands-over-no-other = some-said (now (args .1 .1 .0)) (now (args .1 .0)) r _ _ e
+      → take (length (handedAll e)) (output (now (args .1 .0), now (args .1 .1 .0)) (cameAll e ++ more)) ≡ handedAll e
+  hands-over-no-other = some-said (now (args .1 .1 .1 .0)) (now (args .1 .0), now (args .1 .1 .0)) r _ _ e

@@ -10,6 +10,7 @@ use lib.Seq.{take-all}
 use borrow.Author.Tests.{leb-true, leb-false}
 use Rattle.text.specs.Lines.{whole, streamed}
 use Rattle.text.proofs.Streaming.{streamed-is}
+use Rattle.session.specs.Files.{Buffers}
 use Rattle.session.specs.Lines.{Left, answer}
 use Rattle.session.specs.Screen.{start}
 use Rattle.session.proofs.Answers.{answer-long}
@@ -28,5 +29,5 @@ enough said l = by (leb (length said) 128) refl
 pub told-enough : (o : List ℕ × Left) (said : List ℕ) → told o said ≡ told o (take 129 said)
 told-enough o said = ap {B = List ℕ × Left} (λ (a : List ℕ × Left). (o .0 ++ a .0, a .1)) (enough said (o .1))
 
-pub any-parts : (memory : List ℕ) (parts : List (List ℕ)) → streamed told 129 ([], (start, memory)) [] parts .0 ≡ output memory (whole parts)
-any-parts memory parts = ap (λ (o : List ℕ × Left). o .0) (streamed-is told 128 told-enough ([], (start, memory)) [] parts)
+pub any-parts : (m : Buffers) (parts : List (List ℕ)) → streamed told 129 ([], (start, m)) [] parts .0 ≡ output m (whole parts)
+any-parts m parts = ap (λ (o : List ℕ × Left). o .0) (streamed-is told 128 told-enough ([], (start, m)) [] parts)

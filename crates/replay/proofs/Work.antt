@@ -10,19 +10,20 @@ use Rattle.streams.specs.State.{Within, Standing, started}
 use Rattle.streams.proofs.Refilling.{there-is}
 use Rattle.streams.proofs.Turns.{Kept, Going, going-first}
 use Rattle.session.specs.declared.screen.Screen.{Screen}
+use Rattle.session.specs.Files.{Buffers}
 use Rattle.session.specs.Lines.{Session, answered, room}
 use Rattle.session.specs.Screen.{start}
 use Rattle.session.proofs.Lent.{lines-lent}
 use Rattle.replay.specs.Session.{Work, bytes, Sound, first, afterLines}
 
 -- the program came turn by turn to where it stands
-abbrev pub Runs : List ℕ → List ℕ → State → List ℕ → Work → Type 0
-Runs out memory st input o = Going bytes Sound afterLines (first out memory) st input o
+abbrev pub Runs : List ℕ → Buffers → State → List ℕ → Work → Type 0
+Runs out buffers st input o = Going bytes Sound afterLines (first out buffers) st input o
 
-pub begins : (input memory out : List ℕ) (st : State) (s : Screen) → st ≡ started → s ≡ start
-    → length input ≡ 65536 → length memory ≡ 65536 → length out ≡ 65536 → Runs out memory st input (out, (s, memory))
-begins input memory out st s e q i m o =
-    subst (λ (x : Screen). Runs out memory st input (out, (x, memory))) (sym q) (going-first bytes Sound afterLines (first out memory) st input e i o (omega arith, m))
+pub begins : (input out : List ℕ) (m : Buffers) (st : State) (s : Screen) → st ≡ started → s ≡ start
+    → length input ≡ 65536 → length (m .0) ≡ 65536 → length (m .1) ≡ 65536 → length out ≡ 65536 → Runs out m st input (out, (s, m))
+begins input out m st s e q i memory file o =
+    subst (λ (x : Screen). Runs out m st input (out, (x, m))) (sym q) (going-first bytes Sound afterLines (first out m) st input e i o (omega arith, memory, file))
 
 module _ (input : List ℕ) (st : State) (o : Work) (s : Standing st input (o .0)) (h : Sound o) where
   lines-within : Within (afterLines input st o .0)
@@ -38,13 +39,13 @@ module _ (input : List ℕ) (st : State) (o : Work) (s : Standing st input (o .0
   lines-sound : afterLines input st o .1 .1 .0 .lent ≤ 65536
   lines-sound = lines-lent (take (st .end) input) (length (take (st .end) input)) (st .next) ((st .at, o .0), o .1) (h .0)
 
-  pub lines-keep : (p : State × Work) → p ≡ afterLines input st o → p .0 .at ≤ 65536 → length (p .1 .0) ≡ length (o .0) → length (p .1 .1 .1) ≡ length (o .1 .1)
-      → Kept bytes Sound st p
-  lines-keep p e few b m =
+  pub lines-keep : (p : State × Work) → p ≡ afterLines input st o → p .0 .at ≤ 65536 → length (p .1 .0) ≡ length (o .0)
+      → length (p .1 .1 .1 .0) ≡ length (o .1 .1 .0) → length (p .1 .1 .1 .1) ≡ length (o .1 .1 .1) → Kept bytes Sound st p
+  lines-keep p e few b m f =
       record {
         within = subst (λ (x : State × Work). Within (x .0)) (sym e) lines-within;
         filled = omega (arith, b, s .out-size);
         size = b ∙ s .out-size;
         turns = ap (λ (x : State × Work). x .0 .turns) e;
-        sound = (subst (λ (x : State × Work). x .1 .1 .0 .lent ≤ 65536) (sym e) lines-sound, m ∙ h .1);
+        sound = (subst (λ (x : State × Work). x .1 .1 .0 .lent ≤ 65536) (sym e) lines-sound, m ∙ h .1, f ∙ h .2);
       }

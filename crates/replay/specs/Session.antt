@@ -9,13 +9,14 @@ use Rattle.streams.specs.declared.State.{State}
 use Rattle.streams.specs.State.{standsAt, lastIs}
 use Rattle.session.specs.Lines.{Left, Session, answer, answered, afterAll}
 use Rattle.session.specs.Screen.{start}
+use Rattle.session.specs.Files.{Buffers}
 
 -- the answers to the lines, from the first screen on
 abbrev pub told : List ℕ × Left → List ℕ → List ℕ × Left
 told o said = (o .0 ++ answer said (o .1) .0, answer said (o .1) .1)
 
-abbrev pub output : List ℕ → List ℕ → List ℕ
-output memory input = over told ([], (start, memory)) input .0
+abbrev pub output : Buffers → List ℕ → List ℕ
+output buffers input = over told ([], (start, buffers)) input .0
 
 -- ---- what it works on: the output's bytes, and what the lines left
 abbrev pub Work : Type 0
@@ -24,12 +25,12 @@ Work = List ℕ × Left
 abbrev pub bytes : Work → List ℕ
 bytes o = o .0
 
-abbrev pub first : List ℕ → List ℕ → Work
-first out memory = (out, (start, memory))
+abbrev pub first : List ℕ → Buffers → Work
+first out buffers = (out, (start, buffers))
 
--- no more is lent than the buffer has
+-- no more is lent than the frame's buffer has
 abbrev pub Sound : Work → Type 0
-Sound o = (o .1 .0 .lent ≤ 65536) × (length (o .1 .1) ≡ 65536)
+Sound o = (o .1 .0 .lent ≤ 65536) × (length (o .1 .1 .0) ≡ 65536) × (length (o .1 .1 .1) ≡ 65536)
 
 -- after the lines that LF ends and that there was room for
 abbrev pub afterLines : List ℕ → State → Work → State × Work

@@ -19,16 +19,17 @@ pub struct Reached {
 fn answer_some(
     input: &[u8],
     memory: &mut [u8],
+    file: &mut [u8],
     out: &mut [u8],
     st: State,
     screen: Screen,
 ) -> Reached
-    requires { ⌜ Standing st (now input) (now out) × Sound (now out, (screen, now memory)) ⌝ }
-    ensures { λ r. ⌜ ((r .st, (now (out .exit), (r .screen, now (memory .exit)))) ≡ afterLines (now (input .entry)) st (now (out .entry), (screen, now (memory .entry))))
-        × (r .st .at ≤ 65536) ⌝ }
+    requires { ⌜ Standing st (now input) (now out) × Sound (now out, (screen, (now memory, now file))) ⌝ }
+    ensures { λ r. ⌜ ((r .st, (now (out .exit), (r .screen, (now (memory .exit), now (file .exit)))))
+        ≡ afterLines (now (input .entry)) st (now (out .entry), (screen, (now (memory .entry), now (file .entry))))) × (r .st .at ≤ 65536) ⌝ }
 {
     let end = st.end;
-    let done = session::answer_lines(&input[..end], st.next, memory, screen, out, st.at);
+    let done = session::answer_lines(&input[..end], st.next, memory, file, screen, out, st.at);
     let left = done.screen;
     Reached {
         st: streams::stands_at(st, done.next, done.at),
@@ -37,17 +38,24 @@ fn answer_some(
 }
 
 // Answers a last line that lacks its LF.
-fn last_line(input: &[u8], memory: &mut [u8], out: &mut [u8], st: State, screen: Screen) -> Reached
-    requires { ⌜ Standing st (now input) (now out) × Sound (now out, (screen, now memory)) ⌝ }
-    ensures { λ r. ⌜ ((r .st, (now (out .exit), (r .screen, now (memory .exit)))) ≡ afterLast (now (input .entry)) st (now (out .entry), (screen, now (memory .entry))))
-        × (r .st .at ≤ 65536) ⌝ }
+fn last_line(
+    input: &[u8],
+    memory: &mut [u8],
+    file: &mut [u8],
+    out: &mut [u8],
+    st: State,
+    screen: Screen,
+) -> Reached
+    requires { ⌜ Standing st (now input) (now out) × Sound (now out, (screen, (now memory, now file))) ⌝ }
+    ensures { λ r. ⌜ ((r .st, (now (out .exit), (r .screen, (now (memory .exit), now (file .exit)))))
+        ≡ afterLast (now (input .entry)) st (now (out .entry), (screen, (now (memory .entry), now (file .entry))))) × (r .st .at ≤ 65536) ⌝ }
 {
     if !streams::has_last(st) {
         return Reached { st, screen };
     }
     let next = st.next;
     let end = st.end;
-    let last = session::answer_line(&input[next..end], memory, screen, out, st.at);
+    let last = session::answer_line(&input[next..end], memory, file, screen, out, st.at);
     let left = last.screen;
     Reached {
         st: streams::stands_at(st, end, last.at),
@@ -56,26 +64,27 @@ fn last_line(input: &[u8], memory: &mut [u8], out: &mut [u8], st: State, screen:
 }
 
 // Turn after turn, until the input ends.
-fn run(input: &mut [u8], memory: &mut [u8], out: &mut [u8]) -> State
-    requires { ⌜ (length (now input) ≡ 65536) × (length (now memory) ≡ 65536) × (length (now out) ≡ 65536) ⌝ }
-    ensures { λ r. ⌜ Ended bytes afterLines afterLast (first (now (out .entry)) (now (memory .entry))) r (now (input .exit)) (now (out .exit)) ⌝ }
+fn run(input: &mut [u8], memory: &mut [u8], file: &mut [u8], out: &mut [u8]) -> State
+    requires { ⌜ (length (now input) ≡ 65536) × (length (now memory) ≡ 65536) × (length (now file) ≡ 65536) × (length (now out) ≡ 65536) ⌝ }
+    ensures { λ r. ⌜ Ended bytes afterLines afterLast (first (now (out .entry)) (now (memory .entry), now (file .entry))) r (now (input .exit)) (now (out .exit)) ⌝ }
 {
     let mut st = streams::start();
     let mut screen = session::first_screen();
     while streams::goes_on(st) {
-        let reached = answer_some(input, memory, out, st, screen);
+        let reached = answer_some(input, memory, file, out, st, screen);
         screen = reached.screen;
         st = streams::flush(out, reached.st);
         st = streams::refill(input, st);
     }
-    let reached = last_line(input, memory, out, st, screen);
+    let reached = last_line(input, memory, file, out, st, screen);
     streams::empty(out, reached.st)
 }
 
 fn main() {
     let mut input = [0u8; 65536];
     let mut memory = [0u8; 65536];
+    let mut file = [0u8; 65536];
     let mut out = [0u8; 65536];
-    let st = run(&mut input, &mut memory, &mut out);
+    let st = run(&mut input, &mut memory, &mut file, &mut out);
     streams::complain(st);
 }

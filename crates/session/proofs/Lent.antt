@@ -16,6 +16,7 @@ use Rattle.protocol.proofs.Letters.{meant-each}
 use Rattle.session.specs.declared.screen.Screen.{Screen}
 use Rattle.session.specs.Lines.{Left, Session, wordOf, shownTable, lineAnswer, answer, answered, room}
 use Rattle.session.specs.Screen.{after, framed, frameTurn, nextScreen, turnTable, response}
+use Rattle.session.specs.Files.{Buffers, fileTable, act}
 
 screen-lent : (said : List ℕ) (at : ℕ) → nextScreen said at .ok ≡ true → nextScreen said at .screen .lent ≤ 65536
 unfolding nextScreen ofOne ofTwo
@@ -34,13 +35,16 @@ frame-lent said at s m h = by (nextScreen said at .ok) refl
     by false e = h
 
 response-lent : (word said : List ℕ) (at : ℕ) (s : Screen) (m : List ℕ) → s .lent ≤ 65536 → response word said at s m .0 .screen .lent ≤ 65536
-response-lent word said at s m h = meant-each (λ t. t .0 .screen .lent ≤ 65536) word (turnTable said at s m) _ (frame-lent said at s m h, (h, (h, tt))) h
+response-lent word said at s m h = meant-each (λ t. t .0 .screen .lent ≤ 65536) word (turnTable said at s m) _ (frame-lent said at s m h, (h, (h, (h, tt)))) h
+
+act-lent : (word said : List ℕ) (at : ℕ) (s : Screen) (m : Buffers) → s .lent ≤ 65536 → act word said at s m .0 .screen .lent ≤ 65536
+act-lent word said at s m h = meant-each (λ t. t .0 .screen .lent ≤ 65536) word (fileTable said at s m) _ (h, (h, tt)) (response-lent word said at s (m .0) h)
 
 pub answer-lent : (said : List ℕ) (l : Left) → l .0 .lent ≤ 65536 → answer said l .1 .0 .lent ≤ 65536
 unfolding answer
 answer-lent said l h =
     by (leb (length said) 128)
-    (meant-each (λ a. a .1 .0 .lent ≤ 65536) (wordOf said) (shownTable said (until 9 said + 1) l) _ (h, tt) (response-lent (wordOf said) said (until 9 said + 1) (l .0) (l .1) h))
+    (meant-each (λ a. a .1 .0 .lent ≤ 65536) (wordOf said) (shownTable said (until 9 said + 1) l) _ (h, (h, tt)) (act-lent (wordOf said) said (until 9 said + 1) (l .0) (l .1) h))
   where
     by : (t : Bool) → lineAnswer (wordOf said) said (until 9 said + 1) l .1 .0 .lent ≤ 65536
         → cond t (lineAnswer (wordOf said) said (until 9 said + 1) l) (badLine, l) .1 .0 .lent ≤ 65536

@@ -19,6 +19,7 @@ use Rattle.session.specs.declared.screen.Described.{Described}
 use Rattle.session.specs.declared.screen.Screen.{Screen}
 use Rattle.session.specs.declared.screen.Turn.{Turn}
 use Rattle.session.specs.Screen.{turn, screenOf, sizeSaid, readSaid, bufferTurn, lentTurn}
+use Rattle.session.specs.Files.{Buffers, imageSaid, fileTurn, screenTurn}
 
 -- ---- a description, and the test of its order before that of the rest
 pub is-described : {b t : Bool} {f g : Frame} (lent : ℕ) → b ≡ t → f ≡ g
@@ -38,6 +39,9 @@ pub ruleset descriptions = (readings, is-described, test-fails, test-passes)
 pub read-said : {a found : Read} → a ≡ found → One (a .number) (Natural (a .colour)) ≡ readSaid found
 read-said e = ap readSaid e
 
+pub length-said : {a found : Size} → a ≡ found → One (a .number) (Natural (a .bytes)) ≡ sizeSaid found
+length-said e = ap sizeSaid e
+
 pub size-said : (s : Screen) {a found : Size} {m left : List ℕ} → a ≡ found → m ≡ left
     → _≡_ {A = Turn × List ℕ} (turn s (One (a .number) (Natural (a .bytes))), m) (turn s (sizeSaid found), left)
 size-said s e h = ap₂ {C = Turn × List ℕ} (λ x l. (turn s (sizeSaid x), l)) e h
@@ -45,8 +49,8 @@ size-said s e h = ap₂ {C = Turn × List ℕ} (λ x l. (turn s (sizeSaid x), l)
 pub bytes-left : (r : Reply) {m left : List ℕ} → m ≡ left → _≡_ {A = Reply × List ℕ} (r, m) (r, left)
 bytes-left r e = ap {B = Reply × List ℕ} (λ l. (r, l)) e
 
--- what answers the needs of `frame`, `preset` and `read`
-pub ruleset turns = (readings, read-said, size-said, bytes-left)
+-- what answers the needs of `frame`, `preset`, `read` and `imagesize`
+pub ruleset turns = (readings, read-said, length-said, size-said, bytes-left)
 
 -- ---- what a call on the buffer, on its lent part, and a question leave
 pub turn-buffer : (s : Screen) {r : Reply} {left : List ℕ} {c : Reply × List ℕ} → _≡_ {A = Reply × List ℕ} (r, left) c → _≡_ {A = Turn × List ℕ} (turn s r, left) (bufferTurn s c)
@@ -65,3 +69,20 @@ lent-count n l h = sym (length-take-le n l h)
 
 -- what answers the needs of the choice between them
 pub ruleset turn-words = (choices, turn-buffer, turn-lent, turn-said, lent-count)
+
+-- ---- the file: what writing an image into its first bytes leaves, and what a turn on it and one on the screen leave
+pub image-said : (file : List ℕ) (room : ℕ) {a : Size} {left : List ℕ} {w : Size × List ℕ} → _≡_ {A = Size × List ℕ} (a, left) w
+    → _≡_ {A = Reply × List ℕ} (One (a .number) (Natural (a .bytes)), left ++ drop room file) (imageSaid file room w)
+image-said file room e = ap (imageSaid file room) e
+
+pub ruleset images = (readings, image-said, lent-count)
+
+pub turn-file : (s : Screen) (m : List ℕ) {r : Reply} {left : List ℕ} {c : Reply × List ℕ} → _≡_ {A = Reply × List ℕ} (r, left) c
+    → _≡_ {A = Turn × Buffers} (turn s r, (m, left)) (fileTurn s m c)
+turn-file s m e = ap (fileTurn s m) e
+
+pub turn-screen : (file : List ℕ) {t : Turn} {left : List ℕ} {c : Turn × List ℕ} → _≡_ {A = Turn × List ℕ} (t, left) c
+    → _≡_ {A = Turn × Buffers} (t, (left, file)) (screenTurn file c)
+turn-screen file e = ap (screenTurn file) e
+
+pub ruleset file-words = (choices, turn-file, turn-screen, lent-count)

@@ -1,3 +1,4 @@
 pub mod Words
 pub mod Screen
+pub mod Files
 pub mod Lines

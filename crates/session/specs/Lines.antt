@@ -11,27 +11,27 @@ use Rattle.session.specs.declared.screen.Screen.{Screen}
 use Rattle.session.specs.declared.screen.Turn.{Turn}
 use Rattle.protocol.specs.Dump.{dumpLine}
 use Rattle.protocol.specs.Reply.{badLine, replyLine}
-use Rattle.session.specs.Screen.{response}
+use Rattle.session.specs.Files.{Buffers, act}
 use Rattle.protocol.specs.Words.{meant}
-use Rattle.session.specs.Words.{dumpWord}
+use Rattle.session.specs.Words.{dumpWord, fileWord}
 
--- what a line leaves: the screen, and the buffer's bytes
+-- what a line leaves: the screen, and the bytes of both buffers
 abbrev pub Left : Type 0
-Left = Screen × List ℕ
+Left = Screen × Buffers
 
 -- the word is the first field
 abbrev pub wordOf : List ℕ → List ℕ
 wordOf said = take (until 9 said) said
 
-abbrev pub turnDone : Turn × List ℕ → List ℕ × Left
+abbrev pub turnDone : Turn × Buffers → List ℕ × Left
 turnDone t = (replyLine (t .0 .reply), (t .0 .screen, t .1))
 
 -- the bytes of the answer, and what the line leaves, by its word: bytes that it shows, or a reply
 abbrev pub shownTable : List ℕ → ℕ → Left → List (List ℕ × (List ℕ × Left))
-shownTable said at l = (dumpWord, (dumpLine said at (l .1), l)) ∷ []
+shownTable said at l = (dumpWord, (dumpLine said at (l .1 .0), l)) ∷ (fileWord, (dumpLine said at (l .1 .1), l)) ∷ []
 
 abbrev pub lineAnswer : List ℕ → List ℕ → ℕ → Left → List ℕ × Left
-lineAnswer word said at l = meant word (shownTable said at l) (turnDone (response word said at (l .0) (l .1)))
+lineAnswer word said at l = meant word (shownTable said at l) (turnDone (act word said at (l .0) (l .1)))
 
 -- the numbers start behind the word's tab; a line of more than 128 bytes is bad however it begins
 unfoldable pub answer : List ℕ → Left → List ℕ × Left

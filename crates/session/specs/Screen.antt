@@ -1,4 +1,4 @@
--- The buffer's bytes, the description of the frame and the lent length: what `frame`, `preset` and `read` answer and leave.
+-- The buffer's bytes, the description of the frame and the lent length: what `frame`, `preset`, `read` and `imagesize` answer and leave.
 use mathlib.Core.Bool.{false, cond, _&&_}
 use mathlib.Core.List.{List, [], _∷_, _++_}
 use Prim.Native.Nat.{ℕ}
@@ -11,6 +11,8 @@ use Rattle.framebuffer.specs.declared.Read.{Read}
 use Rattle.framebuffer.specs.declared.Size.{Size}
 use Rattle.framebuffer.specs.Answer.{sized, read}
 use Rattle.framebuffer.specs.Description.{described, size, descriptionTests, readTests, colourAt}
+use Rattle.netpbm.specs.Image.{imageLength}
+use Rattle.netpbm.specs.Written.{imageSizeTests}
 use Rattle.text.specs.declared.NextU32.{NextU32}
 use Rattle.text.specs.Fields.{nextU32}
 use Rattle.protocol.specs.declared.reply.Reply.{Reply}
@@ -23,7 +25,7 @@ use Rattle.session.specs.declared.screen.Described.{Described}
 use Rattle.session.specs.declared.screen.Screen.{Screen}
 use Rattle.session.specs.declared.screen.Turn.{Turn}
 use Rattle.calls.specs.Draw.{drawCall}
-use Rattle.session.specs.Words.{frameWord, presetWord, readWord}
+use Rattle.session.specs.Words.{frameWord, presetWord, readWord, imageSizeWord}
 
 -- every byte the same
 abbrev pub allSet : ℕ → List ℕ → List ℕ
@@ -77,7 +79,12 @@ readSaid a = One (a .number) (Natural (a .colour))
 unfoldable pub readReply : List ℕ → ℕ → Frame → List ℕ → Reply
 readReply said at f b = ofOne (λ p. ifLast said (p .next) (readSaid (read (first (readTests f (length b) (p .point))) (colourAt f (p .point) b)))) (nextPoint said at)
 
--- ---- a line by its word, all but `dump`: a turn on the buffer leaves the screen; the calls are on the lent part, and the bytes behind it stay
+-- ---- `imagesize`: number, how long the frame's image file is
+unfoldable pub imageSizeReply : List ℕ → ℕ → Frame → Reply
+imageSizeReply said at f = ifLast said at (sizeSaid (sized (first (imageSizeTests f)) (imageLength f)))
+
+-- ---- a line by its word, all but those on the file and those that show bytes: a turn on the buffer leaves the screen; the calls are on the lent part, and
+-- the bytes behind it stay
 abbrev pub bufferTurn : Screen → Reply × List ℕ → Turn × List ℕ
 bufferTurn s c = (turn s (c .0), c .1)
 
@@ -89,6 +96,7 @@ turnTable said at s m =
     (frameWord, frameTurn said at s m)
     ∷ (presetWord, bufferTurn s (presetCall said at m))
     ∷ (readWord, (turn s (readReply said at (s .frame) (take (s .lent) m)), m))
+    ∷ (imageSizeWord, (turn s (imageSizeReply said at (s .frame)), m))
     ∷ []
 
 abbrev pub response : List ℕ → List ℕ → ℕ → Screen → List ℕ → Turn × List ℕ

@@ -1,4 +1,4 @@
--- The words of the lines on the buffer and its frame.
+-- The words of the lines on the buffers and the frame.
 use mathlib.Core.List.{List, [], _∷_}
 use Prim.Native.Nat.{ℕ}
 
@@ -17,3 +17,19 @@ readWord = 114 ∷ 101 ∷ 97 ∷ 100 ∷ []
 -- `dump`
 abbrev pub dumpWord : List ℕ
 dumpWord = 100 ∷ 117 ∷ 109 ∷ 112 ∷ []
+
+-- `imagesize`
+abbrev pub imageSizeWord : List ℕ
+imageSizeWord = 105 ∷ 109 ∷ 97 ∷ 103 ∷ 101 ∷ 115 ∷ 105 ∷ 122 ∷ 101 ∷ []
+
+-- `image`
+abbrev pub imageWord : List ℕ
+imageWord = 105 ∷ 109 ∷ 97 ∷ 103 ∷ 101 ∷ []
+
+-- `file`
+abbrev pub fileWord : List ℕ
+fileWord = 102 ∷ 105 ∷ 108 ∷ 101 ∷ []
+
+-- `wipe`
+abbrev pub wipeWord : List ℕ
+wipeWord = 119 ∷ 105 ∷ 112 ∷ 101 ∷ []

@@ -1,4 +1,5 @@
-// The buffer and the frame's description, the lines on them, and answering a line: any that is none of these may be a call or a question.
+// The two buffers and the frame's description, the lines on them, and answering a line: any that is none of these may be a call or a question.
+mod files;
 mod lines;
 mod screen;
 

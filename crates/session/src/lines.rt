@@ -3,8 +3,8 @@ ghost use mathlib.Core.Path.{_≡_};
 ghost use Prim.Native.Nat.{_+_, _≤_};
 ghost use lib.ListN.{length};
 ghost use Rattle.session.specs.Lines.{answered, afterAll};
+use crate::files::take_turn;
 use crate::screen::Screen;
-use crate::screen::respond;
 use protocol::dump;
 use protocol::place_in;
 use protocol::write_bad;
@@ -27,13 +27,14 @@ pub struct Progress {
 pub fn answer_line(
     said: &[u8],
     memory: &mut [u8],
+    file: &mut [u8],
     screen: Screen,
     out: &mut [u8],
     at: usize,
 ) -> Answered
-    requires { ⌜ (screen .lent ≤ length (now memory)) × (at + 8193 ≤ length (now out)) ⌝ }
-    ensures { λ r. ⌜ (((r .at, now (out .exit)), (r .screen, now (memory .exit))) ≡ answered ((at, now (out .entry)), (screen, now (memory .entry))) (now (said .entry)))
-        × (r .at ≤ at + 8193) ⌝ }
+    requires { ⌜ (screen .lent ≤ length (now memory)) × (length (now file) ≡ 65536) × (at + 8193 ≤ length (now out)) ⌝ }
+    ensures { λ r. ⌜ (((r .at, now (out .exit)), (r .screen, (now (memory .exit), now (file .exit))))
+        ≡ answered ((at, now (out .entry)), (screen, (now (memory .entry), now (file .entry)))) (now (said .entry))) × (r .at ≤ at + 8193) ⌝ }
 {
     if said.len() > 128 {
         let filled = write_bad(out, at);
@@ -41,13 +42,17 @@ pub fn answer_line(
     }
     let end = text::find(said, b'\t');
     let word = &said[..end];
-    match place_in(b"dump", word) {
+    match place_in(b"dump\tfile", word) {
         0 => {
             let filled = dump(said, end + 1, memory, out, at);
             Answered { screen, at: filled }
         }
+        1 => {
+            let filled = dump(said, end + 1, file, out, at);
+            Answered { screen, at: filled }
+        }
         _ => {
-            let turn = respond(word, said, end + 1, memory, screen);
+            let turn = take_turn(word, said, end + 1, memory, file, screen);
             let after = turn.screen;
             let reply = turn.reply;
             let filled = write_reply(out, at, reply);
@@ -64,13 +69,14 @@ pub fn answer_lines(
     input: &[u8],
     from: usize,
     memory: &mut [u8],
+    file: &mut [u8],
     screen: Screen,
     out: &mut [u8],
     at: usize,
 ) -> Progress
-    requires { ⌜ (from ≤ length (now input)) × (screen .lent ≤ 65536) × (length (now memory) ≡ 65536) × (at ≤ length (now out)) ⌝ }
-    ensures { λ r. ⌜ ((r .next, ((r .at, now (out .exit)), (r .screen, now (memory .exit))))
-        ≡ afterAll (now (input .entry)) from ((at, now (out .entry)), (screen, now (memory .entry)))) × (r .at ≤ length (now (out .entry))) ⌝ }
+    requires { ⌜ (from ≤ length (now input)) × (screen .lent ≤ 65536) × (length (now memory) ≡ 65536) × (length (now file) ≡ 65536) × (at ≤ length (now out)) ⌝ }
+    ensures { λ r. ⌜ ((r .next, ((r .at, now (out .exit)), (r .screen, (now (memory .exit), now (file .exit)))))
+        ≡ afterAll (now (input .entry)) from ((at, now (out .entry)), (screen, (now (memory .entry), now (file .entry))))) × (r .at ≤ length (now (out .entry))) ⌝ }
 {
     let mut next = from;
     let mut filled = at;
@@ -91,7 +97,7 @@ pub fn answer_lines(
                 at: filled,
             };
         }
-        let done = answer_line(&input[next..end], memory, current, out, filled);
+        let done = answer_line(&input[next..end], memory, file, current, out, filled);
         filled = done.at;
         current = done.screen;
         next = end + 1;

@@ -2,7 +2,7 @@
 ghost use mathlib.Core.Path.{_≡_};
 ghost use Prim.Native.Nat.{_≤_};
 ghost use lib.ListN.{length};
-ghost use Rattle.session.specs.Screen.{start, nextScreen, frameTurn, presetCall, readReply, response};
+ghost use Rattle.session.specs.Screen.{start, nextScreen, frameTurn, presetCall, readReply, imageSizeReply, response};
 use calls::draw;
 use framebuffer::Frame;
 use protocol::Reply;
@@ -82,7 +82,8 @@ fn frame(said: &[u8], at: usize, memory: &mut [u8], screen: Screen) -> Turn
     }
 }
 
-fn preset(said: &[u8], at: usize, memory: &mut [u8]) -> Reply
+// Inside the library: every byte of a buffer set to the value.
+pub fn preset(said: &[u8], at: usize, memory: &mut [u8]) -> Reply
     ensures { λ r. ⌜ (r, now (memory .exit)) ≡ presetCall (now (said .entry)) at (now (memory .entry)) ⌝ }
 {
     let v = text::next_u32(said, at);
@@ -104,13 +105,24 @@ fn read(said: &[u8], at: usize, buf: &[u8], frame: Frame) -> Reply
     Reply::One(found.number, Value::Natural(found.colour))
 }
 
-// Inside the library: does what the line says that starts with the word, all but `dump`. Calls are made on the lent part of the buffer.
+fn image_size(said: &[u8], at: usize, frame: Frame) -> Reply
+    ensures { λ r. ⌜ r ≡ imageSizeReply (now (said .entry)) at frame ⌝ }
+{
+    if !ends_at(said, at) {
+        return Reply::Bad;
+    }
+    let size = netpbm::image_size(frame);
+    Reply::One(size.number, Value::Natural(size.bytes))
+}
+
+// Inside the library: does what the line says that starts with the word, all but those on the file and those that show bytes. Calls are made on the lent part of
+// the buffer.
 pub fn respond(word: &[u8], said: &[u8], at: usize, memory: &mut [u8], screen: Screen) -> Turn
     requires { ⌜ screen .lent ≤ length (now memory) ⌝ }
     ensures { λ r. ⌜ (r, now (memory .exit)) ≡ response (now (word .entry)) (now (said .entry)) at screen (now (memory .entry)) ⌝ }
 {
     let lent = screen.lent;
-    match place_in(b"frame\tpreset\tread", word) {
+    match place_in(b"frame\tpreset\tread\timagesize", word) {
         0 => frame(said, at, memory, screen),
         1 => {
             let reply = preset(said, at, memory);
@@ -118,6 +130,10 @@ pub fn respond(word: &[u8], said: &[u8], at: usize, memory: &mut [u8], screen: S
         }
         2 => {
             let reply = read(said, at, &memory[..lent], screen.frame);
+            Turn { screen, reply }
+        }
+        3 => {
+            let reply = image_size(said, at, screen.frame);
             Turn { screen, reply }
         }
         _ => {

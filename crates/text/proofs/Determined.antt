@@ -13,6 +13,7 @@ use Rattle.text.proofs.fields.next_i32.Reads as next-i32
 use Rattle.text.proofs.fields.no_vertices.Reads as no-vertices
 use Rattle.text.proofs.fields.read_place.Reads as read-place
 use Rattle.text.proofs.fields.read_vertices.Reads as read-vertices
+use Rattle.text.proofs.write.digit_count.Reads as digit-count
 use Rattle.text.proofs.write.has_room.Reads as has-room
 use Rattle.text.proofs.write.write_u32.Reads as write-u32
 use Rattle.text.proofs.write.write_i32.Reads as write-i32
@@ -65,6 +66,9 @@ read-vertices-one κs args r q s t = same
 
 pub bad-field-one : One bad-field.Post
 bad-field-one κs args r q s t h k = same (h .0) (k .0)
+
+pub digit-count-one : One digit-count.Post
+digit-count-one κs args r q s t = same
 
 pub has-room-one : One has-room.Post
 has-room-one κs args r q s t = same

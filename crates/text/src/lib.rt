@@ -18,6 +18,7 @@ pub use read::read_digits;
 pub use read::read_i32;
 pub use read::read_signed;
 pub use read::read_u32;
+pub use write::digit_count;
 pub use write::has_room;
 pub use write::write_bad;
 pub use write::write_bytes;

@@ -18,8 +18,8 @@ pub fn has_room(length: usize, at: usize, most: usize) -> bool
     at <= length - most
 }
 
-// How many digits the text of `v` has.
-fn digit_count(v: u64) -> usize
+// Inside the library: how many digits the text of `v` has.
+pub fn digit_count(v: u64) -> usize
     ensures { λ r. ⌜ r ≡ length (shown v) ⌝ }
 {
     let mut rest = v;

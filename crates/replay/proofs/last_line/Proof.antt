@@ -16,8 +16,8 @@ has-last-requires c κs = search needs
 
 returns : tie.Need-returns
 returns c =
-    let none : lastIs (c .before .before .before .before .before .args .st) ≡ false = sym (c .before .has-last .ensures) ∙ not-true _ (c .if1 .taken) in
-    (rw none, omega (arith, c .before .before .before .before .before .pre .0 .filled))
+    let none : lastIs (c .before .before .before .before .before .before .args .st) ≡ false = sym (c .before .has-last .ensures) ∙ not-true _ (c .if1 .taken) in
+    (rw none, omega (arith, c .before .before .before .before .before .before .pre .0 .filled))
 
 sub-answer-line : tie.Need-sub-answer-line
 sub-answer-line c = search needs
@@ -40,17 +40,20 @@ same-length c = search needs
 same-length-2 : tie.Need-same-length-2
 same-length-2 c = search needs
 
+same-length-3 : tie.Need-same-length-3
+same-length-3 c = search needs
+
 returns-2 : tie.Need-returns-2
 returns-2 c =
-    let s = c .before .before .before .before .before .before .before .before .before .before .before .before .before .before .before in
+    let w = c .before .before .before .before .before .before .before .before .answer-line in
+    let there = c .before .before .before .before .before .before .before .before .before .before .before .before .before in
+    let asked = there .before in
+    let s = asked .before .before .before .before .before in
     let st = s .args .st in
-    let some : lastIs st ≡ true =
-    sym (c .before .before .before .before .before .before .before .before .before .before .before .has-last .ensures)
-    ∙ not-false _ (c .before .before .before .before .before .before .before .before .before .before .if1 .left) in
-    let w = c .before .before .before .before .before .before .answer-line in
+    let some : lastIs st ≡ true = sym (asked .has-last .ensures) ∙ not-false _ (there .if1 .left) in
     let e = c .stands-at .ensures in (
       rw some
-          (ap {B = State × Work} (λ (q : State). (q, (w .last .1 .1 .1 .0, (w .result .screen, w .last .1 .0)))) e
+          (ap {B = State × Work} (λ (q : State). (q, (w .last .1 .1 .1 .1 .0, (w .result .screen, (w .last .1 .0, w .last .1 .1 .0))))) e
           ∙ ap {B = State × Work} (λ (h : Session). (standsAt st (st .end) (h .0 .0), (h .0 .1, h .1))) (w .ensures .0)),
       omega (arith, ap (λ (q : State). q .at) e, w .ensures .1, s .pre .0 .filled),
     )
@@ -68,4 +71,5 @@ last-line-spec =
     stands-at-requires
     same-length
     same-length-2
+    same-length-3
     returns-2)

@@ -1,4 +1,4 @@
--- `replay::main` lends three buffers of 65,536 bytes. They are counted by a law, since computing their length is dear. Assumes nothing.
+-- `replay::main` lends four buffers of 65,536 bytes. They are counted by a law, since computing their length is dear. Assumes nothing.
 use mathlib.Core.Path.{_≡_, sym}
 use Prim.Native.Nat.{ℕ}
 use borrow.Author.Needs.{needs}
@@ -18,8 +18,11 @@ slice-aggregate-run-2 c = sym counted
 slice-aggregate-run-3 : tie.Need-slice-aggregate-run-3
 slice-aggregate-run-3 c = sym counted
 
+slice-aggregate-run-4 : tie.Need-slice-aggregate-run-4
+slice-aggregate-run-4 c = sym counted
+
 run-requires : tie.Need-run-requires
-run-requires c κs = (counted, counted, counted)
+run-requires c κs = (counted, counted, counted, counted)
 
 complain-requires : tie.Need-complain-requires
 complain-requires c κs = search needs
@@ -28,4 +31,4 @@ returns : tie.Need-returns
 returns c = tt
 
 pub main-spec : {M : Type 1} → statement M
-main-spec = tie.close (tie.spec slice-aggregate-run slice-aggregate-run-2 slice-aggregate-run-3 run-requires complain-requires returns)
+main-spec = tie.close (tie.spec slice-aggregate-run slice-aggregate-run-2 slice-aggregate-run-3 slice-aggregate-run-4 run-requires complain-requires returns)

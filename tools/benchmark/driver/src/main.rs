@@ -1,7 +1,8 @@
-//! Prints the table of docs/BENCHMARKS.md: our library beside the Rust and beside `memset`, from one run.
+//! Prints the table of docs/BENCHMARKS.md: our library beside the Rust, `memset` and `memcpy`, from one run.
 
 mod figures;
 mod frames;
+mod images;
 mod inputs;
 mod ours;
 mod race;
@@ -24,7 +25,7 @@ fn main() -> ExitCode {
 fn table(runs: usize) {
     println!("| Work | Against | Ours, median (quartiles) | The other | Ratio | Goal | |");
     println!("|---|---|---|---|---|---|---|");
-    for race in figures::races().into_iter().chain(frames::races()) {
+    for race in figures::races().into_iter().chain(frames::races()).chain(images::races()) {
         println!("{}", race.row(runs));
     }
 }

@@ -18,6 +18,12 @@ pub struct Drawn {
     pub number: u32,
 }
 
+#[repr(C)]
+pub struct Size {
+    pub number: u32,
+    pub bytes: u32,
+}
+
 #[rustfmt::skip]
 extern "C" {
     fn beamacorn_triangle_contains(x1: i32, y1: i32, x2: i32, y2: i32, x3: i32, y3: i32, x: i32, y: i32) -> Verdict;
@@ -34,6 +40,10 @@ extern "C" {
         x1: i32, y1: i32, x2: i32, y2: i32, x3: i32, y3: i32, colour: u32) -> Drawn;
     fn beamacorn_draw_circle(buf: *mut u8, len: usize, width: u32, height: u32, depth: u32, order: u32,
         left: i32, top: i32, diameter: u32, colour: u32) -> Drawn;
+
+    fn beamacorn_image_size(width: u32, height: u32, depth: u32) -> Size;
+    fn beamacorn_write_image(buf: *const u8, len: usize, width: u32, height: u32, depth: u32, order: u32,
+        out: *mut u8, out_len: usize) -> Size;
 }
 
 pub type Place = (i32, i32);
@@ -50,6 +60,21 @@ pub fn row_span([(x1, y1), (x2, y2), (x3, y3)]: [Place; 3], y: i32) -> (i32, i32
 pub fn circle_row_span((left, top): Place, diameter: u32, y: i32) -> (i32, i32) {
     let span = unsafe { beamacorn_circle_row_span(left, top, diameter, y) };
     (span.start, span.end)
+}
+
+/// How many bytes the frame's image file has.
+pub fn image_size(width: u32, height: u32, depth: u32) -> usize {
+    accepted(unsafe { beamacorn_image_size(width, height, depth) })
+}
+
+/// Writes it, and says the same.
+pub fn write_image(buf: &[u8], width: u32, height: u32, depth: u32, order: u32, out: &mut [u8]) -> usize {
+    accepted(unsafe { beamacorn_write_image(buf.as_ptr(), buf.len(), width, height, depth, order, out.as_mut_ptr(), out.len()) })
+}
+
+fn accepted(size: Size) -> usize {
+    assert_eq!(size.number, 0, "our library refused");
+    size.bytes as usize
 }
 
 /// A frame of our own over its bytes, little end first.

@@ -25,6 +25,9 @@ slice-aggregate-read c = search turn-words
 read-requires : tie.Need-read-requires
 read-requires c κs = search needs
 
+image-size-requires : tie.Need-image-size-requires
+image-size-requires c κs = search needs
+
 slice-relend-prefix-draw : tie.Need-slice-relend-prefix-draw
 slice-relend-prefix-draw c = search needs
 
@@ -52,11 +55,14 @@ same-length-3 c = search needs
 returns-3 : tie.Need-returns-3
 returns-3 c = search turn-words
 
+returns-4 : tie.Need-returns-4
+returns-4 c = search turn-words
+
 same-length-4 : tie.Need-same-length-4
 same-length-4 c = search needs
 
-returns-4 : tie.Need-returns-4
-returns-4 c = search turn-words
+returns-5 : tie.Need-returns-5
+returns-5 c = search turn-words
 
 pub respond-spec : {M : Type 1} → statement M
 respond-spec =
@@ -69,6 +75,7 @@ respond-spec =
     slice-reshare-prefix-read
     slice-aggregate-read
     read-requires
+    image-size-requires
     slice-relend-prefix-draw
     slice-aggregate-draw
     draw-requires
@@ -78,5 +85,6 @@ respond-spec =
     returns-2
     same-length-3
     returns-3
+    returns-4
     same-length-4
-    returns-4)
+    returns-5)

@@ -1,0 +1,73 @@
+-- ONE PICTURE, ONE FILE: two frames of one size and depth have equal files exactly if they show the same picture, whatever their byte order, padding and tail;
+-- and equal files have one size and depth, since the header's parts are read back. Assumes nothing.
+use mathlib.Core.Path.{_≡_, refl, sym, ap, subst, _∙_}
+use mathlib.Core.Bool.{Bool, cond}
+use mathlib.Core.List.{List, _++_}
+use mathlib.Core.Logic.{_↔_, ⊎-elim}
+use Prim.Native.Nat.{ℕ, _+_, _≤_, _<_}
+use native.Mathlib.Nat.{le-refl}
+use lib.Dec.{eqb}
+use lib.ListN.{length, take, drop, getD, replicate, length-append, length-replicate}
+use lib.Seq.{drop-append-seam}
+use Rattle.text.specs.declared.Unsigned.{Unsigned}
+use Rattle.text.specs.Read.{readU32}
+use Rattle.layout.specs.Layout.{shown}
+use Rattle.layout.proofs.Pictures.{Agree, one-picture, shown-colour}
+use Rattle.framebuffer.specs.declared.Frame.{Frame}
+use Rattle.framebuffer.specs.Description.{described, raster, size}
+use Rattle.framebuffer.specs.Judged.{Described}
+use Rattle.framebuffer.proofs.Refusals.{sound}
+use Rattle.netpbm.specs.Image.{kind, header, bigFirst, pixels, imageBytes, imageLength}
+use Rattle.netpbm.specs.Written.{Writable}
+use Rattle.netpbm.proofs.Rows.{big-described, pixels-length}
+use Rattle.netpbm.proofs.Formats.{formats}
+use Rattle.netpbm.proofs.Headers.{upTo, past, header-says}
+
+module _ (w h d : ℕ) (i j : Bool) (D : Described (described w h d i)) (a b : List ℕ) where
+  abbrev f : Frame
+  f = described w h d i
+
+  abbrev g : Frame
+  g = described w h d j
+
+  same-pixels : (pixels f a ≡ pixels g b) ↔ Agree (raster (bigFirst f)) (shown (raster f) a) (shown (raster g) b)
+  unfolding pixels size
+  same-pixels =
+      one-picture (raster (bigFirst f)) (sound (bigFirst f) (big-described f D)) (shown (raster f) a) (shown (raster g) b) (replicate (size (bigFirst f)) 0)
+      (subst (λ (n : ℕ). size (bigFirst f) ≤ n) (sym (length-replicate (size (bigFirst f)) 0)) (le-refl (size (bigFirst f))))
+      (λ x y hx hy. shown-colour (raster f) (sound f D) a x y)
+      (λ x y hx hy. shown-colour (raster g) (sound g (record { depth = D .depth; width = D .width; height = D .height })) b x y)
+
+  pub one-picture-one-file : (imageBytes f a ≡ imageBytes g b) ↔ ((x y : ℕ) → x < w → y < h → shown (raster f) a x y ≡ shown (raster g) b x y)
+  unfolding imageBytes header
+  one-picture-one-file = (
+    λ e. same-pixels .0 (sym (drop-append-seam (header f) (pixels f a)) ∙ ap (drop (length (header f))) e ∙ drop-append-seam (header g) (pixels g b)),
+    λ s. ap (λ (p : List ℕ). header f ++ p) (same-pixels .1 s),
+  )
+
+-- ---- ONE FILE, ONE SIZE AND DEPTH
+abbrev depthOf : ℕ → ℕ
+depthOf k = cond (eqb k 52) 1 (cond (eqb k 53) 8 24)
+
+depth-back : (f : Frame) {len : ℕ} → Writable f len → depthOf (kind (f .depth)) ≡ f .depth
+depth-back f W = ⊎-elim (⊎-elim (λ e. back 1 e refl) (λ e. back 8 e refl)) (λ e. back 24 e refl) (formats f W)
+  where
+    back : (n : ℕ) → f .depth ≡ n → depthOf (kind n) ≡ n → depthOf (kind (f .depth)) ≡ f .depth
+    back n e h = ap (λ (d : ℕ). depthOf (kind d)) e ∙ h ∙ sym e
+
+pub one-file-one-size : (f g : Frame) {m n : ℕ} → Writable f m → Writable g n → (a b : List ℕ) → imageBytes f a ≡ imageBytes g b
+    → (f .width ≡ g .width) × (f .height ≡ g .height) × (f .depth ≡ g .depth)
+unfolding imageBytes
+one-file-one-size f g F G a b e =
+    let p = header-says f (F .accepted .described) (pixels f a) in
+    let q = header-says g (G .accepted .described) (pixels g b) in
+    let same : kind (f .depth) ≡ kind (g .depth) = ap (λ (s : List ℕ). getD s 1 0) (sym (p .format) ∙ ap (take 3) e ∙ q .format) in (
+      ap (λ (u : Unsigned). u .value) (sym (p .width) ∙ ap (λ (s : List ℕ). readU32 (upTo 32 (drop 3 s))) e ∙ q .width),
+      ap (λ (u : Unsigned). u .value) (sym (p .height) ∙ ap (λ (s : List ℕ). readU32 (upTo 10 (past 32 (drop 3 s)))) e ∙ q .height),
+      sym (depth-back f F) ∙ ap depthOf same ∙ depth-back g G,
+    )
+
+-- ---- a file is as long as is said beforehand, whatever the buffer holds
+pub file-length : (f : Frame) (b : List ℕ) → Described f → length (imageBytes f b) ≡ imageLength f
+unfolding imageBytes imageLength
+file-length f b D = length-append (header f) (pixels f b) ∙ ap (λ (n : ℕ). length (header f) + n) (pixels-length f b D)

@@ -1,0 +1,9 @@
+pub mod Bits
+pub mod Rows
+pub mod Formats
+pub mod Headers
+pub mod Answers
+pub mod Refusals
+pub mod Images
+pub mod Known
+pub mod Determined

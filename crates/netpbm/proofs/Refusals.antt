@@ -1,0 +1,18 @@
+-- THE FIRST TEST THAT HOLDS WINS (02, T-01): each number is answered exactly when its test holds and none before it does, and 0 exactly when none holds. 9 comes
+-- behind 10, so that it is not the lowest number that is answered. Assumes nothing.
+use mathlib.Core.Path.{refl}
+use Prim.Native.Nat.{ℕ}
+use Rattle.refusals.proofs.First.{Exact, first-wins}
+use Rattle.framebuffer.specs.declared.Frame.{Frame}
+use Rattle.framebuffer.specs.Description.{descriptionTests, frameTests}
+use Rattle.netpbm.specs.Written.{imageSizeTests, writeTests}
+
+-- the length of a file: 1, 2, 10
+pub sizing : (f : Frame) → Exact (imageSizeTests f)
+unfolding descriptionTests imageSizeTests
+sizing f = first-wins _ refl
+
+-- writing a frame over len bytes into room bytes: 1, 2, 3, 10, 9
+pub writing : (f : Frame) (len room : ℕ) → Exact (writeTests f len room)
+unfolding descriptionTests frameTests writeTests
+writing f len room = first-wins _ refl

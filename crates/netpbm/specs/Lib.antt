@@ -1,0 +1,4 @@
+pub mod Image
+pub mod Written
+pub mod Words
+pub mod Known

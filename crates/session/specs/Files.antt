@@ -1,0 +1,47 @@
+-- The file buffer: what `image` and `wipe` answer and leave (02, T-01).
+use mathlib.Core.Bool.{cond, _&&_}
+use mathlib.Core.List.{List, [], _∷_, _++_}
+use Prim.Native.Nat.{ℕ}
+use lib.Dec.{leb}
+use lib.ListN.{take, drop}
+use Rattle.framebuffer.specs.declared.Frame.{Frame}
+use Rattle.framebuffer.specs.declared.Size.{Size}
+use Rattle.netpbm.specs.Written.{written}
+use Rattle.text.specs.Fields.{nextU32}
+use Rattle.protocol.specs.declared.reply.Reply.{Reply}
+use Rattle.protocol.specs.declared.reply.Reply.the-variants.{Bad}
+use Rattle.protocol.specs.Fields.{isLast, ofOne}
+use Rattle.protocol.specs.Words.{meant}
+use Rattle.session.specs.declared.screen.Screen.{Screen}
+use Rattle.session.specs.declared.screen.Turn.{Turn}
+use Rattle.session.specs.Screen.{turn, sizeSaid, presetCall, response}
+use Rattle.session.specs.Words.{imageWord, wipeWord}
+
+-- the bytes of the frame's buffer, and those of the file's
+abbrev pub Buffers : Type 0
+Buffers = List ℕ × List ℕ
+
+-- `image ROOM`: the frame written into the first ROOM bytes of the file buffer, at most 65,536; the bytes behind them stay
+abbrev pub imageSaid : List ℕ → ℕ → Size × List ℕ → Reply × List ℕ
+imageSaid file room w = (sizeSaid (w .0), w .1 ++ drop room file)
+
+unfoldable pub imageCall : List ℕ → ℕ → Frame → List ℕ → List ℕ → Reply × List ℕ
+imageCall said at f b file =
+    ofOne (λ n. cond (isLast said (n .next) && leb (n .value) 65536) (imageSaid file (n .value) (written f b (take (n .value) file))) (Bad, file)) (nextU32 said at)
+
+-- ---- a line by its word, all but those that show bytes: a turn on the file leaves the screen and its buffer
+abbrev pub fileTurn : Screen → List ℕ → Reply × List ℕ → Turn × Buffers
+fileTurn s m c = (turn s (c .0), (m, c .1))
+
+abbrev pub screenTurn : List ℕ → Turn × List ℕ → Turn × Buffers
+screenTurn file t = (t .0, (t .1, file))
+
+-- `wipe V`: every byte of the file buffer becomes V, as `preset` does it to the other
+abbrev pub fileTable : List ℕ → ℕ → Screen → Buffers → List (List ℕ × (Turn × Buffers))
+fileTable said at s m =
+    (imageWord, fileTurn s (m .0) (imageCall said at (s .frame) (take (s .lent) (m .0)) (m .1)))
+    ∷ (wipeWord, fileTurn s (m .0) (presetCall said at (m .1)))
+    ∷ []
+
+abbrev pub act : List ℕ → List ℕ → ℕ → Screen → Buffers → Turn × Buffers
+act word said at s m = meant word (fileTable said at s m) (screenTurn (m .1) (response word said at s (m .0)))

@@ -1,0 +1,53 @@
+// The file buffer: the frame written into it as an image file, and setting its bytes.
+ghost use mathlib.Core.Path.{_≡_};
+ghost use Prim.Native.Nat.{_≤_};
+ghost use lib.ListN.{length};
+ghost use Rattle.session.specs.Files.{imageCall, act};
+use crate::screen::Screen;
+use crate::screen::Turn;
+use crate::screen::preset;
+use crate::screen::respond;
+use framebuffer::Frame;
+use protocol::Reply;
+use protocol::Value;
+use protocol::ends_within;
+use protocol::place_in;
+
+fn image(said: &[u8], at: usize, buf: &[u8], frame: Frame, file: &mut [u8]) -> Reply
+    requires { ⌜ length (now file) ≡ 65536 ⌝ }
+    ensures { λ r. ⌜ (r, now (file .exit)) ≡ imageCall (now (said .entry)) at frame (now (buf .entry)) (now (file .entry)) ⌝ }
+{
+    let room = text::next_u32(said, at);
+    if !ends_within(said, room.next, room.value, 65536) {
+        return Reply::Bad;
+    }
+    let end = room.value as usize;
+    let written = netpbm::write_image(buf, frame, &mut file[..end]);
+    Reply::One(written.number, Value::Natural(written.bytes))
+}
+
+// Inside the library: does what the line says that starts with the word, all but those that show bytes.
+pub fn take_turn(
+    word: &[u8],
+    said: &[u8],
+    at: usize,
+    memory: &mut [u8],
+    file: &mut [u8],
+    screen: Screen,
+) -> Turn
+    requires { ⌜ (screen .lent ≤ length (now memory)) × (length (now file) ≡ 65536) ⌝ }
+    ensures { λ r. ⌜ (r, (now (memory .exit), now (file .exit))) ≡ act (now (word .entry)) (now (said .entry)) at screen (now (memory .entry), now (file .entry)) ⌝ }
+{
+    let lent = screen.lent;
+    match place_in(b"image\twipe", word) {
+        0 => {
+            let reply = image(said, at, &memory[..lent], screen.frame, file);
+            Turn { screen, reply }
+        }
+        1 => {
+            let reply = preset(said, at, file);
+            Turn { screen, reply }
+        }
+        _ => respond(word, said, at, memory, screen),
+    }
+}

@@ -1,5 +1,9 @@
 """02 (docs/RULES.md), "Image files": a frame as a Netpbm file."""
 
+import re
+
+from .frames import Frame
+
 MAGIC = {1: "P4", 8: "P5", 24: "P6"}
 
 
@@ -28,3 +32,16 @@ def written(frame, buffer):
 def length(frame):
     """How many bytes the file has: a row of it is as long as one of the frame."""
     return len(header(frame)) + frame.size()
+
+
+def picture(file):
+    """The frame that a file shows, its big end first, and the colours of its pixels, row by row; ValueError if it is no such file."""
+    for depth, magic in MAGIC.items():
+        maximum = "" if depth == 1 else "255\n"
+        taken = re.match(f"{magic}\n([1-9][0-9]*) ([1-9][0-9]*)\n{maximum}".encode(), file)
+        if taken:
+            frame, pixels = Frame(*map(int, taken.groups()), depth, True), file[taken.end():]
+            if len(pixels) != frame.size():
+                raise ValueError(f"{len(pixels)} bytes of pixels where {frame.size()} are right")
+            return frame, [frame.read(pixels, x, y) for y in range(frame.height) for x in range(frame.width)]
+    raise ValueError(f"no header: {file[:16]}")

@@ -10,6 +10,8 @@ use Rattle.reports.specs.declared.Tally.{Tally}
 use Rattle.reports.proofs.spans.rows_of.Reads as rows-of
 use Rattle.reports.proofs.spans.first_part.Reads as first-part
 use Rattle.reports.proofs.spans.next_part.Reads as next-part
+use Rattle.reports.proofs.minutes.inside_one.Reads as inside-one
+use Rattle.reports.proofs.minutes.is_counting.Reads as is-counting
 use Rattle.reports.proofs.minutes.no_lines.Reads as no-lines
 use Rattle.reports.proofs.minutes.take_line.Reads as take-line
 use Rattle.reports.proofs.minutes.take_lines.Reads as take-lines
@@ -17,6 +19,12 @@ use Rattle.reports.proofs.minutes.write_count.Reads as write-count
 
 pub rows-of-one : One rows-of.Post
 rows-of-one κs args r q s t = same
+
+pub inside-one-one : One inside-one.Post
+inside-one-one κs args r q s t = same
+
+pub is-counting-one : One is-counting.Post
+is-counting-one κs args r q s t = same
 
 pub no-lines-one : One no-lines.Post
 no-lines-one κs args r q s t = same

@@ -3,6 +3,8 @@ mod corners;
 mod minutes;
 mod spans;
 
+pub use minutes::inside_one;
+pub use minutes::is_counting;
 pub use minutes::no_lines;
 pub use minutes::take_line;
 pub use minutes::take_lines;

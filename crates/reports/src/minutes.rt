@@ -24,7 +24,7 @@ fn refusal_of(v: Vertices) -> u32
 }
 
 // 1 for a sample that the wedge contains, 0 for another.
-fn inside_one(v: Vertices, p: Place) -> u32
+pub fn inside_one(v: Vertices, p: Place) -> u32
     ensures { λ r. ⌜ r ≡ insideOne v p ⌝ }
 {
     let t = corners_of(v);
@@ -36,7 +36,7 @@ fn inside_one(v: Vertices, p: Place) -> u32
 }
 
 // Whether nothing went wrong yet.
-fn is_counting(k: Count) -> bool
+pub fn is_counting(k: Count) -> bool
     ensures { λ r. ⌜ r ≡ counting k ⌝ }
 {
     if k.long {

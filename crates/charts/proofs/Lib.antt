@@ -1,0 +1,4 @@
+pub mod Lines
+pub mod Drawn
+pub mod Scaling
+pub mod Determined

@@ -1,0 +1,87 @@
+-- `charts::day::draw_good` reads the wedge and how far the axes reach, and draws one list of calls behind the other. Assumes nothing.
+use mathlib.Core.Path.{sym, ap, subst, _∙_}
+use Prim.Native.Nat.{_+_}
+use native.Mathlib.Omega.{arith}
+use lib.ListN.{drop}
+use borrow.Author.Needs.{needs}
+use Rattle.text.specs.Fields.{lines}
+use Rattle.text.specs.Lines.{each}
+use Rattle.text.proofs.Parting.{until-within}
+use Rattle.reports.specs.Minutes.{wedge, behindFirst}
+use Rattle.charts.specs.Scale.{ofWedge, withSample, extent}
+use Rattle.charts.specs.Picture.{picture}
+use Rattle.charts.specs.Day.{left, under, discs, day}
+use Rattle.charts.proofs.Drawn.{left-append}
+use Rattle.charts.proofs.Scaling.{Long, wedge-long, samples-long}
+use Rattle.charts.proofs.day.draw_good.Statement.{statement}
+use Rattle.charts.proofs.day.draw_good.Tie as tie
+
+first-vertices-requires : tie.Need-first-vertices-requires
+first-vertices-requires c κs = search needs
+
+find-requires : tie.Need-find-requires
+find-requires c κs = search needs
+
+add-from : tie.Need-add-from
+add-from c = omega (arith, c .find .ensures, until-within 10 (c .before .before .before .before .args .input .now))
+
+of-wedge-requires : tie.Need-of-wedge-requires
+of-wedge-requires c κs = search needs
+
+with-samples-requires : tie.Need-with-samples-requires
+with-samples-requires c κs = search needs
+
+frame-requires : tie.Need-frame-requires
+frame-requires c κs = search needs
+
+long : (c : tie.After-with-samples) → Long (c .with-samples .result)
+long c =
+    let found = c .before .before in
+    let read = found .before in
+    subst Long (sym (c .with-samples .ensures))
+    (samples-long (lines (drop (found .find .result + 1) (read .before .before .before .args .input .now)))
+    (subst Long (sym (c .before .of-wedge .ensures)) (wedge-long (read .first-vertices .result))))
+
+draw-under-requires : tie.Need-draw-under-requires
+draw-under-requires c κs = long (c .before .before)
+
+draw-samples-requires : tie.Need-draw-samples-requires
+draw-samples-requires c κs = long (c .before .before .before .before .before .before)
+
+same-length : tie.Need-same-length
+same-length c = search needs
+
+returns : tie.Need-returns
+unfolding day
+returns c =
+    let samples = c .before .before in
+    let ground = samples .before .before .before .before in
+    let made = ground .before .before in
+    let reach = made .before in
+    let found = reach .before .before in
+    let read = found .before in
+    let a = read .before .before .before .args in
+    let s = a .input .now in
+    let f = made .frame .ensures in
+    let v = read .first-vertices .ensures in
+    let from = found .find .ensures in
+    let e = reach .with-samples .ensures ∙ (λ i. each withSample ((reach .before .of-wedge .ensures ∙ ap ofWedge v) i) (lines (drop (from i + 1) s))) in
+    let below = ground .draw-under .ensures ∙ (λ i. left (f i) (under (e i) (v i)) (a .pane .now)) in
+    samples .draw-samples .ensures
+    ∙ (λ i. left (f i) (discs (e i) (v i) (lines (drop (from i + 1) s))) (below i))
+    ∙ sym (left-append picture (under (extent s) (wedge s)) (discs (extent s) (wedge s) (lines (behindFirst s))) (a .pane .now))
+
+pub draw-good-spec : {M : Type 1} → statement M
+draw-good-spec =
+    tie.close
+    (tie.spec
+    first-vertices-requires
+    find-requires
+    add-from
+    of-wedge-requires
+    with-samples-requires
+    frame-requires
+    draw-under-requires
+    draw-samples-requires
+    same-length
+    returns)

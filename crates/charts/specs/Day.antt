@@ -1,0 +1,77 @@
+-- What is drawn of an input, as a list of calls: the ground, the wedge, the margins over what lies below 0, the axes, and a disc for each sample, in the order
+-- of the lines. Its colour is asked of the numbers as they came, and not of the picture.
+use mathlib.Core.Bool.{Bool, cond, _&&_, not}
+use mathlib.Core.List.{List, [], _∷_, _++_}
+use Prim.Native.Nat.{ℕ}
+use lib.Dec.{eqb}
+use lib.IntN.{pos, _-ℤ_}
+use lib.Signed.{ltZ}
+use Rattle.geometry.specs.declared.Point.{Point}
+use Rattle.framebuffer.specs.declared.Frame.{Frame}
+use Rattle.framebuffer.specs.Drawing.{Drawing, fillDrawing, outcome}
+use Rattle.framebuffer.specs.Window.{wholeWindow}
+use Rattle.drawing.specs.Drawing.{lineDrawing, triangleDrawing, circleDrawing}
+use Rattle.text.specs.declared.Place.{Place}
+use Rattle.text.specs.declared.Vertices.{Vertices}
+use Rattle.text.specs.Fields.{fields, lines, readPlace}
+use Rattle.reports.specs.declared.Count.{Count}
+use Rattle.reports.specs.Corners.{corner1, corner2, corner3}
+use Rattle.reports.specs.Minutes.{wedge, behindFirst, insideOne, counting, minutes}
+use Rattle.charts.specs.declared.Extent.{Extent}
+use Rattle.charts.specs.Scale.{extent}
+use Rattle.charts.specs.Picture.{picture, ground, filling, ink, inside, outside, spot}
+
+-- ---- what calls leave of a frame's bytes, one after the other
+abbrev pub left : Frame → List Drawing → List ℕ → List ℕ
+left f [] b = b
+left f (d ∷ ds) b = left f ds (outcome f (wholeWindow f) d b .1)
+
+-- ---- the calls
+-- a rectangle from one corner to another, as two triangles
+abbrev pub box : Point → Point → ℕ → List Drawing
+box p q colour = triangleDrawing p (q .0, p .1) q colour ∷ triangleDrawing p (p .0, q .1) q colour ∷ []
+
+-- a corner of the wedge, scaled
+abbrev pub onPicture : Extent → Point → Point
+onPicture e p = spot e (p .0) (p .1)
+
+abbrev pub wedgeDrawing : Extent → Vertices → Drawing
+wedgeDrawing e v = triangleDrawing (onPicture e (corner1 v)) (onPicture e (corner2 v)) (onPicture e (corner3 v)) filling
+
+-- what lies below 0 is off the picture
+abbrev pub margins : List Drawing
+margins = box (pos 0, pos 0) (pos 23, pos 359) ground ++ box (pos 0, pos 336) (pos 639, pos 359) ground
+
+abbrev pub axes : List Drawing
+axes = lineDrawing (pos 24, pos 335) (pos 624, pos 335) ink ∷ lineDrawing (pos 24, pos 335) (pos 24, pos 15) ink ∷ []
+
+unfoldable pub under : Extent → Vertices → List Drawing
+under e v = fillDrawing ground ∷ wedgeDrawing e v ∷ (margins ++ axes)
+
+-- a sample: a disc of three pixels about its place, if that is on the picture
+abbrev pub isShown : Place → Bool
+isShown p = p .ok && (not (ltZ (p .x) (pos 0)) && not (ltZ (p .y) (pos 0)))
+
+abbrev pub discCorner : Extent → Place → Point
+discCorner e p = (spot e (p .x) (p .y) .0 -ℤ pos 1, spot e (p .x) (p .y) .1 -ℤ pos 1)
+
+abbrev pub discColour : Vertices → Place → ℕ
+discColour v p = cond (eqb (insideOne v p) 0) outside inside
+
+unfoldable pub disc : Extent → Vertices → Place → List Drawing
+disc e v p = cond (isShown p) (circleDrawing (discCorner e p) 3 (discColour v p) ∷ []) []
+
+abbrev pub discs : Extent → Vertices → List (List ℕ) → List Drawing
+discs e v [] = []
+discs e v (l ∷ ls) = disc e v (readPlace (fields l)) ++ discs e v ls
+
+-- ---- the day
+abbrev pub dayOver : Extent → Vertices → List ℕ → List Drawing
+dayOver e v s = under e v ++ discs e v (lines (behindFirst s))
+
+unfoldable pub day : List ℕ → List Drawing
+day s = dayOver (extent s) (wedge s) s
+
+-- what is answered, and left of the bytes: what `minutes` counts, and the day, if there is nothing wrong with it
+unfoldable pub charted : List ℕ → List ℕ → Count × List ℕ
+charted s b = (minutes s, cond (counting (minutes s)) (left picture (day s) b) b)

@@ -1,0 +1,17 @@
+// The count of a whole input, as `minutes` has it.
+ghost use mathlib.Core.Path.{_≡_};
+ghost use Rattle.reports.specs.Minutes.{minutes};
+use reports::Count;
+
+pub fn count(input: &[u8]) -> Count
+    ensures { λ r. ⌜ r ≡ minutes (now (input .entry)) ⌝ }
+{
+    let mut tally = reports::no_lines();
+    let mut at = 0;
+    while at < input.len() {
+        let end = text::part_end(input, at, b'\n');
+        tally = reports::take_line(tally, &input[at..end]);
+        at = end + 1;
+    }
+    tally.count
+}

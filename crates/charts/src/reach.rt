@@ -1,0 +1,60 @@
+// How far the axes reach: the largest second and the largest load of the wedge and of the samples, at least 1.
+ghost use mathlib.Core.Path.{_≡_};
+ghost use lib.ListN.{drop};
+ghost use Rattle.text.specs.Fields.{lines};
+ghost use Rattle.text.specs.Lines.{each};
+ghost use Rattle.charts.specs.Scale.{larger, withPlace, ofWedge, withSample};
+use crate::Extent;
+use text::Vertices;
+
+// The larger of two numbers, of which the first is not negative.
+fn larger(n: u32, x: i32) -> u32
+    ensures { λ r. ⌜ r ≡ larger n x ⌝ }
+{
+    if (n as i64) < (x as i64) {
+        return x as u32;
+    }
+    n
+}
+
+// With a place more.
+fn with_place(e: Extent, x: i32, y: i32) -> Extent
+    ensures { λ r. ⌜ r ≡ withPlace e x y ⌝ }
+{
+    Extent {
+        second: larger(e.second, x),
+        load: larger(e.load, y),
+    }
+}
+
+// The wedge alone.
+pub fn of_wedge(v: Vertices) -> Extent
+    ensures { λ r. ⌜ r ≡ ofWedge v ⌝ }
+{
+    let least = Extent { second: 1, load: 1 };
+    let one = with_place(least, v.x1, v.y1);
+    let two = with_place(one, v.x2, v.y2);
+    with_place(two, v.x3, v.y3)
+}
+
+// With a line more.
+fn with_sample(e: Extent, line: &[u8]) -> Extent
+    ensures { λ r. ⌜ r ≡ withSample e (now (line .entry)) ⌝ }
+{
+    let p = text::read_place(line);
+    with_place(e, p.x, p.y)
+}
+
+// With the lines from a place on.
+pub fn with_samples(e: Extent, input: &[u8], from: usize) -> Extent
+    ensures { λ r. ⌜ r ≡ each withSample e (lines (drop from (now (input .entry)))) ⌝ }
+{
+    let mut reach = e;
+    let mut at = from;
+    while at < input.len() {
+        let end = text::part_end(input, at, b'\n');
+        reach = with_sample(reach, &input[at..end]);
+        at = end + 1;
+    }
+    reach
+}

@@ -1,0 +1,97 @@
+-- Laws of what is put into the output: no test refuses the file of the picture, and what is to be said comes first. Assumes nothing.
+use mathlib.Core.Path.{_≡_, refl, sym, ap, ap₂, _∙_}
+use mathlib.Core.Bool.{Bool, true, false, cond}
+use mathlib.Core.List.{List}
+use Prim.Native.Nat.{ℕ, _+_, _≤_}
+use native.Mathlib.Nat.{le-refl}
+use native.Mathlib.Omega.{arith}
+use lib.ListN.{length, take, drop, length-append}
+use lib.Seq.{sets, sets-eq, length-sets, take-append-le, take-all}
+use Rattle.refusals.specs.First.{first}
+use Rattle.layout.specs.Packed.{rowBytes}
+use Rattle.framebuffer.specs.declared.Size.{Size}
+use Rattle.framebuffer.specs.Answer.{sized}
+use Rattle.framebuffer.specs.Description.{size, descriptionTests, frameTests}
+use Rattle.framebuffer.specs.Judged.{Described}
+use Rattle.netpbm.specs.Image.{header, pixels, imageBytes, imageLength}
+use Rattle.netpbm.specs.Written.{writeTests, written}
+use Rattle.netpbm.proofs.Answers.{accepted-written}
+use Rattle.netpbm.proofs.Rows.{pixels-length}
+use Rattle.text.specs.Show.{shown}
+use Rattle.reports.specs.declared.Count.{Count}
+use Rattle.reports.specs.Minutes.{counting, minutes, countLine}
+use Rattle.charts.specs.Picture.{picture}
+use Rattle.charts.specs.Day.{left, day, charted}
+use Rattle.chart.specs.Told.{Handed}
+
+-- a text at the front of a buffer
+front : (l vs : List ℕ) → length vs ≤ length l → take (length vs) (sets l 0 vs) ≡ vs
+front l vs h =
+    ap (take (length vs)) (sets-eq vs l 0 (omega arith))
+    ∙ take-append-le (length vs) vs (drop (0 + length vs) l) (le-refl (length vs))
+    ∙ take-all (length vs) vs (le-refl (length vs))
+
+-- ---- the file of the picture
+described : Described picture
+described = record { depth = refl; width = omega arith; height = omega arith }
+
+length-is : imageLength picture ≡ 691215
+unfolding imageLength header size shown rowBytes
+length-is = refl
+
+file-length : (b : List ℕ) → length (imageBytes picture b) ≡ 691215
+unfolding imageBytes imageLength
+file-length b = length-append (header picture) (pixels picture b) ∙ ap (λ (n : ℕ). length (header picture) + n) (pixels-length picture b described) ∙ length-is
+
+-- no test holds
+accepted : first (writeTests picture 691200 691215) ≡ 0
+unfolding writeTests frameTests descriptionTests imageLength header size shown rowBytes
+accepted = refl
+
+file-written : (b out : List ℕ) → length b ≡ 691200 → length out ≡ 691215 → written picture b out ≡ (sized 0 691215, sets out 0 (imageBytes picture b))
+file-written b out e g =
+    sym (accepted-written picture b out (sym accepted ∙ ap₂ (λ (m n : ℕ). first (writeTests picture m n)) (sym e) (sym g)) (ap (sized 0) (sym length-is)) refl refl)
+
+-- ---- what is handed over
+module _ (s pane out : List ℕ) {k : Count} {after : List ℕ} (e : _≡_ {A = Count × List ℕ} (k, after) (charted s pane))
+    (frame : length pane ≡ 691200) (room : length out ≡ 691215) where
+  counted : k ≡ minutes s
+  unfolding charted
+  counted = ap (λ (q : Count × List ℕ). q .0) e
+
+  chosen : {t : Bool} → counting k ≡ t → counting (minutes s) ≡ t
+  chosen c = ap counting (sym counted) ∙ c
+
+  drawn : counting k ≡ true → after ≡ left picture (day s) pane
+  unfolding charted
+  drawn c = ap (λ (q : Count × List ℕ). q .1) e ∙ ap (λ (t : Bool). cond t (left picture (day s) pane) pane) (chosen c)
+
+  pub file-handed : {r : Size} {o : List ℕ} → counting k ≡ true → length after ≡ length pane → _≡_ {A = Size × List ℕ} (r, o) (written picture after out)
+      → Handed s (record { good = true; end = r .bytes }) o
+  file-handed {r} {o} c l w =
+      let file = imageBytes picture (left picture (day s) pane) in
+      let v = w ∙ file-written after out (l ∙ frame) room ∙ ap (λ (b : List ℕ). (sized 0 691215, sets out 0 (imageBytes picture b))) (drawn c) in
+      let end : r .bytes ≡ length file = ap (λ (q : Size × List ℕ). q .0 .bytes) v ∙ sym (file-length (left picture (day s) pane)) in
+      let bytes : o ≡ sets out 0 file = ap (λ (q : Size × List ℕ). q .1) v in
+      let fits : length file ≤ length out = omega (arith, file-length (left picture (day s) pane)) in
+      record {
+        pane = pane;
+        sized = frame;
+        fits = omega (arith, ap length bytes, length-sets out 0 file);
+        good = sym (chosen c);
+        bytes = ap₂ take end bytes ∙ front out file fits ∙ sym (ap (λ (t : Bool). cond t file (countLine (minutes s))) (chosen c));
+      }
+
+  pub line-handed : {n : ℕ} {o : List ℕ} → counting k ≡ false → n ≡ 0 + length (countLine k) → o ≡ sets out 0 (countLine k) → n ≤ 41
+      → Handed s (record { good = false; end = n }) o
+  line-handed {n} {o} c m w most =
+      let file = imageBytes picture (left picture (day s) pane) in
+      let end : n ≡ length (countLine k) = omega arith in
+      record {
+        pane = pane;
+        sized = frame;
+        fits = omega (arith, ap length w, length-sets out 0 (countLine k));
+        good = sym (chosen c);
+        bytes = ap₂ take end w ∙ front out (countLine k) (omega arith) ∙ ap countLine counted
+            ∙ sym (ap (λ (t : Bool). cond t file (countLine (minutes s))) (chosen c));
+      }

@@ -1,4 +1,4 @@
-pub mod Lines
+pub mod Taking
 pub mod Drawn
 pub mod Scaling
 pub mod Determined

@@ -7,6 +7,7 @@ ghost use Rattle.charts.specs.Picture.{picture};
 ghost use Rattle.charts.specs.Day.{left, box, under, isShown, discColour, disc, discs, day, charted};
 use crate::Extent;
 use crate::judge::count;
+use crate::lines::line_end;
 use crate::picture::frame;
 use crate::picture::spot;
 use crate::reach::of_wedge;
@@ -87,7 +88,7 @@ fn draw_samples(pane: &mut [u8], f: Frame, e: Extent, v: Vertices, input: &[u8],
 {
     let mut at = from;
     while at < input.len() {
-        let end = text::part_end(input, at, b'\n');
+        let end = line_end(input, at);
         let p = text::read_place(&input[at..end]);
         draw_sample(pane, f, e, v, p);
         at = end + 1;

@@ -1,6 +1,7 @@
 // The count of a whole input, as `minutes` has it.
 ghost use mathlib.Core.Path.{_≡_};
 ghost use Rattle.reports.specs.Minutes.{minutes};
+use crate::lines::line_end;
 use reports::Count;
 
 pub fn count(input: &[u8]) -> Count
@@ -9,7 +10,7 @@ pub fn count(input: &[u8]) -> Count
     let mut tally = reports::no_lines();
     let mut at = 0;
     while at < input.len() {
-        let end = text::part_end(input, at, b'\n');
+        let end = line_end(input, at);
         tally = reports::take_line(tally, &input[at..end]);
         at = end + 1;
     }

@@ -1,6 +1,7 @@
 // The day of samples that `minutes` counts, drawn: the wedge, the axes, and a disc for each sample.
 mod day;
 mod judge;
+mod lines;
 mod picture;
 mod reach;
 

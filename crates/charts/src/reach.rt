@@ -5,6 +5,7 @@ ghost use Rattle.text.specs.Fields.{lines};
 ghost use Rattle.text.specs.Lines.{each};
 ghost use Rattle.charts.specs.Scale.{larger, withPlace, ofWedge, withSample};
 use crate::Extent;
+use crate::lines::line_end;
 use text::Vertices;
 
 // The larger of two numbers, of which the first is not negative.
@@ -52,7 +53,7 @@ pub fn with_samples(e: Extent, input: &[u8], from: usize) -> Extent
     let mut reach = e;
     let mut at = from;
     while at < input.len() {
-        let end = text::part_end(input, at, b'\n');
+        let end = line_end(input, at);
         reach = with_sample(reach, &input[at..end]);
         at = end + 1;
     }

@@ -1,17 +1,15 @@
 -- `charts::day::draw_samples` draws the sample of a line a turn. Assumes nothing.
 use mathlib.Core.Path.{_≡_, refl, ap, _∙_}
-use Prim.Native.Nat.{_-_, _≤_}
-use native.Mathlib.Nat.{le-of-lt}
+use Prim.Native.Nat.{_-_}
 use native.Mathlib.Omega.{arith}
 use lib.ListN.{length, drop}
 use borrow.Author.Needs.{needs}
 use Rattle.text.specs.declared.Place.{Place}
 use Rattle.text.specs.Fields.{lines}
 use Rattle.text.specs.Lines.{each}
-use Rattle.text.proofs.Parting.{part-end-within}
 use Rattle.charts.specs.Day.{left, disc}
 use Rattle.charts.proofs.Drawn.{sampled, discs-each}
-use Rattle.charts.proofs.Lines.{taken, none-left}
+use Rattle.charts.proofs.Taking.{taken, none-left}
 use Rattle.charts.proofs.day.draw_samples.Statement.{statement}
 use Rattle.charts.proofs.day.draw_samples.Tie as tie
 
@@ -25,26 +23,17 @@ abbrev μ-loop : tie.MeasureT-loop
 loop-holds : tie.Need-loop-holds Inv-loop μ-loop
 loop-holds c = (refl, refl)
 
-part-end-requires : tie.Need-part-end-requires Inv-loop μ-loop
-part-end-requires c κs = search needs
-
--- a line ends within the input
-within : (c : tie.After-part-end Inv-loop μ-loop) → c .part-end .result ≤ length (c .before .before .before .before .before .args .input .now)
-within c =
-    omega (
-      arith,
-      c .part-end .ensures,
-      part-end-within 10 (c .before .before .before .before .before .args .input .now) (c .before .before .loop .at) (le-of-lt (c .before .loop-test .taken)),
-    )
+line-end-requires : tie.Need-line-end-requires Inv-loop μ-loop
+line-end-requires c κs = search needs
 
 sub-read-place : tie.Need-sub-read-place Inv-loop μ-loop
-sub-read-place c = omega (arith, c .part-end .ensures)
+sub-read-place c = search needs
 
 part-read-place-start : tie.Need-part-read-place-start Inv-loop μ-loop
-part-read-place-start c = omega (arith, c .part-end .ensures)
+part-read-place-start c = search needs
 
 part-read-place-end : tie.Need-part-read-place-end Inv-loop μ-loop
-part-read-place-end c = within c
+part-read-place-end c = search needs
 
 read-place-requires : tie.Need-read-place-requires Inv-loop μ-loop
 read-place-requires c κs = search needs
@@ -53,12 +42,12 @@ draw-sample-requires : tie.Need-draw-sample-requires Inv-loop μ-loop
 draw-sample-requires c κs = search needs
 
 add-at : tie.Need-add-at Inv-loop μ-loop
-add-at c = omega (arith, within (c .before .before .before .before .before .before))
+add-at c = search needs
 
 loop-less : tie.Need-loop-less Inv-loop μ-loop
 loop-less c =
     let ended = c .before .before .before .before .before .before in
-    omega (arith, ended .part-end .ensures, ended .before .loop-test .taken)
+    omega (arith, ended .line-end .ensures .0, ended .before .loop-test .taken)
 
 loop-again : tie.Need-loop-again Inv-loop μ-loop
 loop-again c =
@@ -70,7 +59,7 @@ loop-again c =
     let a = turn .before .before .before .before .args in
     let next = drawn .draw-sample .ensures ∙ ap (λ (p : Place). left (a .f) (disc (a .e) (a .v) p) (l .pane)) (placed .read-place .ensures) in (
       drawn .draw-sample .kept .0 ∙ l .inv .0,
-      taken (sampled (a .f) (a .e) (a .v)) (a .input .now) (l .at) (turn .loop-test .taken) (ended .part-end .ensures) next ∙ l .inv .1,
+      taken (sampled (a .f) (a .e) (a .v)) (a .input .now) (l .at) (turn .loop-test .taken) (ended .line-end .ensures .0) next ∙ l .inv .1,
     )
 
 same-length : tie.Need-same-length Inv-loop μ-loop
@@ -90,7 +79,7 @@ draw-samples-spec =
     Inv-loop
     μ-loop
     loop-holds
-    part-end-requires
+    line-end-requires
     sub-read-place
     part-read-place-start
     part-read-place-end

@@ -1,17 +1,15 @@
 -- `charts::judge::count` counts a line a turn. Assumes nothing.
 use mathlib.Core.Path.{_≡_, sym, ap, subst, _∙_}
-use Prim.Native.Nat.{_-_, _≤_}
-use native.Mathlib.Nat.{le-of-lt}
+use Prim.Native.Nat.{_-_}
 use native.Mathlib.Omega.{arith}
 use lib.ListN.{length, drop}
 use borrow.Author.Needs.{needs}
 use Rattle.text.specs.Fields.{lines}
 use Rattle.text.specs.Lines.{each}
-use Rattle.text.proofs.Parting.{part-end-within}
 use Rattle.reports.specs.declared.Tally.{Tally}
 use Rattle.reports.specs.Minutes.{fresh, takeLine}
 use Rattle.reports.proofs.Counting.{Few, take-few, minutes-is}
-use Rattle.charts.proofs.Lines.{taken, none-left}
+use Rattle.charts.proofs.Taking.{taken, none-left}
 use Rattle.charts.proofs.judge.count.Statement.{statement}
 use Rattle.charts.proofs.judge.count.Tie as tie
 
@@ -29,35 +27,26 @@ loop-holds c =
     let e = c .no-lines .ensures in
     (subst Few (sym e) (omega arith), ap (λ (t : Tally). each takeLine t (lines (c .before .before .args .input .now))) e)
 
-part-end-requires : tie.Need-part-end-requires Inv-loop μ-loop
-part-end-requires c κs = search needs
-
--- a line ends within the input
-within : (c : tie.After-part-end Inv-loop μ-loop) → c .part-end .result ≤ length (c .before .before .before .before .before .args .input .now)
-within c =
-    omega (
-      arith,
-      c .part-end .ensures,
-      part-end-within 10 (c .before .before .before .before .before .args .input .now) (c .before .before .loop .at) (le-of-lt (c .before .loop-test .taken)),
-    )
+line-end-requires : tie.Need-line-end-requires Inv-loop μ-loop
+line-end-requires c κs = search needs
 
 sub-take-line : tie.Need-sub-take-line Inv-loop μ-loop
-sub-take-line c = omega (arith, c .part-end .ensures)
+sub-take-line c = search needs
 
 part-take-line-start : tie.Need-part-take-line-start Inv-loop μ-loop
-part-take-line-start c = omega (arith, c .part-end .ensures)
+part-take-line-start c = search needs
 
 part-take-line-end : tie.Need-part-take-line-end Inv-loop μ-loop
-part-take-line-end c = within c
+part-take-line-end c = search needs
 
 take-line-requires : tie.Need-take-line-requires Inv-loop μ-loop
 take-line-requires c κs = c .before .before .before .loop .inv .0
 
 add-at : tie.Need-add-at Inv-loop μ-loop
-add-at c = omega (arith, within (c .before .before))
+add-at c = search needs
 
 loop-less : tie.Need-loop-less Inv-loop μ-loop
-loop-less c = omega (arith, c .before .before .part-end .ensures, c .before .before .before .loop-test .taken)
+loop-less c = omega (arith, c .before .before .line-end .ensures .0, c .before .before .before .loop-test .taken)
 
 loop-again : tie.Need-loop-again Inv-loop μ-loop
 loop-again c =
@@ -65,7 +54,7 @@ loop-again c =
     let l = turn .before .loop in
     let s = turn .before .before .before .before .args .input .now in (
       subst Few (sym (c .take-line .ensures)) (take-few (l .tally) _ (l .inv .0)),
-      taken takeLine s (l .at) (turn .loop-test .taken) (c .before .before .part-end .ensures) (c .take-line .ensures) ∙ l .inv .1,
+      taken takeLine s (l .at) (turn .loop-test .taken) (c .before .before .line-end .ensures .0) (c .take-line .ensures) ∙ l .inv .1,
     )
 
 returns : tie.Need-returns Inv-loop μ-loop
@@ -82,7 +71,7 @@ count-spec =
     μ-loop
     no-lines-requires
     loop-holds
-    part-end-requires
+    line-end-requires
     sub-take-line
     part-take-line-start
     part-take-line-end

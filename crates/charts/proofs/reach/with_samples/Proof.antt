@@ -1,15 +1,13 @@
 -- `charts::reach::with_samples` takes a line a turn. Assumes nothing.
 use mathlib.Core.Path.{_≡_, refl, _∙_}
-use Prim.Native.Nat.{_-_, _≤_}
-use native.Mathlib.Nat.{le-of-lt}
+use Prim.Native.Nat.{_-_}
 use native.Mathlib.Omega.{arith}
 use lib.ListN.{length, drop}
 use borrow.Author.Needs.{needs}
 use Rattle.text.specs.Fields.{lines}
 use Rattle.text.specs.Lines.{each}
-use Rattle.text.proofs.Parting.{part-end-within}
 use Rattle.charts.specs.Scale.{withSample}
-use Rattle.charts.proofs.Lines.{taken, none-left}
+use Rattle.charts.proofs.Taking.{taken, none-left}
 use Rattle.charts.proofs.reach.with_samples.Statement.{statement}
 use Rattle.charts.proofs.reach.with_samples.Tie as tie
 
@@ -22,41 +20,32 @@ abbrev μ-loop : tie.MeasureT-loop
 loop-holds : tie.Need-loop-holds Inv-loop μ-loop
 loop-holds c = refl
 
-part-end-requires : tie.Need-part-end-requires Inv-loop μ-loop
-part-end-requires c κs = search needs
-
--- a line ends within the input
-within : (c : tie.After-part-end Inv-loop μ-loop) → c .part-end .result ≤ length (c .before .before .before .before .args .input .now)
-within c =
-    omega (
-      arith,
-      c .part-end .ensures,
-      part-end-within 10 (c .before .before .before .before .args .input .now) (c .before .before .loop .at) (le-of-lt (c .before .loop-test .taken)),
-    )
+line-end-requires : tie.Need-line-end-requires Inv-loop μ-loop
+line-end-requires c κs = search needs
 
 sub-with-sample : tie.Need-sub-with-sample Inv-loop μ-loop
-sub-with-sample c = omega (arith, c .part-end .ensures)
+sub-with-sample c = search needs
 
 part-with-sample-start : tie.Need-part-with-sample-start Inv-loop μ-loop
-part-with-sample-start c = omega (arith, c .part-end .ensures)
+part-with-sample-start c = search needs
 
 part-with-sample-end : tie.Need-part-with-sample-end Inv-loop μ-loop
-part-with-sample-end c = within c
+part-with-sample-end c = search needs
 
 with-sample-requires : tie.Need-with-sample-requires Inv-loop μ-loop
 with-sample-requires c κs = search needs
 
 add-at : tie.Need-add-at Inv-loop μ-loop
-add-at c = omega (arith, within (c .before .before))
+add-at c = search needs
 
 loop-less : tie.Need-loop-less Inv-loop μ-loop
-loop-less c = omega (arith, c .before .before .part-end .ensures, c .before .before .before .loop-test .taken)
+loop-less c = omega (arith, c .before .before .line-end .ensures .0, c .before .before .before .loop-test .taken)
 
 loop-again : tie.Need-loop-again Inv-loop μ-loop
 loop-again c =
     let turn = c .before .before .before in
     let s = turn .before .before .before .args .input .now in
-    taken withSample s (turn .before .loop .at) (turn .loop-test .taken) (c .before .before .part-end .ensures) (c .with-sample .ensures) ∙ turn .before .loop .inv
+    taken withSample s (turn .before .loop .at) (turn .loop-test .taken) (c .before .before .line-end .ensures .0) (c .with-sample .ensures) ∙ turn .before .loop .inv
 
 returns : tie.Need-returns Inv-loop μ-loop
 returns c = none-left withSample (c .before .before .before .args .input .now) (c .before .loop .at) (omega (arith, c .loop-test .left)) ∙ c .before .loop .inv
@@ -68,7 +57,7 @@ with-samples-spec =
     Inv-loop
     μ-loop
     loop-holds
-    part-end-requires
+    line-end-requires
     sub-with-sample
     part-with-sample-start
     part-with-sample-end

@@ -5,7 +5,7 @@ use mathlib.Core.List.{List}
 use Prim.Native.Nat.{ℕ, _+_, _≤_}
 use native.Mathlib.Nat.{le-refl}
 use native.Mathlib.Omega.{arith}
-use lib.ListN.{length, take, drop, length-append}
+use lib.ListN.{length, take, drop}
 use lib.Seq.{sets, sets-eq, length-sets, take-append-le, take-all}
 use Rattle.refusals.specs.First.{first}
 use Rattle.layout.specs.Packed.{rowBytes}
@@ -13,10 +13,10 @@ use Rattle.framebuffer.specs.declared.Size.{Size}
 use Rattle.framebuffer.specs.Answer.{sized}
 use Rattle.framebuffer.specs.Description.{size, descriptionTests, frameTests}
 use Rattle.framebuffer.specs.Judged.{Described}
-use Rattle.netpbm.specs.Image.{header, pixels, imageBytes, imageLength}
+use Rattle.netpbm.specs.Image.{header, imageBytes, imageLength}
 use Rattle.netpbm.specs.Written.{writeTests, written}
 use Rattle.netpbm.proofs.Answers.{accepted-written}
-use Rattle.netpbm.proofs.Rows.{pixels-length}
+use Rattle.netpbm.proofs.Images.{file-length}
 use Rattle.text.specs.Show.{shown}
 use Rattle.reports.specs.declared.Count.{Count}
 use Rattle.reports.specs.Minutes.{counting, minutes, countLine}
@@ -39,9 +39,8 @@ length-is : imageLength picture ≡ 691215
 unfolding imageLength header size shown rowBytes
 length-is = refl
 
-file-length : (b : List ℕ) → length (imageBytes picture b) ≡ 691215
-unfolding imageBytes imageLength
-file-length b = length-append (header picture) (pixels picture b) ∙ ap (λ (n : ℕ). length (header picture) + n) (pixels-length picture b described) ∙ length-is
+bytes-are : (b : List ℕ) → length (imageBytes picture b) ≡ 691215
+bytes-are b = file-length picture b described ∙ length-is
 
 -- no test holds
 accepted : first (writeTests picture 691200 691215) ≡ 0
@@ -71,9 +70,9 @@ module _ (s pane out : List ℕ) {k : Count} {after : List ℕ} (e : _≡_ {A = 
   file-handed {r} {o} c l w =
       let file = imageBytes picture (left picture (day s) pane) in
       let v = w ∙ file-written after out (l ∙ frame) room ∙ ap (λ (b : List ℕ). (sized 0 691215, sets out 0 (imageBytes picture b))) (drawn c) in
-      let end : r .bytes ≡ length file = ap (λ (q : Size × List ℕ). q .0 .bytes) v ∙ sym (file-length (left picture (day s) pane)) in
+      let end : r .bytes ≡ length file = ap (λ (q : Size × List ℕ). q .0 .bytes) v ∙ sym (bytes-are (left picture (day s) pane)) in
       let bytes : o ≡ sets out 0 file = ap (λ (q : Size × List ℕ). q .1) v in
-      let fits : length file ≤ length out = omega (arith, file-length (left picture (day s) pane)) in
+      let fits : length file ≤ length out = omega (arith, bytes-are (left picture (day s) pane)) in
       record {
         pane = pane;
         sized = frame;

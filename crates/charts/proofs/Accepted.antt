@@ -1,0 +1,109 @@
+-- No call of a chart is refused, on a frame's bytes of the size that it takes: no place is out of the range of coordinates, and every colour is one of the depth.
+-- Assumes nothing.
+use mathlib.Core.Path.{_≡_, refl, sym}
+use mathlib.Core.Bool.{Bool, true, false, cond}
+use mathlib.Core.List.{List, [], _∷_, _++_}
+use Prim.Native.Nat.{ℕ, _+_, _-_, _≤_, suc}
+use native.Mathlib.Omega.{arith}
+use lib.Dec.{eqb, ltb}
+use lib.IntN.{ℤ, pos, negsuc, negℤ, natAbs, _+ℤ_, _-ℤ_}
+use lib.Signed.{ltZ}
+use borrow.Author.Tests.{le-leb, le-ltb}
+use Rattle.whole.proofs.Machine.{add-size}
+use Rattle.refusals.specs.First.{first}
+use Rattle.geometry.specs.declared.Point.{Point}
+use Rattle.geometry.specs.Bound.{isCoord, inBounds}
+use Rattle.line.specs.Answer.{endTests}
+use Rattle.triangle.specs.Answer.{vertexTests}
+use Rattle.circle.specs.Refusal.{circleTests}
+use Rattle.layout.specs.Packed.{rowBytes}
+use Rattle.framebuffer.specs.Description.{size, descriptionTests, frameTests, drawTests}
+use Rattle.framebuffer.specs.Drawing.{Drawing, callTests}
+use Rattle.drawing.specs.Drawing.{circleDrawing}
+use Rattle.framebuffer.proofs.Calls.{number-own}
+use Rattle.text.specs.declared.Place.{Place}
+use Rattle.text.specs.declared.Vertices.{Vertices}
+use Rattle.text.specs.Fields.{fields, lines, readPlace}
+use Rattle.reports.specs.Minutes.{wedge, behindFirst, insideOne}
+use Rattle.reports.specs.Corners.{corner1, corner2, corner3}
+use Rattle.charts.specs.declared.Extent.{Extent}
+use Rattle.charts.specs.Scale.{extent}
+use Rattle.charts.specs.Picture.{picture, inside, outside, spot}
+use Rattle.charts.specs.Day.{onPicture, wedgeDrawing, under, isShown, discCorner, discColour, disc, discs, day}
+use Rattle.charts.proofs.Scaling.{spot-near}
+
+-- each call answers 0
+pub data Done : List Drawing → Type 0 where
+  none : Done []
+  one : {d : Drawing} {ds : List Drawing} → first (callTests picture 691200 d) ≡ 0 → Done ds → Done (d ∷ ds)
+
+done-append : {ds es : List Drawing} → Done ds → Done es → Done (ds ++ es)
+done-append none e = e
+done-append (one h d) e = one h (done-append d e)
+
+-- ---- places near the frame
+near-coord : (z : ℤ) → natAbs z ≤ 130500 → isCoord z ≡ true
+near-coord (pos n) h = le-leb n 131071 (omega arith)
+near-coord (negsuc n) h = rw (le-leb n 131071 (omega arith))
+
+near-edge : (z : ℤ) → natAbs z ≤ 130500 → ltZ (pos 131072) (z +ℤ pos 3) ≡ false
+near-edge (pos n) h = le-ltb 131072 (n + 3) (omega arith)
+near-edge (negsuc n) h = by (ltb 3 (suc n)) (suc n - 4) (3 - suc n) (omega arith)
+  where
+    by : (t : Bool) (a b : ℕ) → b ≤ 131072 → ltZ (pos 131072) (cond t (negsuc a) (pos b)) ≡ false
+    by true a b k = refl
+    by false a b k = le-ltb 131072 b k
+
+spot-within : (e : Extent) (x y : ℤ) → inBounds (spot e x y) ≡ true
+spot-within e x y =
+    let n = spot-near e x y refl in
+    let h = near-coord (spot e x y .0) (omega arith) in
+    let k = near-coord (spot e x y .1) (omega arith) in
+    rw (h, k)
+
+-- ---- a call
+module _ (d : Drawing) where
+  accepted : first (drawTests picture 691200 (d .colour)) ≡ 0 → first (d .own) ≡ 0 → first (callTests picture 691200 d) ≡ 0
+  accepted h k = sym (number-own picture 691200 (d .colour) (d .own) (sym h) refl (sym k))
+
+three-within : (p q r : Point) → inBounds p ≡ true → inBounds q ≡ true → inBounds r ≡ true → first (vertexTests p q r) ≡ 0
+unfolding vertexTests
+three-within p q r f g h = rw (f, g, h)
+
+disc-within : (e : Extent) (p : Place) → first (circleTests (discCorner e p) 3) ≡ 0
+unfolding circleTests
+disc-within e p =
+    let n = spot-near e (p .x) (p .y) refl in
+    let x : natAbs (spot e (p .x) (p .y) .0 -ℤ pos 1) ≤ 130500 = omega (arith, add-size (spot e (p .x) (p .y) .0) (negℤ (pos 1)), n .0) in
+    let y : natAbs (spot e (p .x) (p .y) .1 -ℤ pos 1) ≤ 130500 = omega (arith, add-size (spot e (p .x) (p .y) .1) (negℤ (pos 1)), n .1) in
+    rw (near-coord (discCorner e p .0) x, near-coord (discCorner e p .1) y, near-edge (discCorner e p .0) x, near-edge (discCorner e p .1) y)
+
+either : (t : Bool) → first (drawTests picture 691200 (cond t outside inside)) ≡ 0
+unfolding drawTests frameTests descriptionTests size rowBytes
+either true = refl
+either false = refl
+
+-- ---- the day
+under-done : (e : Extent) (v : Vertices) → Done (under e v)
+unfolding under drawTests frameTests descriptionTests size rowBytes vertexTests endTests
+under-done e v =
+    one refl
+    (one (accepted (wedgeDrawing e v) refl (three-within (onPicture e (corner1 v)) (onPicture e (corner2 v)) (onPicture e (corner3 v))
+    (spot-within e (v .x1) (v .y1)) (spot-within e (v .x2) (v .y2)) (spot-within e (v .x3) (v .y3))))
+    (one refl (one refl (one refl (one refl (one refl (one refl none)))))))
+
+disc-done : (e : Extent) (v : Vertices) (p : Place) → Done (disc e v p)
+unfolding disc
+disc-done e v p = by (isShown p)
+  where
+    by : (t : Bool) → Done (cond t (circleDrawing (discCorner e p) 3 (discColour v p) ∷ []) [])
+    by true = one (accepted (circleDrawing (discCorner e p) 3 (discColour v p)) (either (eqb (insideOne v p) 0)) (disc-within e p)) none
+    by false = none
+
+discs-done : (e : Extent) (v : Vertices) (ls : List (List ℕ)) → Done (discs e v ls)
+discs-done e v [] = none
+discs-done e v (l ∷ ls) = done-append (disc-done e v (readPlace (fields l))) (discs-done e v ls)
+
+pub none-refused : (s : List ℕ) → Done (day s)
+unfolding day
+none-refused s = done-append (under-done (extent s) (wedge s)) (discs-done (extent s) (wedge s) (lines (behindFirst s)))

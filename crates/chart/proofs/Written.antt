@@ -5,7 +5,7 @@ use mathlib.Core.List.{List}
 use Prim.Native.Nat.{ℕ, _+_, _≤_}
 use native.Mathlib.Nat.{le-refl}
 use native.Mathlib.Omega.{arith}
-use lib.ListN.{length, take, drop}
+use lib.ListN.{length, take, drop, replicate, length-replicate}
 use lib.Seq.{sets, sets-eq, length-sets, take-append-le, take-all}
 use Rattle.refusals.specs.First.{first}
 use Rattle.layout.specs.Packed.{rowBytes}
@@ -52,8 +52,8 @@ file-written b out e g =
     sym (accepted-written picture b out (sym accepted ∙ ap₂ (λ (m n : ℕ). first (writeTests picture m n)) (sym e) (sym g)) (ap (sized 0) (sym length-is)) refl refl)
 
 -- ---- what is handed over
-module _ (s pane out : List ℕ) {k : Count} {after : List ℕ} (e : _≡_ {A = Count × List ℕ} (k, after) (charted s pane))
-    (frame : length pane ≡ 691200) (room : length out ≡ 691215) where
+module _ (s before out : List ℕ) {k : Count} {after : List ℕ} (e : _≡_ {A = Count × List ℕ} (k, after) (charted s before))
+    (zeros : before ≡ replicate 691200 0) (room : length out ≡ 691215) where
   counted : k ≡ minutes s
   unfolding charted
   counted = ap (λ (q : Count × List ℕ). q .0) e
@@ -61,36 +61,39 @@ module _ (s pane out : List ℕ) {k : Count} {after : List ℕ} (e : _≡_ {A = 
   chosen : {t : Bool} → counting k ≡ t → counting (minutes s) ≡ t
   chosen c = ap counting (sym counted) ∙ c
 
-  drawn : counting k ≡ true → after ≡ left picture (day s) pane
+  drawn : counting k ≡ true → after ≡ left picture (day s) before
   unfolding charted
-  drawn c = ap (λ (q : Count × List ℕ). q .1) e ∙ ap (λ (t : Bool). cond t (left picture (day s) pane) pane) (chosen c)
+  drawn c = ap (λ (q : Count × List ℕ). q .1) e ∙ ap (λ (t : Bool). cond t (left picture (day s) before) before) (chosen c)
 
-  pub file-handed : {r : Size} {o : List ℕ} → counting k ≡ true → length after ≡ length pane → _≡_ {A = Size × List ℕ} (r, o) (written picture after out)
+  -- what is to be said, by the pane's bytes
+  over : List ℕ → List ℕ
+  over b = cond (counting (minutes s)) (imageBytes picture (left picture (day s) b)) (countLine (minutes s))
+
+  pub file-handed : {r : Size} {o : List ℕ} → counting k ≡ true → length after ≡ length before → _≡_ {A = Size × List ℕ} (r, o) (written picture after out)
       → Handed s (record { good = true; end = r .bytes }) o
+  unfolding over
   file-handed {r} {o} c l w =
-      let file = imageBytes picture (left picture (day s) pane) in
-      let v = w ∙ file-written after out (l ∙ frame) room ∙ ap (λ (b : List ℕ). (sized 0 691215, sets out 0 (imageBytes picture b))) (drawn c) in
-      let end : r .bytes ≡ length file = ap (λ (q : Size × List ℕ). q .0 .bytes) v ∙ sym (bytes-are (left picture (day s) pane)) in
+      let file = imageBytes picture (left picture (day s) before) in
+      let frame = l ∙ ap length zeros ∙ length-replicate {A = ℕ} 691200 0 in
+      let v = w ∙ file-written after out frame room ∙ ap (λ (b : List ℕ). (sized 0 691215, sets out 0 (imageBytes picture b))) (drawn c) in
+      let end : r .bytes ≡ length file = ap (λ (q : Size × List ℕ). q .0 .bytes) v ∙ sym (bytes-are (left picture (day s) before)) in
       let bytes : o ≡ sets out 0 file = ap (λ (q : Size × List ℕ). q .1) v in
-      let fits : length file ≤ length out = omega (arith, bytes-are (left picture (day s) pane)) in
+      let fits : length file ≤ length out = omega (arith, bytes-are (left picture (day s) before)) in
       record {
-        pane = pane;
-        sized = frame;
         fits = omega (arith, ap length bytes, length-sets out 0 file);
         good = sym (chosen c);
-        bytes = ap₂ take end bytes ∙ front out file fits ∙ sym (ap (λ (t : Bool). cond t file (countLine (minutes s))) (chosen c));
+        bytes = ap₂ take end bytes ∙ front out file fits ∙ sym (ap (λ (t : Bool). cond t file (countLine (minutes s))) (chosen c)) ∙ ap over zeros;
       }
 
   pub line-handed : {n : ℕ} {o : List ℕ} → counting k ≡ false → n ≡ 0 + length (countLine k) → o ≡ sets out 0 (countLine k) → n ≤ 41
       → Handed s (record { good = false; end = n }) o
+  unfolding over
   line-handed {n} {o} c m w most =
-      let file = imageBytes picture (left picture (day s) pane) in
+      let file = imageBytes picture (left picture (day s) before) in
       let end : n ≡ length (countLine k) = omega arith in
       record {
-        pane = pane;
-        sized = frame;
         fits = omega (arith, ap length w, length-sets out 0 (countLine k));
         good = sym (chosen c);
         bytes = ap₂ take end w ∙ front out (countLine k) (omega arith) ∙ ap countLine counted
-            ∙ sym (ap (λ (t : Bool). cond t file (countLine (minutes s))) (chosen c));
+            ∙ sym (ap (λ (t : Bool). cond t file (countLine (minutes s))) (chosen c)) ∙ ap over zeros;
       }

@@ -2,7 +2,7 @@
 // the definition `day` of the crate `charts`. Of an input that `minutes` does not count its line is written to standard error, and nothing to standard output.
 ghost use mathlib.Core.Path.{_≡_};
 ghost use Prim.Native.Nat.{_≤_};
-ghost use lib.ListN.{length};
+ghost use lib.ListN.{length, replicate};
 ghost use Rattle.chart.specs.Told.{Handed};
 
 // How many bytes of the input there are, and whether a read failed.
@@ -37,7 +37,7 @@ fn read_all(input: &mut [u8]) -> Input
 
 // Puts what is to be said of an input into the output.
 fn tell(input: &[u8], pane: &mut [u8], out: &mut [u8]) -> Told
-    requires { ⌜ (length (now pane) ≡ 691200) × (length (now out) ≡ 691215) ⌝ }
+    requires { ⌜ (now pane ≡ replicate 691200 0) × (length (now out) ≡ 691215) ⌝ }
     ensures { λ r. ⌜ Handed (now (input .entry)) r (now (out .exit)) ⌝ }
 {
     let count = charts::draw_day(pane, input);
@@ -67,7 +67,7 @@ fn say(input: &[u8], out: &[u8], t: Told)
 }
 
 fn run(input: &mut [u8], pane: &mut [u8], out: &mut [u8])
-    requires { ⌜ (length (now pane) ≡ 691200) × (length (now out) ≡ 691215) ⌝ }
+    requires { ⌜ (now pane ≡ replicate 691200 0) × (length (now out) ≡ 691215) ⌝ }
 {
     let came = read_all(input);
     let end = came.end;

@@ -21,7 +21,7 @@ use Rattle.text.specs.Show.{shown}
 use Rattle.reports.specs.declared.Count.{Count}
 use Rattle.reports.specs.Minutes.{counting, minutes, countLine}
 use Rattle.charts.specs.Picture.{picture}
-use Rattle.charts.specs.Day.{left, day, charted}
+use Rattle.charts.specs.Day.{leaves, day, charted}
 use Rattle.chart.specs.Told.{Handed}
 
 -- a text at the front of a buffer
@@ -61,24 +61,24 @@ module _ (s before out : List ℕ) {k : Count} {after : List ℕ} (e : _≡_ {A 
   chosen : {t : Bool} → counting k ≡ t → counting (minutes s) ≡ t
   chosen c = ap counting (sym counted) ∙ c
 
-  drawn : counting k ≡ true → after ≡ left picture (day s) before
+  drawn : counting k ≡ true → after ≡ leaves picture (day s) before
   unfolding charted
-  drawn c = ap (λ (q : Count × List ℕ). q .1) e ∙ ap (λ (t : Bool). cond t (left picture (day s) before) before) (chosen c)
+  drawn c = ap (λ (q : Count × List ℕ). q .1) e ∙ ap (λ (t : Bool). cond t (leaves picture (day s) before) before) (chosen c)
 
   -- what is to be said, by the pane's bytes
   over : List ℕ → List ℕ
-  over b = cond (counting (minutes s)) (imageBytes picture (left picture (day s) b)) (countLine (minutes s))
+  over b = cond (counting (minutes s)) (imageBytes picture (leaves picture (day s) b)) (countLine (minutes s))
 
   pub file-handed : {r : Size} {o : List ℕ} → counting k ≡ true → length after ≡ length before → _≡_ {A = Size × List ℕ} (r, o) (written picture after out)
       → Handed s (record { good = true; end = r .bytes }) o
   unfolding over
   file-handed {r} {o} c l w =
-      let file = imageBytes picture (left picture (day s) before) in
+      let file = imageBytes picture (leaves picture (day s) before) in
       let frame = l ∙ ap length zeros ∙ length-replicate {A = ℕ} 691200 0 in
       let v = w ∙ file-written after out frame room ∙ ap (λ (b : List ℕ). (sized 0 691215, sets out 0 (imageBytes picture b))) (drawn c) in
-      let end : r .bytes ≡ length file = ap (λ (q : Size × List ℕ). q .0 .bytes) v ∙ sym (bytes-are (left picture (day s) before)) in
+      let end : r .bytes ≡ length file = ap (λ (q : Size × List ℕ). q .0 .bytes) v ∙ sym (bytes-are (leaves picture (day s) before)) in
       let bytes : o ≡ sets out 0 file = ap (λ (q : Size × List ℕ). q .1) v in
-      let fits : length file ≤ length out = omega (arith, bytes-are (left picture (day s) before)) in
+      let fits : length file ≤ length out = omega (arith, bytes-are (leaves picture (day s) before)) in
       record {
         fits = omega (arith, ap length bytes, length-sets out 0 file);
         good = sym (chosen c);
@@ -89,7 +89,7 @@ module _ (s before out : List ℕ) {k : Count} {after : List ℕ} (e : _≡_ {A 
       → Handed s (record { good = false; end = n }) o
   unfolding over
   line-handed {n} {o} c m w most =
-      let file = imageBytes picture (left picture (day s) before) in
+      let file = imageBytes picture (leaves picture (day s) before) in
       let end : n ≡ length (countLine k) = omega arith in
       record {
         fits = omega (arith, ap length w, length-sets out 0 (countLine k));

@@ -13,35 +13,35 @@ use Rattle.text.specs.declared.Vertices.{Vertices}
 use Rattle.text.specs.Fields.{fields, readPlace}
 use Rattle.text.specs.Lines.{each}
 use Rattle.charts.specs.declared.Extent.{Extent}
-use Rattle.charts.specs.Day.{left, isShown, discCorner, discColour, disc, discs}
+use Rattle.charts.specs.Day.{leaves, isShown, discCorner, discColour, disc, discs}
 
 -- what a call ensures, of the bytes alone
 pub bytes-of : {r : Drawn} {b : List ℕ} {p : Drawn × List ℕ} → _≡_ {A = Drawn × List ℕ} (r, b) p → b ≡ p .1
 bytes-of e = ap (λ (q : Drawn × List ℕ). q .1) e
 
 module _ (f : Frame) where
-  pub left-append : (ds es : List Drawing) (b : List ℕ) → left f (ds ++ es) b ≡ left f es (left f ds b)
-  left-append [] es b = refl
-  left-append (d ∷ ds) es b = left-append ds es (outcome f (wholeWindow f) d b .1)
+  pub leaves-append : (ds es : List Drawing) (b : List ℕ) → leaves f (ds ++ es) b ≡ leaves f es (leaves f ds b)
+  leaves-append [] es b = refl
+  leaves-append (d ∷ ds) es b = leaves-append ds es (outcome f (wholeWindow f) d b .1)
 
   -- a line's disc
   abbrev pub sampled : Extent → Vertices → List ℕ → List ℕ → List ℕ
-  sampled e v b line = left f (disc e v (readPlace (fields line))) b
+  sampled e v b line = leaves f (disc e v (readPlace (fields line))) b
 
-  pub discs-each : (e : Extent) (v : Vertices) (ls : List (List ℕ)) (b : List ℕ) → each (sampled e v) b ls ≡ left f (discs e v ls) b
+  pub discs-each : (e : Extent) (v : Vertices) (ls : List (List ℕ)) (b : List ℕ) → each (sampled e v) b ls ≡ leaves f (discs e v ls) b
   discs-each e v [] b = refl
   discs-each e v (l ∷ ls) b =
-      discs-each e v ls (sampled e v b l) ∙ sym (left-append (disc e v (readPlace (fields l))) (discs e v ls) b)
+      discs-each e v ls (sampled e v b l) ∙ sym (leaves-append (disc e v (readPlace (fields l))) (discs e v ls) b)
 
   -- a sample's disc, where it is on the picture and where not
   module _ (e : Extent) (v : Vertices) (p : Place) (b : List ℕ) where
-    pub shown : isShown p ≡ true → outcome f (wholeWindow f) (circleDrawing (discCorner e p) 3 (discColour v p)) b .1 ≡ left f (disc e v p) b
+    pub shown : isShown p ≡ true → outcome f (wholeWindow f) (circleDrawing (discCorner e p) 3 (discColour v p)) b .1 ≡ leaves f (disc e v p) b
     unfolding disc
-    shown h = sym (ap (λ (t : Bool). left f (cond t (circleDrawing (discCorner e p) 3 (discColour v p) ∷ []) []) b) h)
+    shown h = sym (ap (λ (t : Bool). leaves f (cond t (circleDrawing (discCorner e p) 3 (discColour v p) ∷ []) []) b) h)
 
-    pub hidden : isShown p ≡ false → b ≡ left f (disc e v p) b
+    pub hidden : isShown p ≡ false → b ≡ leaves f (disc e v p) b
     unfolding disc
-    hidden h = sym (ap (λ (t : Bool). left f (cond t (circleDrawing (discCorner e p) 3 (discColour v p) ∷ []) []) b) h)
+    hidden h = sym (ap (λ (t : Bool). leaves f (cond t (circleDrawing (discCorner e p) 3 (discColour v p) ∷ []) []) b) h)
 
 -- ---- three tests, asked one after the other
 module _ (a b c : Bool) where

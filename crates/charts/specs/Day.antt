@@ -22,9 +22,9 @@ use Rattle.charts.specs.Scale.{extent}
 use Rattle.charts.specs.Picture.{picture, ground, filling, ink, inside, outside, spot}
 
 -- ---- what calls leave of a frame's bytes, one after the other
-abbrev pub left : Frame → List Drawing → List ℕ → List ℕ
-left f [] b = b
-left f (d ∷ ds) b = left f ds (outcome f (wholeWindow f) d b .1)
+abbrev pub leaves : Frame → List Drawing → List ℕ → List ℕ
+leaves f [] b = b
+leaves f (d ∷ ds) b = leaves f ds (outcome f (wholeWindow f) d b .1)
 
 -- ---- the calls
 -- a rectangle from one corner to another, as two triangles
@@ -74,4 +74,4 @@ day s = dayOver (extent s) (wedge s) s
 
 -- what is answered, and left of the bytes: what `minutes` counts, and the day, if there is nothing wrong with it
 unfoldable pub charted : List ℕ → List ℕ → Count × List ℕ
-charted s b = (minutes s, cond (counting (minutes s)) (left picture (day s) b) b)
+charted s b = (minutes s, cond (counting (minutes s)) (leaves picture (day s) b) b)

@@ -4,7 +4,7 @@ ghost use Prim.Native.Nat.{_<_};
 ghost use lib.ListN.{drop};
 ghost use Rattle.text.specs.Fields.{lines};
 ghost use Rattle.charts.specs.Picture.{picture};
-ghost use Rattle.charts.specs.Day.{left, box, under, isShown, discColour, disc, discs, day, charted};
+ghost use Rattle.charts.specs.Day.{leaves, box, under, isShown, discColour, disc, discs, day, charted};
 use crate::Extent;
 use crate::judge::count;
 use crate::lines::line_end;
@@ -30,7 +30,7 @@ const OUTSIDE: u32 = 0xD04010;
 
 // A rectangle, as two triangles.
 fn draw_box(pane: &mut [u8], f: Frame, p: Point, q: Point, colour: u32)
-    ensures { λ r. ⌜ now (pane .exit) ≡ left f (box p q colour) (now (pane .entry)) ⌝ }
+    ensures { λ r. ⌜ now (pane .exit) ≡ leaves f (box p q colour) (now (pane .entry)) ⌝ }
 {
     drawing::draw_triangle(pane, f, p, Point(q.0, p.1), q, colour);
     drawing::draw_triangle(pane, f, p, Point(p.0, q.1), q, colour);
@@ -39,7 +39,7 @@ fn draw_box(pane: &mut [u8], f: Frame, p: Point, q: Point, colour: u32)
 // All but the samples. The margins go over what of the wedge lies below 0.
 fn draw_under(pane: &mut [u8], f: Frame, e: Extent, v: Vertices)
     requires { ⌜ (0 < e .second) × (0 < e .load) ⌝ }
-    ensures { λ r. ⌜ now (pane .exit) ≡ left f (under e v) (now (pane .entry)) ⌝ }
+    ensures { λ r. ⌜ now (pane .exit) ≡ leaves f (under e v) (now (pane .entry)) ⌝ }
 {
     let a = spot(e, v.x1, v.y1);
     let b = spot(e, v.x2, v.y2);
@@ -72,7 +72,7 @@ fn disc_colour(v: Vertices, p: Place) -> u32
 // A sample's disc.
 fn draw_sample(pane: &mut [u8], f: Frame, e: Extent, v: Vertices, p: Place)
     requires { ⌜ (0 < e .second) × (0 < e .load) ⌝ }
-    ensures { λ r. ⌜ now (pane .exit) ≡ left f (disc e v p) (now (pane .entry)) ⌝ }
+    ensures { λ r. ⌜ now (pane .exit) ≡ leaves f (disc e v p) (now (pane .entry)) ⌝ }
 {
     if is_shown(p) {
         let s = spot(e, p.x, p.y);
@@ -84,7 +84,7 @@ fn draw_sample(pane: &mut [u8], f: Frame, e: Extent, v: Vertices, p: Place)
 // The samples of the lines from a place on.
 fn draw_samples(pane: &mut [u8], f: Frame, e: Extent, v: Vertices, input: &[u8], from: usize)
     requires { ⌜ (0 < e .second) × (0 < e .load) ⌝ }
-    ensures { λ r. ⌜ now (pane .exit) ≡ left f (discs e v (lines (drop from (now (input .entry))))) (now (pane .entry)) ⌝ }
+    ensures { λ r. ⌜ now (pane .exit) ≡ leaves f (discs e v (lines (drop from (now (input .entry))))) (now (pane .entry)) ⌝ }
 {
     let mut at = from;
     while at < input.len() {
@@ -97,7 +97,7 @@ fn draw_samples(pane: &mut [u8], f: Frame, e: Extent, v: Vertices, input: &[u8],
 
 // The day of an input that `minutes` counts.
 fn draw_good(pane: &mut [u8], input: &[u8])
-    ensures { λ r. ⌜ now (pane .exit) ≡ left picture (day (now (input .entry))) (now (pane .entry)) ⌝ }
+    ensures { λ r. ⌜ now (pane .exit) ≡ leaves picture (day (now (input .entry))) (now (pane .entry)) ⌝ }
 {
     let wedge = text::first_vertices(input);
     let from = text::find(input, b'\n') + 1;

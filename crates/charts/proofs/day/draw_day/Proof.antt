@@ -4,7 +4,7 @@ use mathlib.Core.Bool.{Bool, cond}
 use borrow.Author.Needs.{needs}
 use Rattle.reports.specs.Minutes.{counting}
 use Rattle.charts.specs.Picture.{picture}
-use Rattle.charts.specs.Day.{left, day, charted}
+use Rattle.charts.specs.Day.{leaves, day, charted}
 use Rattle.charts.proofs.day.draw_day.Statement.{statement}
 use Rattle.charts.proofs.day.draw_day.Tie as tie
 
@@ -29,7 +29,7 @@ returns c =
     let a = counted .before .before .before .args in
     let k = counted .count .ensures in
     let good = ap counting (sym k) ∙ sym (asked .is-counting .ensures) ∙ drawn .before .before .if1 .taken in
-    let after = drawn .draw-good .ensures ∙ sym (ap (λ (t : Bool). cond t (left picture (day (a .input .now)) (a .pane .now)) (a .pane .now)) good) in
+    let after = drawn .draw-good .ensures ∙ sym (ap (λ (t : Bool). cond t (leaves picture (day (a .input .now)) (a .pane .now)) (a .pane .now)) good) in
     λ i. (k i, after i)
 
 returns-2 : tie.Need-returns-2
@@ -39,7 +39,7 @@ returns-2 c =
     let a = counted .before .before .before .args in
     let k = counted .count .ensures in
     let bad = ap counting (sym k) ∙ sym (c .before .is-counting .ensures) ∙ c .if1 .left in
-    let after = sym (ap (λ (t : Bool). cond t (left picture (day (a .input .now)) (a .pane .now)) (a .pane .now)) bad) in
+    let after = sym (ap (λ (t : Bool). cond t (leaves picture (day (a .input .now)) (a .pane .now)) (a .pane .now)) bad) in
     λ i. (k i, after i)
 
 pub draw-day-spec : {M : Type 1} → statement M

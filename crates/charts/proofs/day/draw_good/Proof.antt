@@ -10,8 +10,8 @@ use Rattle.text.proofs.Parting.{until-within}
 use Rattle.reports.specs.Minutes.{wedge, behindFirst}
 use Rattle.charts.specs.Scale.{ofWedge, withSample, extent}
 use Rattle.charts.specs.Picture.{picture}
-use Rattle.charts.specs.Day.{left, under, discs, day}
-use Rattle.charts.proofs.Drawn.{left-append}
+use Rattle.charts.specs.Day.{leaves, under, discs, day}
+use Rattle.charts.proofs.Drawn.{leaves-append}
 use Rattle.charts.proofs.Scaling.{Long, wedge-long, samples-long}
 use Rattle.charts.proofs.day.draw_good.Statement.{statement}
 use Rattle.charts.proofs.day.draw_good.Tie as tie
@@ -66,10 +66,10 @@ returns c =
     let v = read .first-vertices .ensures in
     let from = found .find .ensures in
     let e = reach .with-samples .ensures ∙ (λ i. each withSample ((reach .before .of-wedge .ensures ∙ ap ofWedge v) i) (lines (drop (from i + 1) s))) in
-    let below = ground .draw-under .ensures ∙ (λ i. left (f i) (under (e i) (v i)) (a .pane .now)) in
+    let below = ground .draw-under .ensures ∙ (λ i. leaves (f i) (under (e i) (v i)) (a .pane .now)) in
     samples .draw-samples .ensures
-    ∙ (λ i. left (f i) (discs (e i) (v i) (lines (drop (from i + 1) s))) (below i))
-    ∙ sym (left-append picture (under (extent s) (wedge s)) (discs (extent s) (wedge s) (lines (behindFirst s))) (a .pane .now))
+    ∙ (λ i. leaves (f i) (discs (e i) (v i) (lines (drop (from i + 1) s))) (below i))
+    ∙ sym (leaves-append picture (under (extent s) (wedge s)) (discs (extent s) (wedge s) (lines (behindFirst s))) (a .pane .now))
 
 pub draw-good-spec : {M : Type 1} → statement M
 draw-good-spec =

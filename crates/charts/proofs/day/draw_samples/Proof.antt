@@ -7,7 +7,7 @@ use borrow.Author.Needs.{needs}
 use Rattle.text.specs.declared.Place.{Place}
 use Rattle.text.specs.Fields.{lines}
 use Rattle.text.specs.Lines.{each}
-use Rattle.charts.specs.Day.{left, disc}
+use Rattle.charts.specs.Day.{leaves, disc}
 use Rattle.charts.proofs.Drawn.{sampled, discs-each}
 use Rattle.charts.proofs.Taking.{taken, none-left}
 use Rattle.charts.proofs.day.draw_samples.Statement.{statement}
@@ -57,7 +57,7 @@ loop-again c =
     let turn = ended .before in
     let l = turn .before .loop in
     let a = turn .before .before .before .before .args in
-    let next = drawn .draw-sample .ensures ∙ ap (λ (p : Place). left (a .f) (disc (a .e) (a .v) p) (l .pane)) (placed .read-place .ensures) in (
+    let next = drawn .draw-sample .ensures ∙ ap (λ (p : Place). leaves (a .f) (disc (a .e) (a .v) p) (l .pane)) (placed .read-place .ensures) in (
       drawn .draw-sample .kept .0 ∙ l .inv .0,
       taken (sampled (a .f) (a .e) (a .v)) (a .input .now) (l .at) (turn .loop-test .taken) (ended .line-end .ensures .0) next ∙ l .inv .1,
     )

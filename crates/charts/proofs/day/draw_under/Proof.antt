@@ -9,7 +9,7 @@ use Rattle.framebuffer.specs.Drawing.{outcome}
 use Rattle.framebuffer.specs.Window.{wholeWindow}
 use Rattle.drawing.specs.Drawing.{lineDrawing, triangleDrawing}
 use Rattle.charts.specs.Picture.{ground, filling, ink, spot}
-use Rattle.charts.specs.Day.{left, box, under}
+use Rattle.charts.specs.Day.{leaves, box, under}
 use Rattle.charts.proofs.Drawn.{bytes-of}
 use Rattle.charts.proofs.day.draw_under.Statement.{statement}
 use Rattle.charts.proofs.day.draw_under.Tie as tie
@@ -65,10 +65,10 @@ returns c =
     let filled = bytes-of (one .fill .ensures) in
     let wedge = bytes-of (two .draw-triangle .ensures)
     ∙ (λ i. outcome (a .f) (wholeWindow (a .f)) (triangleDrawing (p1 i) (p2 i) (p3 i) filling) (filled i) .1) in
-    let side = three .draw-box .ensures ∙ ap (left (a .f) (box (pos 0, pos 0) (pos 23, pos 359) ground)) wedge in
-    let foot = four .draw-box2 .ensures ∙ ap (left (a .f) (box (pos 0, pos 336) (pos 639, pos 359) ground)) side in
-    let seconds = bytes-of (five .draw-line .ensures) ∙ ap (left (a .f) (lineDrawing (pos 24, pos 335) (pos 624, pos 335) ink ∷ [])) foot in
-    bytes-of (six .draw-line2 .ensures) ∙ ap (left (a .f) (lineDrawing (pos 24, pos 335) (pos 24, pos 15) ink ∷ [])) seconds
+    let side = three .draw-box .ensures ∙ ap (leaves (a .f) (box (pos 0, pos 0) (pos 23, pos 359) ground)) wedge in
+    let foot = four .draw-box2 .ensures ∙ ap (leaves (a .f) (box (pos 0, pos 336) (pos 639, pos 359) ground)) side in
+    let seconds = bytes-of (five .draw-line .ensures) ∙ ap (leaves (a .f) (lineDrawing (pos 24, pos 335) (pos 624, pos 335) ink ∷ [])) foot in
+    bytes-of (six .draw-line2 .ensures) ∙ ap (leaves (a .f) (lineDrawing (pos 24, pos 335) (pos 24, pos 15) ink ∷ [])) seconds
 
 pub draw-under-spec : {M : Type 1} → statement M
 draw-under-spec =

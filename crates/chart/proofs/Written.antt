@@ -3,10 +3,9 @@ use mathlib.Core.Path.{_≡_, refl, sym, ap, ap₂, _∙_}
 use mathlib.Core.Bool.{Bool, true, false, cond}
 use mathlib.Core.List.{List}
 use Prim.Native.Nat.{ℕ, _+_, _≤_}
-use native.Mathlib.Nat.{le-refl}
 use native.Mathlib.Omega.{arith}
-use lib.ListN.{length, take, drop, replicate, length-replicate}
-use lib.Seq.{sets, sets-eq, length-sets, take-append-le, take-all}
+use lib.ListN.{length, take, replicate, length-replicate}
+use lib.Seq.{sets, length-sets}
 use Rattle.refusals.specs.First.{first}
 use Rattle.layout.specs.Packed.{rowBytes}
 use Rattle.framebuffer.specs.declared.Size.{Size}
@@ -18,18 +17,12 @@ use Rattle.netpbm.specs.Written.{writeTests, written}
 use Rattle.netpbm.proofs.Answers.{accepted-written}
 use Rattle.netpbm.proofs.Images.{file-length}
 use Rattle.text.specs.Show.{shown}
+use Rattle.streams.proofs.Refilling.{front}
 use Rattle.reports.specs.declared.Count.{Count}
 use Rattle.reports.specs.Minutes.{counting, minutes, countLine}
 use Rattle.charts.specs.Picture.{picture}
 use Rattle.charts.specs.Day.{leaves, day, charted}
 use Rattle.chart.specs.Told.{Handed}
-
--- a text at the front of a buffer
-front : (l vs : List ℕ) → length vs ≤ length l → take (length vs) (sets l 0 vs) ≡ vs
-front l vs h =
-    ap (take (length vs)) (sets-eq vs l 0 (omega arith))
-    ∙ take-append-le (length vs) vs (drop (0 + length vs) l) (le-refl (length vs))
-    ∙ take-all (length vs) vs (le-refl (length vs))
 
 -- ---- the file of the picture
 described : Described picture

@@ -1,9 +1,10 @@
-// The count of a whole input, as `minutes` has it.
+// Whether an input is drawn: what `minutes` counts of it.
 ghost use mathlib.Core.Path.{_≡_};
 ghost use Rattle.reports.specs.Minutes.{minutes};
 use crate::lines::line_end;
 use reports::Count;
 
+// Inside the library: the count of a whole input, as `minutes` has it.
 pub fn count(input: &[u8]) -> Count
     ensures { λ r. ⌜ r ≡ minutes (now (input .entry)) ⌝ }
 {

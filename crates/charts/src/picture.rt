@@ -38,7 +38,7 @@ fn scaled(x: i32, most: u32, size: u32) -> i32
     away(x as u64, most, size)
 }
 
-// Where a second and a load stand: loads grow upwards.
+// Inside the library: where a second and a load stand. Loads grow upwards.
 pub fn spot(e: Extent, x: i32, y: i32) -> Point
     requires { ⌜ (0 < e .second) × (0 < e .load) ⌝ }
     ensures { λ r. ⌜ r ≡ spot e x y ⌝ }

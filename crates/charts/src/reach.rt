@@ -28,7 +28,7 @@ fn with_place(e: Extent, x: i32, y: i32) -> Extent
     }
 }
 
-// The wedge alone.
+// Inside the library: the wedge alone.
 pub fn of_wedge(v: Vertices) -> Extent
     ensures { λ r. ⌜ r ≡ ofWedge v ⌝ }
 {
@@ -46,7 +46,7 @@ fn with_sample(e: Extent, line: &[u8]) -> Extent
     with_place(e, p.x, p.y)
 }
 
-// With the lines from a place on.
+// Inside the library: with the lines from a place on.
 pub fn with_samples(e: Extent, input: &[u8], from: usize) -> Extent
     ensures { λ r. ⌜ r ≡ each withSample e (lines (drop from (now (input .entry)))) ⌝ }
 {

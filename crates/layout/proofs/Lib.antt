@@ -8,5 +8,7 @@ pub mod Runs
 pub mod Fields
 pub mod Bytes
 pub mod Pictures
+pub mod Counts
+pub mod Pixels
 pub mod Padding
 pub mod Order

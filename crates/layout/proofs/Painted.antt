@@ -18,7 +18,7 @@ use Rattle.layout.specs.Layout.{Layout, putPixel, putNo, painted}
 use Rattle.whole.proofs.Tests.{eq-or-not}
 use Rattle.layout.proofs.Screen.{paint-cong, paint-none, paint-paint, put-paint}
 use Rattle.layout.proofs.Cells.{puts-len}
-use Rattle.layout.proofs.Placing.{Placing, number-in, laws}
+use Rattle.layout.proofs.Placing.{Placing, Everywhere, numbered, laws}
 use Rattle.layout.proofs.Spans.{columns, span-none, span-one, span-join, rows-more}
 
 -- a pixel's number is its column and its row
@@ -49,18 +49,18 @@ painted-length l P s c b = go (l .height * l .width)
 
 module _ (l : Layout) (P : Placing l) (c : ℕ) (b : List ℕ) where
   -- figures that agree on the frame
-  pub painted-cong : (s t : ℤ → ℤ → Bool) → ((x y : ℕ) → x < l .width → y < l .height → s (pos x) (pos y) ≡ t (pos x) (pos y)) → painted l s c b ≡ painted l t c b
+  pub painted-cong : (s t : ℤ → ℤ → Bool) → Everywhere l (λ x y. s (pos x) (pos y) ≡ t (pos x) (pos y)) → painted l s c b ≡ painted l t c b
   unfolding painted
   painted-cong s t h =
       paint-cong (laws l P) (λ p. s (pos (p % l .width)) (pos (p / l .width))) (λ p. t (pos (p % l .width)) (pos (p / l .width))) c b
-      (λ p k. h (p % l .width) (p / l .width) (number-in (l .width) (l .height) p k .0) (number-in (l .width) (l .height) p k .1))
+      (numbered l (λ x y. s (pos x) (pos y) ≡ t (pos x) (pos y)) h)
 
   -- a figure that has no pixel of the frame
-  pub painted-none : (s : ℤ → ℤ → Bool) → ((x y : ℕ) → x < l .width → y < l .height → s (pos x) (pos y) ≡ false) → painted l s c b ≡ b
+  pub painted-none : (s : ℤ → ℤ → Bool) → Everywhere l (λ x y. s (pos x) (pos y) ≡ false) → painted l s c b ≡ b
   unfolding painted
   painted-none s h =
       paint-none (laws l P) (λ p. s (pos (p % l .width)) (pos (p / l .width))) c b
-      (λ p k. h (p % l .width) (p / l .width) (number-in (l .width) (l .height) p k .0) (number-in (l .width) (l .height) p k .1))
+      (numbered l (λ x y. s (pos x) (pos y) ≡ false) h)
 
   -- two figures in one colour
   pub painted-painted : (s t : ℤ → ℤ → Bool) → painted l s c (painted l t c b) ≡ painted l (λ x y. t x y || s x y) c b

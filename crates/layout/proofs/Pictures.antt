@@ -17,24 +17,16 @@ use Rattle.layout.specs.Layout.{Layout, Picture, putPixel, getPixel, put
 use Rattle.layout.proofs.Screen.{render-cong, render-ok, render-render, self-render, get-render, paint-is}
 use Rattle.layout.proofs.Cells.{cell-other, digit-lt, puts-len}
 use Rattle.layout.proofs.Fields.{value-lt, value-zero}
-use Rattle.layout.proofs.Placing.{Placing, number-in, laws}
+use Rattle.layout.proofs.Placing.{Placing, Everywhere, number-in, numbered, laws}
 
 -- v fits the digits of a pixel
 abbrev pub Colour : Layout → ℕ → Type 0
 Colour l v = v < l .base ^ l .parts
 
--- what holds of every pixel of the frame
-abbrev pub Everywhere : Layout → (ℕ → ℕ → Type 0) → Type 0
-Everywhere l Q = (x y : ℕ) → x < l .width → y < l .height → Q x y
-
 abbrev pub Agree : Layout → Picture → Picture → Type 0
 Agree l f g = Everywhere l (λ x y. f x y ≡ g x y)
 
 module _ (l : Layout) (P : Placing l) where
-  -- by a pixel's number
-  numbered : (Q : ℕ → ℕ → Type 0) → Everywhere l Q → (p : ℕ) → p < l .height * l .width → Q (p % l .width) (p / l .width)
-  numbered Q h p k = let n = number-in (l .width) (l .height) p k in h (p % l .width) (p / l .width) (n .0) (n .1)
-
   -- ---- rendering
   pub rendered-length : (f : Picture) (b : List ℕ) → length (rendered l f b) ≡ length b
   unfolding rendered
@@ -47,7 +39,7 @@ module _ (l : Layout) (P : Placing l) where
   -- only the pixels of the frame count
   pub rendered-cong : (f g : Picture) (b : List ℕ) → Agree l f g → rendered l f b ≡ rendered l g b
   unfolding rendered
-  rendered-cong f g b h = render-cong (laws l P) (l .height * l .width) _ _ b (numbered (λ x y. f x y ≡ g x y) h)
+  rendered-cong f g b h = render-cong (laws l P) (l .height * l .width) _ _ b (numbered l (λ x y. f x y ≡ g x y) h)
 
   -- the last of two pictures
   pub rendered-again : (f g : Picture) (b : List ℕ) → rendered l f (rendered l g b) ≡ rendered l f b

@@ -26,6 +26,13 @@ number-in w h p l = (mod-lt p (pos w l), div-lt-iff-lt-mul (pos w l) .1 l)
     pos zero k = omega arith
     pos (suc n) k = zero-lt-suc n
 
+-- what holds of every pixel of the frame holds of every number
+abbrev pub Everywhere : Layout → (ℕ → ℕ → Type 0) → Type 0
+Everywhere l Q = (x y : ℕ) → x < l .width → y < l .height → Q x y
+
+pub numbered : (l : Layout) (Q : ℕ → ℕ → Type 0) → Everywhere l Q → (p : ℕ) → p < l .height * l .width → Q (p % l .width) (p / l .width)
+numbered l Q h p k = let n = number-in (l .width) (l .height) p k in h (p % l .width) (p / l .width) (n .0) (n .1)
+
 pub laws : (l : Layout) → Placing l → Laws (l .height * l .width) (λ v. v < l .base ^ l .parts) (List ℕ) (λ b. l .size ≤ length b) (putNo l) (getNo l)
 laws l P =
     let w = l .width in

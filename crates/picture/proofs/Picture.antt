@@ -16,7 +16,8 @@ use Rattle.refusals.proofs.First.{refused, both-pass, fails-alone}
 use Rattle.layout.specs.Layout.{Layout, Picture, shown, rendered}
 use Rattle.layout.specs.Packed.{field, parts}
 use Rattle.layout.proofs.Fields.{pow-mul}
-use Rattle.layout.proofs.Pictures.{Colour, Everywhere, Agree, rendered-length, rendered-cong}
+use Rattle.layout.proofs.Placing.{Everywhere}
+use Rattle.layout.proofs.Pictures.{Colour, Agree, rendered-length, rendered-cong}
 use Rattle.layout.proofs.Pictures.{rendered-again, rendered-shown, shown-rendered, shown-colour, shown-zeros, one-picture}
 use Rattle.layout.proofs.Places.{depth-of}
 use Rattle.layout.proofs.Placing.{Placing}

@@ -1,25 +1,31 @@
 -- Laws of a call that draws: its number, test by test, what is known where that is 0, and its outcome, accepted and refused. Assumes nothing.
 use mathlib.Core.Path.{_≡_, refl, sym, ap, subst, _∙_}
-use mathlib.Core.Bool.{Bool, cond}
+use mathlib.Core.Bool.{Bool, false, cond}
 use mathlib.Core.List.{List, [], _++_, append-nil}
-use Prim.Native.Nat.{ℕ}
+use Prim.Native.Nat.{ℕ, _*_, _≤_}
+use native.Mathlib.Nat.{mul-le-mul}
 use lib.Dec.{eqb}
 use lib.ListN.{length}
 use borrow.Author.Tests.{eq-eqb, ne-eqb}
 use Rattle.refusals.specs.First.{Tests, first}
 use Rattle.refusals.proofs.First.{refused, passed, both-pass}
-use Rattle.layout.specs.Figure.{everywhere}
+use Rattle.geometry.specs.declared.Point.{Point}
+use Rattle.layout.specs.Figure.{single, everywhere}
 use Rattle.layout.specs.Layout.{painted}
+use Rattle.layout.specs.Count.{pixelsIn, marked}
+use Rattle.layout.proofs.Pixels.{pixels-everywhere}
 use Rattle.framebuffer.specs.declared.Frame.{Frame}
 use Rattle.framebuffer.specs.declared.Window.{Window}
 use Rattle.framebuffer.specs.declared.Brush.{Brush}
 use Rattle.framebuffer.specs.declared.Drawn.{Drawn}
+use Rattle.framebuffer.specs.declared.Placed.{Placed}
+use Rattle.framebuffer.specs.Answer.{drawn, wasInside}
 use Rattle.framebuffer.specs.Description.{raster, drawTests}
-use Rattle.framebuffer.specs.Drawing.{Drawing, fillDrawing, callTests, outcome}
+use Rattle.framebuffer.specs.Drawing.{Drawing, pixelDrawing, fillDrawing, callTests, outcome, pixelOutcome}
 use Rattle.framebuffer.specs.Judged.{Drawable, Within, Ready, wholeBrush, brushed}
-use Rattle.framebuffer.specs.Window.{heldBy, wholeWindow}
-use Rattle.framebuffer.proofs.Refusals.{draw-numbered, is-drawable}
-use Rattle.framebuffer.proofs.Windows.{whole-within, painted-whole}
+use Rattle.framebuffer.specs.Window.{inWindow, heldBy, wholeWindow}
+use Rattle.framebuffer.proofs.Refusals.{draw-numbered, is-drawable, refused-drawn, refused-placed}
+use Rattle.framebuffer.proofs.Windows.{whole-within, marked-whole}
 
 -- ---- the number: the frame's and the colour's, else the call's own
 module _ (f : Frame) (len colour : ℕ) where
@@ -52,43 +58,64 @@ module _ (f : Frame) (len colour : ℕ) where
 
 -- ---- the outcome
 module _ (f : Frame) (q : Window) (d : Drawing) (b : List ℕ) {r : ℕ} (e : r ≡ first (callTests f (length b) d)) where
+  abbrev made : ℕ × List ℕ
+  made = marked (raster f) (heldBy q (d .figure)) (d .colour) b
+
   of-number : (n : ℕ) → (Drawn × List ℕ)
-  of-number n = (record { number = n }, cond (eqb n 0) (painted (raster f) (heldBy q (d .figure)) (d .colour) b) b)
+  of-number n = (drawn n (made .0), cond (eqb n 0) (made .1) b)
 
   outcome-is : outcome f q d b ≡ of-number r
   unfolding outcome of-number
   outcome-is = ap of-number (sym e)
 
-  pub refused-outcome : (r ≡ 0 → ⊥) → _≡_ {A = Drawn × List ℕ} (record { number = r }, b) (outcome f q d b)
+  pub refused-outcome : (r ≡ 0 → ⊥) → _≡_ {A = Drawn × List ℕ} (record { number = r; count = 0 }, b) (outcome f q d b)
   unfolding of-number
-  refused-outcome n = sym (outcome-is ∙ ap (λ (t : Bool). (record { number = r }, cond t (painted (raster f) (heldBy q (d .figure)) (d .colour) b) b)) (ne-eqb r 0 n))
+  refused-outcome n = (λ i. (refused-drawn r (made .0) n i, cond (sym (ne-eqb r 0 n) i) (made .1) b)) ∙ sym outcome-is
 
-  pub accepted-outcome : {after : List ℕ} → r ≡ 0 → after ≡ painted (raster f) (heldBy q (d .figure)) (d .colour) b
-      → _≡_ {A = Drawn × List ℕ} (record { number = r }, after) (outcome f q d b)
+  pub accepted-outcome : {m : ℕ} {after : List ℕ} → r ≡ 0 → (m, after) ≡ made → _≡_ {A = Drawn × List ℕ} (record { number = 0; count = m }, after) (outcome f q d b)
   unfolding of-number
-  accepted-outcome {after} z h =
-      ap (λ (c : List ℕ). (record { number = r }, c)) h
-      ∙ sym (outcome-is ∙ ap (λ (t : Bool). (record { number = r }, cond t (painted (raster f) (heldBy q (d .figure)) (d .colour) b) b)) (eq-eqb r 0 z))
+  accepted-outcome z h = ap (λ (p : ℕ × List ℕ). (record { number = 0; count = p .0 }, p .1)) h ∙ ap of-number (sym z) ∙ sym outcome-is
 
--- painted by the brush for the whole frame
-pub brushed-outcome : (f : Frame) (d : Drawing) (b : List ℕ) {r : ℕ} {q : Brush} {after : List ℕ} → r ≡ first (callTests f (length b) d) → r ≡ 0
-    → q ≡ wholeBrush f (d .colour) → after ≡ brushed q (d .figure) b → _≡_ {A = Drawn × List ℕ} (record { number = r }, after) (outcome f (wholeWindow f) d b)
+-- by the brush for the whole frame
+pub brushed-outcome : (f : Frame) (d : Drawing) (b : List ℕ) {r m : ℕ} {q : Brush} {after : List ℕ} → r ≡ first (callTests f (length b) d) → r ≡ 0
+    → q ≡ wholeBrush f (d .colour) → (m, after) ≡ brushed q (d .figure) b → _≡_ {A = Drawn × List ℕ} (record { number = 0; count = m }, after) (outcome f (wholeWindow f) d b)
 brushed-outcome f d b e z p h = accepted-outcome f (wholeWindow f) d b e z (h ∙ ap (λ (q : Brush). brushed q (d .figure) b) p)
 
--- painted within the rectangle of the whole frame
+-- within the rectangle of the whole frame
 pub within-whole : {f : Frame} {q : Window} → q ≡ wholeWindow f → Within q f
 within-whole {f} p = subst (λ (q : Window). Within q f) (sym p) (whole-within f)
 
-pub windowed-outcome : (f : Frame) (d : Drawing) (b : List ℕ) {r : ℕ} {q : Window} {after : List ℕ} → r ≡ first (callTests f (length b) d) → r ≡ 0
-    → q ≡ wholeWindow f → after ≡ painted (raster f) (heldBy q (d .figure)) (d .colour) b → _≡_ {A = Drawn × List ℕ} (record { number = r }, after) (outcome f (wholeWindow f) d b)
-windowed-outcome f d b e z p h = accepted-outcome f (wholeWindow f) d b e z (h ∙ ap (λ (q : Window). painted (raster f) (heldBy q (d .figure)) (d .colour) b) p)
+-- a pixel set
+module _ (f : Frame) (p : Point) (colour : ℕ) (b : List ℕ) {r : ℕ} (e : r ≡ first (drawTests f (length b) colour)) where
+  number-is : r ≡ first (callTests f (length b) (pixelDrawing p colour))
+  number-is = number-alone f (length b) colour e
 
--- the whole frame painted
-pub filled-outcome : (f : Frame) (colour : ℕ) (b : List ℕ) {r : ℕ} {after : List ℕ} → r ≡ first (drawTests f (length b) colour) → r ≡ 0
-    → after ≡ painted (raster f) everywhere colour b → _≡_ {A = Drawn × List ℕ} (record { number = r }, after) (outcome f (wholeWindow f) (fillDrawing colour) b)
-filled-outcome f colour b e z h =
+  pub refused-pixel : (r ≡ 0 → ⊥) → _≡_ {A = Placed × List ℕ} (record { number = r; inside = false }, b) (pixelOutcome f (wholeWindow f) p colour b)
+  unfolding pixelOutcome
+  refused-pixel n =
+      let t = inWindow (wholeWindow f) (p .0) (p .1) in
+      let d = pixelDrawing p colour in
+      (λ i. (refused-placed r t n i, refused-outcome f (wholeWindow f) d b number-is n i .1)) ∙ ap (λ (k : ℕ). (wasInside k t, outcome f (wholeWindow f) d b .1)) number-is
+
+  pub placed-pixel : {q : Window} {t : Bool} {after : List ℕ} → r ≡ 0 → q ≡ wholeWindow f → t ≡ inWindow q (p .0) (p .1)
+      → after ≡ painted (raster f) (heldBy q (single (p .0) (p .1))) colour b → _≡_ {A = Placed × List ℕ} (record { number = 0; inside = t }, after) (pixelOutcome f (wholeWindow f) p colour b)
+  unfolding pixelOutcome
+  placed-pixel {q} z w i h =
+      let d = pixelDrawing p colour in
+      let a = accepted-outcome f (wholeWindow f) d b number-is z (λ j. (pixelsIn (raster f) (heldBy (wholeWindow f) (d .figure)), (h ∙ ap (λ (q : Window). painted (raster f) (heldBy q (d .figure)) colour b) w) j)) in
+      (λ j. (record { number = 0; inside = (i ∙ ap (λ (q : Window). inWindow q (p .0) (p .1)) w) j }, a j .1))
+      ∙ ap (λ (k : ℕ). (wasInside k (inWindow (wholeWindow f) (p .0) (p .1)), outcome f (wholeWindow f) d b .1)) (sym z ∙ number-is)
+
+-- the whole frame painted; the count fits
+pub whole-fits : (f : Frame) (len colour : ℕ) {r : ℕ} → r ≡ first (drawTests f len colour) → r ≡ 0 → f .height * f .width ≤ 4194304
+whole-fits f len colour e z = let D = drawable f len colour e z .accepted .described in mul-le-mul (D .height) (D .width)
+
+pub filled-outcome : (f : Frame) (colour : ℕ) (b : List ℕ) {r m : ℕ} {after : List ℕ} → r ≡ first (drawTests f (length b) colour) → r ≡ 0 → m ≡ f .height * f .width
+    → after ≡ painted (raster f) everywhere colour b → _≡_ {A = Drawn × List ℕ} (record { number = 0; count = m }, after) (outcome f (wholeWindow f) (fillDrawing colour) b)
+filled-outcome f colour b e z n h =
     accepted-outcome f (wholeWindow f) (fillDrawing colour) b (number-alone f (length b) colour e) z
-    (h ∙ sym (painted-whole f (drawable f (length b) colour e z .accepted .described) colour b everywhere))
+    ((λ i. ((n ∙ sym (pixels-everywhere (raster f))) i, h i))
+    ∙ sym (marked-whole f (drawable f (length b) colour e z .accepted .described) colour b everywhere))
 
 -- what answers the needs of a call
 pub ruleset calls = (number-first, number-own, ready-own, own-passed, refused-outcome, brushed-outcome)

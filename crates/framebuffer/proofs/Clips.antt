@@ -3,7 +3,7 @@ use mathlib.Core.Path.{_≡_, refl, sym, ap, ap₂, _∙_, subst}
 use mathlib.Core.Bool.{Bool, true, false, cond, _&&_, true≢false}
 use mathlib.Core.List.{List}
 use mathlib.Core.Logic.{_⊎_, inl, inr}
-use Prim.Native.Nat.{ℕ, _≤_, _<_}
+use Prim.Native.Nat.{ℕ, _-_, _≤_, _<_}
 use native.Mathlib.Omega.{arith}
 use lib.Dec.{ltb, le→leb}
 use lib.IntN.{ℤ, pos, negsuc, natAbs}
@@ -13,9 +13,10 @@ use Rattle.layout.specs.Figure.{spanFigure}
 use Rattle.whole.specs.Equal.{eqZ}
 use Rattle.whole.specs.Interval.{between}
 use Rattle.layout.specs.Layout.{painted}
+use Rattle.layout.specs.Count.{marked}
 use Rattle.whole.proofs.Tests.{lt-or-ge, same-test, fails, and-true, true-and, eqZ-true, eqZ-refl}
 use Rattle.layout.proofs.Spans.{columns, in-span, span-in}
-use Rattle.layout.proofs.Painted.{painted-cong, painted-none}
+use Rattle.layout.proofs.Pixels.{marked-cong, marked-none, pixels-span}
 use Rattle.framebuffer.specs.declared.Frame.{Frame}
 use Rattle.framebuffer.specs.declared.Window.{Window}
 use Rattle.framebuffer.specs.Description.{raster}
@@ -92,9 +93,9 @@ module _ (f : Frame) (D : Described f) (colour : ℕ) (b : List ℕ) (q : Window
   on-row u v e = eqZ-true (pos v) y (and-true (leZ start (pos u) && ltZ (pos u) end) (eqZ (pos v) y) e .1)
 
   -- no row of the rectangle
-  pub row-off : between (pos (q .top)) (pos (q .bottom)) y ≡ false → b ≡ painted (raster f) (heldBy q (spanFigure y start end)) colour b
+  pub row-off : between (pos (q .top)) (pos (q .bottom)) y ≡ false → (0, b) ≡ marked (raster f) (heldBy q (spanFigure y start end)) colour b
   row-off h =
-      sym (painted-none (raster f) (sound f D) colour b _ (λ u v hu hv. fails _ (λ e.
+      sym (marked-none (raster f) (sound f D) colour b _ (λ u v hu hv. fails _ (λ e.
       let p = and-true (inWindow q (pos u) (pos v)) (spanFigure y start end (pos u) (pos v)) e in
       let r = and-true (between (pos (q .left)) (pos (q .right)) (pos u)) (between (pos (q .top)) (pos (q .bottom)) (pos v)) (p .0) .1 in
       true≢false (sym r ∙ ap (λ (z : ℤ). between (pos (q .top)) (pos (q .bottom)) z) (on-row u v (p .1)) ∙ h))))
@@ -139,12 +140,19 @@ module _ (f : Frame) (D : Described f) (colour : ℕ) (b : List ℕ) (q : Window
             (past-gt end (q .left) (q .right) u (r .0) (r .1) past (nearest end (q .left) (q .right)) .0 (t .1))
             (ap natAbs (on-row u v (p .1)))
 
-    pub span-left : painted (raster f) (columns (natAbs y) from past) colour b ≡ painted (raster f) (heldBy q (spanFigure y start end)) colour b
-    span-left = painted-cong (raster f) (sound f D) colour b _ _ (λ u v hu hv. agree u v)
+    kept : marked (raster f) (columns (natAbs y) from past) colour b ≡ marked (raster f) (heldBy q (spanFigure y start end)) colour b
+    kept = marked-cong (raster f) (sound f D) colour b _ _ (λ u v hu hv. agree u v)
 
-    pub span-gone : past ≤ from → b ≡ painted (raster f) (heldBy q (spanFigure y start end)) colour b
+    pub span-left : natAbs y < f .height → from ≤ past
+        → (past - from, painted (raster f) (columns (natAbs y) from past) colour b) ≡ marked (raster f) (heldBy q (spanFigure y start end)) colour b
+    span-left hy h =
+        let r = W .right in
+        let p = clip-bounds end (q .left) (q .right) (W .across) .1 in
+        ap (λ (n : ℕ). (n, painted (raster f) (columns (natAbs y) from past) colour b)) (sym (pixels-span (raster f) (natAbs y) from past hy h (omega arith))) ∙ kept
+
+    pub span-gone : past ≤ from → (0, b) ≡ marked (raster f) (heldBy q (spanFigure y start end)) colour b
     span-gone h =
-        sym (sym span-left ∙ painted-none (raster f) (sound f D) colour b _ (λ u v hu hv. fails _ (λ e. let s = in-span (natAbs y) from past u v e in no u (s .0) (s .1))))
+        sym (sym kept ∙ marked-none (raster f) (sound f D) colour b _ (λ u v hu hv. fails _ (λ e. let s = in-span (natAbs y) from past u v e in no u (s .0) (s .1))))
       where
         no : (u : ℕ) → from ≤ u → u < past → ⊥
         no u a z = omega arith

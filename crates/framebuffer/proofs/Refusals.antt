@@ -1,6 +1,6 @@
 -- The tests of a frame: what it says that none of them holds, and what comes with it. Assumes nothing.
 use mathlib.Core.Path.{_≡_, refl, ap, _∙_}
-use mathlib.Core.Bool.{true}
+use mathlib.Core.Bool.{Bool, true, false}
 use mathlib.Core.List.{[], _∷_}
 use Prim.Native.Nat.{ℕ, zero, suc, _+_, _*_, _/_, _%_, _^_, _≤_, _<_}
 use native.Mathlib.Nat.{mul-le-mul, mul-zero, le-refl, mod-eq-of-lt, mul-le-mul-right}
@@ -14,7 +14,7 @@ use Rattle.layout.specs.Packed.{rowBytes, parts}
 use Rattle.layout.proofs.Placing.{Placing}
 use Rattle.layout.proofs.Places.{Sound, placing, depth-le, pixel-in}
 use Rattle.framebuffer.specs.declared.Frame.{Frame}
-use Rattle.framebuffer.specs.Answer.{sized, read}
+use Rattle.framebuffer.specs.Answer.{sized, drawn, wasInside, read}
 use Rattle.framebuffer.specs.Description.{packed, raster, size, tooShort, noColour, descriptionTests, frameTests, drawTests}
 use Rattle.framebuffer.specs.Judged.{Described, Accepted, Drawable}
 
@@ -137,6 +137,14 @@ one-shifted d h =
 pub refused-size : (r bytes : ℕ) → (r ≡ 0 → ⊥) → record { number = r; bytes = 0 } ≡ sized r bytes
 refused-size zero bytes h = absurd (h refl)
 refused-size (suc r) bytes h = refl
+
+pub refused-drawn : (r count : ℕ) → (r ≡ 0 → ⊥) → record { number = r; count = 0 } ≡ drawn r count
+refused-drawn zero count h = absurd (h refl)
+refused-drawn (suc r) count h = refl
+
+pub refused-placed : (r : ℕ) (inside : Bool) → (r ≡ 0 → ⊥) → record { number = r; inside = false } ≡ wasInside r inside
+refused-placed zero inside h = absurd (h refl)
+refused-placed (suc r) inside h = refl
 
 pub refused-read : (r colour : ℕ) → (r ≡ 0 → ⊥) → record { number = r; colour = 0 } ≡ read r colour
 refused-read zero colour h = absurd (h refl)

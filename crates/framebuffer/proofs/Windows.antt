@@ -15,9 +15,11 @@ use Rattle.whole.specs.Equal.{eqZ}
 use Rattle.whole.specs.Interval.{between}
 use Rattle.whole.proofs.Machine.{index-fits}
 use Rattle.layout.specs.Figure.{single}
+use Rattle.layout.specs.Count.{oneIf, pixelsIn, marked}
 use Rattle.layout.specs.Layout.{putPixel, painted}
 use Rattle.whole.proofs.Tests.{same-test, fails, and-true, true-and, eqZ-true}
 use Rattle.layout.proofs.Painted.{painted-cong, painted-none, put-single}
+use Rattle.layout.proofs.Pixels.{marked-cong, pixels-cong, pixels-none, pixels-one}
 use Rattle.framebuffer.specs.declared.Frame.{Frame}
 use Rattle.framebuffer.specs.declared.Window.{Window}
 use Rattle.framebuffer.specs.Description.{raster}
@@ -64,9 +66,9 @@ within-small W D = let r = W .right in let b = W .bottom in let w = D .width in 
 
 module _ (f : Frame) (D : Described f) (colour : ℕ) (b : List ℕ) where
   -- the rectangle of the whole frame takes nothing away
-  pub painted-whole : (s : ℤ → ℤ → Bool) → painted (raster f) (heldBy (wholeWindow f) s) colour b ≡ painted (raster f) s colour b
-  painted-whole s =
-      painted-cong (raster f) (sound f D) colour b _ _
+  pub marked-whole : (s : ℤ → ℤ → Bool) → marked (raster f) (heldBy (wholeWindow f) s) colour b ≡ marked (raster f) s colour b
+  marked-whole s =
+      marked-cong (raster f) (sound f D) colour b _ _
       (λ x y hx hy. ap (λ (t : Bool). t && s (pos x) (pos y)) (in-window (wholeWindow f) x y (omega arith) hx (omega arith) hy))
 
   -- one pixel, in the rectangle or not
@@ -85,16 +87,37 @@ module _ (f : Frame) (D : Described f) (colour : ℕ) (b : List ℕ) where
     single-is : (u v : ℕ) → single x y (pos u) (pos v) ≡ true → inWindow q (pos u) (pos v) ≡ inWindow q x y
     single-is u v h = let p = and-true (eqZ (pos u) x) (eqZ (pos v) y) h in ap₂ (inWindow q) (eqZ-true (pos u) x (p .0)) (eqZ-true (pos v) y (p .1))
 
+    -- so the rectangle has all of the figure, or nothing
+    all-held : inWindow q x y ≡ true → (u v : ℕ) → single x y (pos u) (pos v) ≡ heldBy q (single x y) (pos u) (pos v)
+    all-held e u v = same-test _ _ (λ h. true-and (single-is u v h ∙ e) h) (λ h. and-true (inWindow q (pos u) (pos v)) _ h .1)
+
+    none-held : inWindow q x y ≡ false → (u v : ℕ) → heldBy q (single x y) (pos u) (pos v) ≡ false
+    none-held e u v =
+        fails _ (λ h.
+        let p = and-true (inWindow q (pos u) (pos v)) (single x y (pos u) (pos v)) h in
+        true≢false (sym (p .0) ∙ single-is u v (p .1) ∙ e))
+
     pub point-put : Within q f → inWindow q x y ≡ true → putPixel (raster f) (natAbs x) (natAbs y) colour b ≡ painted (raster f) (heldBy q (single x y)) colour b
     point-put W e =
         let p = point-in W e in
         let z = window-pos q x y e in
         put-single (raster f) (sound f D) colour b (natAbs x) (natAbs y) (p .0) (p .1)
         ∙ ap₂ (λ (i j : ℤ). painted (raster f) (single i j) colour b) (sym (z .0)) (sym (z .1))
-        ∙ painted-cong (raster f) (sound f D) colour b _ _ (λ u v hu hv. same-test _ _ (λ h. true-and (single-is u v h ∙ e) h) (λ h. and-true (inWindow q (pos u) (pos v)) _ h .1))
+        ∙ painted-cong (raster f) (sound f D) colour b _ _ (λ u v hu hv. all-held e u v)
 
     pub point-off : inWindow q x y ≡ false → b ≡ painted (raster f) (heldBy q (single x y)) colour b
-    point-off e =
-        sym (painted-none (raster f) (sound f D) colour b _ (λ u v hu hv. fails _ (λ h.
-        let p = and-true (inWindow q (pos u) (pos v)) (single x y (pos u) (pos v)) h in
-        true≢false (sym (p .0) ∙ single-is u v (p .1) ∙ e))))
+    point-off e = sym (painted-none (raster f) (sound f D) colour b _ (λ u v hu hv. none-held e u v))
+
+    -- and it is counted or not
+    pub point-count : Within q f → pixelsIn (raster f) (heldBy q (single x y)) ≡ oneIf (inWindow q x y)
+    point-count W = by (inWindow q x y) refl
+      where
+        by : (t : Bool) → inWindow q x y ≡ t → pixelsIn (raster f) (heldBy q (single x y)) ≡ oneIf (inWindow q x y)
+        by true e =
+            let p = point-in W e in
+            let z = window-pos q x y e in
+            pixels-cong (raster f) _ (single (pos (natAbs x)) (pos (natAbs y)))
+            (λ u v hu hv. sym (all-held e u v) ∙ ap₂ (λ (i j : ℤ). single i j (pos u) (pos v)) (z .0) (z .1))
+            ∙ pixels-one (raster f) (natAbs x) (natAbs y) (p .0) (p .1)
+            ∙ sym (ap oneIf e)
+        by false e = pixels-none (raster f) _ (λ u v hu hv. none-held e u v) ∙ sym (ap oneIf e)

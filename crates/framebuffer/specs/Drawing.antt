@@ -8,13 +8,14 @@ use lib.ListN.{length}
 use Rattle.refusals.specs.First.{Tests, first}
 use Rattle.geometry.specs.declared.Point.{Point}
 use Rattle.layout.specs.Figure.{single, everywhere}
-use Rattle.layout.specs.Layout.{painted}
+use Rattle.layout.specs.Count.{marked}
 use Rattle.framebuffer.specs.declared.Frame.{Frame}
 use Rattle.framebuffer.specs.declared.Window.{Window}
 use Rattle.framebuffer.specs.declared.Drawn.{Drawn}
-use Rattle.framebuffer.specs.Answer.{drawn}
+use Rattle.framebuffer.specs.declared.Placed.{Placed}
+use Rattle.framebuffer.specs.Answer.{drawn, wasInside}
 use Rattle.framebuffer.specs.Description.{raster, drawTests}
-use Rattle.framebuffer.specs.Window.{heldBy}
+use Rattle.framebuffer.specs.Window.{inWindow, heldBy}
 
 -- what a call draws: its figure, its colour, and the tests of its own, which come behind those of its frame and its colour
 pub record Drawing : Type 0 where
@@ -33,8 +34,15 @@ fillDrawing colour = record { figure = everywhere; colour = colour; own = [] }
 abbrev pub callTests : Frame → ℕ → Drawing → Tests
 callTests f len d = drawTests f len (d .colour) ++ d .own
 
--- the answer, and the bytes: with a refusal those before it, else every pixel of the rectangle that the figure contains gets the colour
+-- the answer, and the bytes: with a refusal those before it, else every pixel of the rectangle that the figure contains gets the colour, and is counted
 unfoldable pub outcome : Frame → Window → Drawing → List ℕ → Drawn × List ℕ
 outcome f q d b =
     let n = first (callTests f (length b) d) in
-    (drawn n, cond (eqb n 0) (painted (raster f) (heldBy q (d .figure)) (d .colour) b) b)
+    let m = marked (raster f) (heldBy q (d .figure)) (d .colour) b in
+    (drawn n (m .0), cond (eqb n 0) (m .1) b)
+
+-- of setting a pixel: whether the rectangle holds it, in the place of a count
+unfoldable pub pixelOutcome : Frame → Window → Point → ℕ → List ℕ → Placed × List ℕ
+pixelOutcome f q p colour b =
+    let d = pixelDrawing p colour in
+    (wasInside (first (callTests f (length b) d)) (inWindow q (p .0) (p .1)), outcome f q d b .1)

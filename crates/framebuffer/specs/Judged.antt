@@ -4,7 +4,7 @@ use mathlib.Core.Bool.{Bool, true}
 use mathlib.Core.List.{List}
 use Prim.Native.Nat.{ℕ, _^_, _≤_, _<_}
 use lib.IntN.{ℤ}
-use Rattle.layout.specs.Layout.{painted}
+use Rattle.layout.specs.Count.{marked}
 use Rattle.layout.specs.Packed.{goodDepth}
 use Rattle.framebuffer.specs.declared.Frame.{Frame}
 use Rattle.framebuffer.specs.declared.Window.{Window}
@@ -44,6 +44,6 @@ pub record Ready (q : Brush) (len : ℕ) : Type 0 where
 abbrev pub wholeBrush : Frame → ℕ → Brush
 wholeBrush f colour = record { frame = f; window = wholeWindow f; colour = colour }
 
--- what it leaves of a buffer: the figure painted, as far as its rectangle holds it
-abbrev pub brushed : Brush → (ℤ → ℤ → Bool) → List ℕ → List ℕ
-brushed q figure b = painted (raster (q .frame)) (heldBy (q .window) figure) (q .colour) b
+-- what it makes of a figure, as far as its rectangle holds it: how many pixels that has, and a buffer with them in the colour
+abbrev pub brushed : Brush → (ℤ → ℤ → Bool) → List ℕ → ℕ × List ℕ
+brushed q figure b = marked (raster (q .frame)) (heldBy (q .window) figure) (q .colour) b

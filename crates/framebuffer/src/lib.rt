@@ -13,7 +13,7 @@ ghost use Rattle.framebuffer.specs.Answer.{sized, read};
 ghost use Rattle.framebuffer.specs.Window.{inWindow, heldBy, wholeWindow, clipped};
 ghost use Rattle.framebuffer.specs.Description.{described, packed, raster, size, descriptionTests, frameTests, drawTests, readTests, colourAt};
 ghost use Rattle.framebuffer.specs.Judged.{Described, Accepted, Drawable, Within, Ready, wholeBrush, brushed};
-ghost use Rattle.framebuffer.specs.Drawing.{pixelDrawing, fillDrawing, outcome};
+ghost use Rattle.framebuffer.specs.Drawing.{fillDrawing, outcome, pixelOutcome};
 
 // A frame as its owner describes it. It is made by Frame::new and by nothing else outside this crate.
 pub struct Frame {
@@ -30,10 +30,18 @@ pub struct Size {
     pub bytes: u32,
 }
 
-// What a drawing call answers: 0, or the number of its refusal.
+// How many pixels of the frame the figure of a drawing call contains; with a refusal its number and 0.
 #[repr(C)]
 pub struct Drawn {
     pub number: u32,
+    pub count: u32,
+}
+
+// Whether a pixel that was set is inside the frame; with a refusal its number and no.
+#[repr(C)]
+pub struct Placed {
+    pub number: u32,
+    pub inside: bool,
 }
 
 // The colour of a pixel; with a refusal its number and 0.
@@ -239,35 +247,44 @@ impl Window {
     }
 }
 
-// The pixel at a place gets the colour, if the rectangle holds it.
-fn put_within(buf: &mut [u8], frame: Frame, window: Window, p: geometry::Point, colour: u32)
+// The pixel at a place gets the colour, if the rectangle holds it; and whether it does.
+fn put_within(buf: &mut [u8], frame: Frame, window: Window, p: geometry::Point, colour: u32) -> bool
     requires { ⌜ Drawable frame (length (now buf)) colour × Within window frame ⌝ }
-    ensures { λ r. ⌜ now (buf .exit) ≡ painted (raster frame) (heldBy window (single (p .0) (p .1))) colour (now (buf .entry)) ⌝ }
+    ensures { λ r. ⌜ (r ≡ inWindow window (p .0) (p .1))
+        × (now (buf .exit) ≡ painted (raster frame) (heldBy window (single (p .0) (p .1))) colour (now (buf .entry))) ⌝ }
 {
     let x = p.0;
     let y = p.1;
-    if window.holds(x, y) {
-        put_at(buf, frame, x as u32, y as u32, colour);
+    if !window.holds(x, y) {
+        return false;
     }
+    put_at(buf, frame, x as u32, y as u32, colour);
+    true
 }
 
 // Inside the library: the same by a brush.
-pub fn put_point(buf: &mut [u8], brush: Brush, p: geometry::Point)
+pub fn put_point(buf: &mut [u8], brush: Brush, p: geometry::Point) -> bool
     requires { ⌜ Ready brush (length (now buf)) ⌝ }
-    ensures { λ r. ⌜ now (buf .exit) ≡ brushed brush (single (p .0) (p .1)) (now (buf .entry)) ⌝ }
+    ensures { λ r. ⌜ (r ≡ inWindow (brush .window) (p .0) (p .1)) × (now (buf .exit) ≡ brushed brush (single (p .0) (p .1)) (now (buf .entry)) .1) ⌝ }
 {
-    put_within(buf, brush.frame, brush.window, p, brush.colour);
+    put_within(buf, brush.frame, brush.window, p, brush.colour)
 }
 
-// The pixel at a place gets the colour; outside the frame nothing changes.
-pub fn set_pixel(buf: &mut [u8], frame: Frame, p: geometry::Point, colour: u32) -> Drawn
-    ensures { λ r. ⌜ (r, now (buf .exit)) ≡ outcome frame (wholeWindow frame) (pixelDrawing p colour) (now (buf .entry)) ⌝ }
+// The pixel at a place gets the colour; outside the frame nothing changes, and the answer says so.
+pub fn set_pixel(buf: &mut [u8], frame: Frame, p: geometry::Point, colour: u32) -> Placed
+    ensures { λ r. ⌜ (r, now (buf .exit)) ≡ pixelOutcome frame (wholeWindow frame) p colour (now (buf .entry)) ⌝ }
 {
     let number = draw_refusal(frame, buf.len(), colour);
-    if number == 0 {
-        put_within(buf, frame, frame.window(), p, colour);
+    if number != 0 {
+        return Placed {
+            number,
+            inside: false,
+        };
     }
-    Drawn { number }
+    Placed {
+        number: 0,
+        inside: put_within(buf, frame, frame.window(), p, colour),
+    }
 }
 
 // The colour of the pixel at a place.
@@ -344,20 +361,22 @@ fn clip(x: i32, low: u32, high: u32) -> u32
     x as u32
 }
 
-// Inside the library: row y's columns from `start` to one before `end` get the colour, as far as the rectangle holds them.
-pub fn paint_span(buf: &mut [u8], brush: Brush, y: i32, start: i32, end: i32)
+// Inside the library: row y's columns from `start` to one before `end` get the colour, as far as the rectangle holds them; and how many these are.
+pub fn paint_span(buf: &mut [u8], brush: Brush, y: i32, start: i32, end: i32) -> u32
     requires { ⌜ Ready brush (length (now buf)) ⌝ }
-    ensures { λ r. ⌜ now (buf .exit) ≡ brushed brush (spanFigure y start end) (now (buf .entry)) ⌝ }
+    ensures { λ r. ⌜ (r, now (buf .exit)) ≡ brushed brush (spanFigure y start end) (now (buf .entry)) ⌝ }
 {
     let window = brush.window;
     if !is_between(y, window.top, window.bottom) {
-        return;
+        return 0;
     }
     let from = clip(start, window.left, window.right);
     let past = clip(end, window.left, window.right);
-    if from < past {
-        paint_columns(buf, brush.frame, y as u32, from, past, brush.colour);
+    if past <= from {
+        return 0;
     }
+    paint_columns(buf, brush.frame, y as u32, from, past, brush.colour);
+    past - from
 }
 
 // ---- the whole frame
@@ -403,8 +422,12 @@ pub fn fill(buf: &mut [u8], frame: Frame, colour: u32) -> Drawn
     ensures { λ r. ⌜ (r, now (buf .exit)) ≡ outcome frame (wholeWindow frame) (fillDrawing colour) (now (buf .entry)) ⌝ }
 {
     let number = draw_refusal(frame, buf.len(), colour);
-    if number == 0 {
-        fill_frame(buf, frame, colour);
+    if number != 0 {
+        return Drawn { number, count: 0 };
     }
-    Drawn { number }
+    fill_frame(buf, frame, colour);
+    Drawn {
+        number: 0,
+        count: frame.height * frame.width,
+    }
 }

@@ -1,7 +1,7 @@
 -- `framebuffer::paint_span` paints what is left of the span within the rectangle, if anything is. Assumes nothing.
 use mathlib.Core.Path.{_≡_, sym, ap, subst, _∙_}
 use mathlib.Core.Bool.{true}
-use Prim.Native.Nat.{ℕ, _≤_, _<_}
+use Prim.Native.Nat.{ℕ, _-_, _≤_, _<_}
 use native.Mathlib.Omega.{arith}
 use lib.IntN.{ℤ, pos, natAbs}
 use mir.Facts.{toZ-ofZ}
@@ -63,50 +63,66 @@ past c =
     let s = c .before .before .before .before .before .before in
     c .clip2 .ensures ∙ ap (λ (x : ℤ). clipped x (s .args .brush .window .left) (s .args .brush .window .right)) (toZ-ofZ (s .fits .end))
 
+returns-2 : tie.Need-returns-2
+returns-2 c =
+    let s = c .before .before .before .before .before .before .before in
+    let a = s .args in
+    let f = from (c .before .before) in
+    let p = past (c .before) in
+    span-gone (a .brush .frame) (ok s) (a .brush .colour) (a .buf .now) (a .brush .window) (a .y) (a .start) (a .end) (s .pre .within) (inner (c .before .before .before))
+    (subst (λ (x : ℕ). x ≤ clipped (a .start) (a .brush .window .left) (a .brush .window .right)) p (subst (λ (x : ℕ). c .before .clip2 .result ≤ x) f (c .if2 .taken)))
+
 cast-paint-columns : tie.Need-cast-paint-columns
 cast-paint-columns c =
     let s = c .before .before .before .before .before .before .before .before in
     let a = s .args in
     cast-fits (s .fits .y) (between-pos (a .y) (a .brush .window .top) (a .brush .window .bottom) (inner (c .before .before .before .before)))
 
+-- the row is one of the frame's
+below : (c : tie.Else1) → (let a = c .before .before .before .before .args in natAbs (a .y) < a .brush .frame .height)
+below c =
+    let s = c .before .before .before .before in
+    let a = s .args in
+    let b = s .pre .within .bottom in
+    let i = inner c in
+    let l =
+    in-between (natAbs (a .y)) (a .brush .window .top) (a .brush .window .bottom)
+    (ap (λ (z : ℤ). between (pos (a .brush .window .top)) (pos (a .brush .window .bottom)) z) (sym (between-pos (a .y) (a .brush .window .top) (a .brush .window .bottom) i)) ∙ i) .1
+    in omega arith
+
 paint-columns-requires : tie.Need-paint-columns-requires
 paint-columns-requires c κs =
     let s = c .before .before .before .before .before .before .before .before in
     let a = s .args in
-    let b = s .pre .within .bottom in
     let r = s .pre .within .right in
-    let i = inner (c .before .before .before .before) in
-    let l =
-    in-between (natAbs (a .y)) (a .brush .window .top) (a .brush .window .bottom)
-    (ap (λ (z : ℤ). between (pos (a .brush .window .top)) (pos (a .brush .window .bottom)) z) (sym (between-pos (a .y) (a .brush .window .top) (a .brush .window .bottom) i)) ∙ i) .1
-    in
     let p = past (c .before .before) in
-    let h = clip-bounds (a .end) (a .brush .window .left) (a .brush .window .right) (s .pre .within .across) .1 in
-    (s .pre .drawable, subst (λ (z : ℤ). natAbs z < a .brush .frame .height) (sym (toZ-ofZ (s .fits .y))) (omega arith), omega arith, omega arith)
+    let h = clip-bounds (a .end) (a .brush .window .left) (a .brush .window .right) (s .pre .within .across) .1 in (
+      s .pre .drawable,
+      subst (λ (z : ℤ). natAbs z < a .brush .frame .height) (sym (toZ-ofZ (s .fits .y))) (below (c .before .before .before .before)),
+      omega arith,
+      omega arith,
+    )
+
+sub-result : tie.Need-sub-result
+sub-result c = search needs
 
 same-length : tie.Need-same-length
 same-length c = search needs
 
-returns-2 : tie.Need-returns-2
-returns-2 c =
-    let s = c .before .before .before .before .before .before .before .before .before .before .before in
-    let a = s .args in
-    c .before .before .paint-columns .ensures
-    ∙ (λ k.
-    painted (raster (a .brush .frame))
-    (columns (natAbs (toZ-ofZ (s .fits .y) k)) (from (c .before .before .before .before .before .before) k) (past (c .before .before .before .before .before) k))
-    (a .brush .colour) (a .buf .now))
-    ∙ span-left (a .brush .frame) (ok s) (a .brush .colour) (a .buf .now) (a .brush .window) (a .y) (a .start) (a .end) (s .pre .within)
-    (inner (c .before .before .before .before .before .before .before))
-
 returns-3 : tie.Need-returns-3
 returns-3 c =
-    let s = c .before .before .before .before .before .before .before in
+    let s = c .before .before .before .before .before .before .before .before .before .before .before in
     let a = s .args in
-    let f = from (c .before .before) in
-    let p = past (c .before) in
-    span-gone (a .brush .frame) (ok s) (a .brush .colour) (a .buf .now) (a .brush .window) (a .y) (a .start) (a .end) (s .pre .within) (inner (c .before .before .before))
-    (subst (λ (x : ℕ). x ≤ clipped (a .start) (a .brush .window .left) (a .brush .window .right)) p (subst (λ (x : ℕ). c .before .clip2 .result ≤ x) f (c .if2 .left)))
+    let painting = c .before .before in
+    let f = from (painting .before .before .before .before) in
+    let p = past (painting .before .before .before) in
+    (λ k. (
+      p k - f k,
+      (painting .paint-columns .ensures
+          ∙ (λ j. painted (raster (a .brush .frame)) (columns (natAbs (toZ-ofZ (s .fits .y) j)) (f j) (p j)) (a .brush .colour) (a .buf .now))) k,
+    ))
+    ∙ span-left (a .brush .frame) (ok s) (a .brush .colour) (a .buf .now) (a .brush .window) (a .y) (a .start) (a .end) (s .pre .within)
+    (inner (painting .before .before .before .before .before)) (below (painting .before .before .before .before .before)) (omega arith)
 
 pub paint-span-spec : {M : Type 1} → statement M
 paint-span-spec =
@@ -116,8 +132,9 @@ paint-span-spec =
     returns
     clip-requires
     clip-requires-2
+    returns-2
     cast-paint-columns
     paint-columns-requires
+    sub-result
     same-length
-    returns-2
     returns-3)

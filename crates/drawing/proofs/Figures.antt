@@ -1,25 +1,33 @@
--- Laws of painting figures by a brush: one after the other, and point by point along a line. Assumes nothing.
+-- Laws of painting figures by a brush, and counting their pixels: one after the other, and point by point along a walk. Assumes nothing.
 use mathlib.Core.Path.{_≡_, refl, sym, ap, _∙_}
-use mathlib.Core.Bool.{Bool, true, false, _&&_, _||_}
+use mathlib.Core.Bool.{Bool, true, false, not, _&&_, _||_}
 use mathlib.Core.List.{List}
-use Prim.Native.Nat.{ℕ, _+_}
+use Prim.Native.Nat.{ℕ, zero, suc, _+_, _*_, _≤_, _<_}
+use native.Mathlib.Nat.{mul-le-mul}
 use native.Mathlib.Numerals.{add-one}
+use native.Mathlib.Omega.{arith}
 use lib.IntN.{ℤ, pos}
+use Rattle.whole.proofs.Decides.{decides-no}
 use Rattle.geometry.specs.declared.Point.{Point}
 use Rattle.geometry.specs.Place.{samePlace}
+use Rattle.geometry.proofs.Place.{same-decides}
 use Rattle.line.specs.Line.{pointAt, points, hasPoint, someStep}
+use Rattle.layout.specs.Count.{oneIf, pixelsIn}
 use Rattle.layout.specs.Figure.{single}
-use Rattle.layout.proofs.Placing.{Placing}
+use Rattle.layout.proofs.Placing.{Placing, Everywhere}
 use Rattle.layout.proofs.Painted.{painted-cong, painted-none, painted-painted}
+use Rattle.layout.proofs.Pixels.{pixels-cong, pixels-none, pixels-le, pixels-add, marked-then}
 use Rattle.framebuffer.specs.declared.Brush.{Brush}
 use Rattle.framebuffer.specs.Description.{raster}
 use Rattle.framebuffer.specs.Judged.{Ready, brushed}
 use Rattle.framebuffer.specs.Window.{inWindow, heldBy}
 use Rattle.framebuffer.proofs.Refusals.{sound}
+use Rattle.framebuffer.proofs.Windows.{point-count}
+use Rattle.drawing.specs.Earlier.{newIn}
 use Rattle.drawing.specs.Figure.{lineFigure}
 
 -- the rectangle is asked once for both
-within-both : (p a b : Bool) → (p && a) || (p && b) ≡ p && (a || b)
+pub within-both : (p a b : Bool) → (p && a) || (p && b) ≡ p && (a || b)
 within-both true a b = refl
 within-both false a b = refl
 
@@ -34,33 +42,153 @@ within-swap true false true = refl
 within-swap true false false = refl
 within-swap false a b = refl
 
--- a brush that may paint has a sound layout
+and-true : (a : Bool) → (a && true) ≡ a
+and-true true = refl
+and-true false = refl
+
+or-true : (a : Bool) → a || true ≡ true
+or-true true = refl
+or-true false = refl
+
+pub or-false : (a : Bool) → a || false ≡ a
+or-false true = refl
+or-false false = refl
+
+-- a brush that may paint has a sound layout, and few pixels
 pub brush-sound : {q : Brush} {len : ℕ} → Ready q len → Placing (raster (q .frame))
 brush-sound {q} R = sound (q .frame) (R .drawable .accepted .described)
 
--- what is left after the points of the steps below k of the line from s to e
-abbrev pub steps : Brush → List ℕ → Point → Point → ℕ → List ℕ
-steps q b s e k = brushed q (λ x y. someStep (pointAt s e) (x, y) k) b
+pub few-pixels : {q : Brush} {len : ℕ} → Ready q len → (s : ℤ → ℤ → Bool) {n : ℕ} → n ≡ pixelsIn (raster (q .frame)) s → n ≤ 4194304
+few-pixels {q} R s e =
+    let D = R .drawable .accepted .described in
+    let m : q .frame .height * q .frame .width ≤ 2048 * 2048 = mul-le-mul (D .height) (D .width) in
+    let h = pixels-le (raster (q .frame)) s in
+    omega arith
 
--- after all its steps: the line
-pub steps-end : (q : Brush) (b : List ℕ) (s e : Point) → steps q b s e (points s e) ≡ brushed q (lineFigure s e) b
+-- the points of the steps below k of a walk
+abbrev pub walked : (ℕ → Point) → ℕ → ℤ → ℤ → Bool
+walked path k x y = someStep path (x, y) k
+
+-- after all the steps of a line: the line
+pub line-walked : (s e : Point) → walked (pointAt s e) (points s e) ≡ lineFigure s e
 unfolding hasPoint
-steps-end q b s e = refl
+line-walked s e = refl
+
+-- no step below k leads to p
+none-leads : (path : ℕ → Point) (p : Point) (k : ℕ) → ((j : ℕ) → j < k → p ≡ path j → ⊥) → someStep path p k ≡ false
+none-leads path p zero h = refl
+none-leads path p (suc k) h = λ i. decides-no (same-decides p (path k)) (h k (omega arith)) i || none-leads path p k (λ j l. h j (omega arith)) i
 
 module _ (q : Brush) (P : Placing (raster (q .frame))) (b : List ℕ) where
   -- one figure, then another
-  pub brushed-then : (s t : ℤ → ℤ → Bool) → brushed q t (brushed q s b) ≡ brushed q (λ x y. s x y || t x y) b
+  pub brushed-then : (s t : ℤ → ℤ → Bool) → brushed q t (brushed q s b .1) .1 ≡ brushed q (λ x y. s x y || t x y) b .1
   brushed-then s t =
       painted-painted (raster (q .frame)) P (q .colour) b (heldBy (q .window) t) (heldBy (q .window) s)
       ∙ painted-cong (raster (q .frame)) P (q .colour) b _ _ (λ x y w h. within-both (inWindow (q .window) (pos x) (pos y)) (s (pos x) (pos y)) (t (pos x) (pos y)))
 
-  pub steps-start : (s e : Point) → steps q b s e 0 ≡ b
-  steps-start s e = painted-none (raster (q .frame)) P (q .colour) b _ (λ x y w h. within-none (inWindow (q .window) (pos x) (pos y)))
+  -- and the pixels add up, where no pixel of the frame is in both
+  pub brushed-more : (s t u : ℤ → ℤ → Bool) {m n : ℕ} {now next : List ℕ} → (m, now) ≡ brushed q s b → (n, next) ≡ brushed q t now
+      → Everywhere (raster (q .frame)) (λ x y. heldBy (q .window) s (pos x) (pos y) && heldBy (q .window) t (pos x) (pos y) ≡ false)
+      → Everywhere (raster (q .frame)) (λ x y. heldBy (q .window) s (pos x) (pos y) || heldBy (q .window) t (pos x) (pos y) ≡ heldBy (q .window) u (pos x) (pos y))
+      → (m + n, next) ≡ brushed q u b
+  brushed-more s t u {m} e f apart joined =
+      ap (λ (r : ℕ × List ℕ). (m + r .0, r .1)) f
+      ∙ ap (λ (r : ℕ × List ℕ). (r .0 + brushed q t b .0, brushed q t (r .1) .1)) e
+      ∙ marked-then (raster (q .frame)) P (q .colour) b (heldBy (q .window) s) (heldBy (q .window) t) (heldBy (q .window) u) apart joined
 
-  pub steps-more : (s e : Point) (k : ℕ) → brushed q (single (pointAt s e k .0) (pointAt s e k .1)) (steps q b s e k) ≡ steps q b s e (k + 1)
-  steps-more s e k =
-      painted-painted (raster (q .frame)) P (q .colour) b (heldBy (q .window) (single (pointAt s e k .0) (pointAt s e k .1)))
-      (heldBy (q .window) (λ x y. someStep (pointAt s e) (x, y) k))
+  -- ---- a walk, point by point
+  pub walked-start : (path : ℕ → Point) → brushed q (walked path 0) b .1 ≡ b
+  walked-start path = painted-none (raster (q .frame)) P (q .colour) b _ (λ x y w h. within-none (inWindow (q .window) (pos x) (pos y)))
+
+  pub walked-more : (path : ℕ → Point) (k : ℕ) → brushed q (single (path k .0) (path k .1)) (brushed q (walked path k) b .1) .1 ≡ brushed q (walked path (k + 1)) b .1
+  walked-more path k =
+      painted-painted (raster (q .frame)) P (q .colour) b (heldBy (q .window) (single (path k .0) (path k .1))) (heldBy (q .window) (walked path k))
       ∙ painted-cong (raster (q .frame)) P (q .colour) b _ _
-      (λ x y w h. within-swap (inWindow (q .window) (pos x) (pos y)) (someStep (pointAt s e) (pos x, pos y) k) (samePlace (pos x, pos y) (pointAt s e k)))
-      ∙ ap (steps q b s e) (sym (add-one k))
+      (λ x y w h. within-swap (inWindow (q .window) (pos x) (pos y)) (walked path k (pos x) (pos y)) (samePlace (pos x, pos y) (path k)))
+      ∙ ap (λ (n : ℕ). brushed q (walked path n) b .1) (sym (add-one k))
+
+-- ---- what a figure has that an earlier one has not
+-- all of it, if there is none
+pub all-new : (q : Brush) (figure : ℤ → ℤ → Bool) (b : List ℕ) → brushed q (newIn (λ x y. false) figure) b .0 ≡ brushed q figure b .0
+all-new q figure b =
+    pixels-cong (raster (q .frame)) _ _ (λ x y hx hy. ap (λ (t : Bool). inWindow (q .window) (pos x) (pos y) && t) (and-true (figure (pos x) (pos y))))
+
+-- a figure drawn after an earlier one, of which only what is new was counted: both together
+pub after-earlier : (q : Brush) → Placing (raster (q .frame)) → (s t before : ℤ → ℤ → Bool) (b : List ℕ) {m n : ℕ} {now next : List ℕ} → ((x y : ℤ) → before x y ≡ s x y)
+    → (m, now) ≡ brushed q s b → n ≡ brushed q (newIn before t) now .0 → next ≡ brushed q t now .1 → (m + n, next) ≡ brushed q (λ x y. s x y || t x y) b
+after-earlier q P s t before b {m} same e f g =
+    (λ i. (m + f i, g i))
+    ∙ ap (λ (r : ℕ × List ℕ). (r .0 + brushed q (newIn before t) b .0, brushed q t (r .1) .1)) e
+    ∙ (λ i. (together i, brushed-then q P b s t i))
+  where
+    none : (w a c e : Bool) → e ≡ a → (w && a) && (w && (c && not e)) ≡ false
+    none false a c e h = refl
+    none true false c e h = refl
+    none true true c e h = (λ i. c && not (h i)) ∙ within-none c
+
+    all : (w a c e : Bool) → e ≡ a → (w && a) || (w && (c && not e)) ≡ w && (a || c)
+    all false a c e h = refl
+    all true true c e h = refl
+    all true false c e h = (λ i. c && not (h i)) ∙ and-true c
+
+    together : brushed q s b .0 + brushed q (newIn before t) b .0 ≡ brushed q (λ x y. s x y || t x y) b .0
+    together =
+        sym (pixels-add (raster (q .frame)) _ _ (λ x y hx hy.
+        none (inWindow (q .window) (pos x) (pos y)) (s (pos x) (pos y)) (t (pos x) (pos y)) (before (pos x) (pos y)) (same (pos x) (pos y))))
+        ∙ pixels-cong (raster (q .frame)) _ _ (λ x y hx hy.
+        all (inWindow (q .window) (pos x) (pos y)) (s (pos x) (pos y)) (t (pos x) (pos y)) (before (pos x) (pos y)) (same (pos x) (pos y)))
+
+-- along a walk
+module _ {q : Brush} {len : ℕ} (R : Ready q len) (before : ℤ → ℤ → Bool) (path : ℕ → Point) (b : List ℕ) where
+  abbrev new : ℕ → ℤ → ℤ → Bool
+  new k = heldBy (q .window) (newIn before (walked path k))
+
+  pub new-start : 0 ≡ brushed q (newIn before (walked path 0)) b .0
+  new-start = sym (pixels-none (raster (q .frame)) _ (λ x y hx hy. within-none (inWindow (q .window) (pos x) (pos y))))
+
+  -- a step more, to a place where none before it led: its point is one more pixel where the rectangle holds it and the earlier figure has it not
+  pub new-more : (k : ℕ) → ((j : ℕ) → j < k → path k ≡ path j → ⊥)
+      → brushed q (newIn before (walked path k)) b .0 + oneIf (inWindow (q .window) (path k .0) (path k .1) && not (before (path k .0) (path k .1)))
+      ≡ brushed q (newIn before (walked path (k + 1))) b .0
+  new-more k apart = by (before (path k .0) (path k .1)) refl ∙ ap (λ (n : ℕ). brushed q (newIn before (walked path n)) b .0) (sym (add-one k))
+    where
+      -- at the place of the point, the figures say what they say of the point
+      there : (x y : ℤ) (s : ℤ → ℤ → Bool) → samePlace (x, y) (path k) ≡ true → s x y ≡ s (path k .0) (path k .1)
+      there x y s h = let e = same-decides (x, y) (path k) .yes h in ap (λ (p : Point). s (p .0) (p .1)) e
+
+      -- the earlier figure has the point: nothing is new
+      gone : (w h a e : Bool) → (h ≡ true → e ≡ true) → (w && (a && not e)) ≡ (w && ((h || a) && not e))
+      gone false h a e g = refl
+      gone true true a e g = (λ i. a && not (g refl i)) ∙ within-none a ∙ sym (ap not (g refl))
+      gone true false a e g = refl
+
+      -- it has it not: the point is one more
+      came : (w h a e : Bool) → (h ≡ true → e ≡ false) → (w && (a && not e)) || (w && h) ≡ (w && ((h || a) && not e))
+      came false h a e g = refl
+      came true true a e g = or-true (a && not e) ∙ sym (ap not (g refl))
+      came true false a e g = or-false (a && not e)
+
+      alone : (w h a e : Bool) → (h ≡ true → a ≡ false) → (w && (a && not e)) && (w && h) ≡ false
+      alone false h a e g = refl
+      alone true true a e g = λ i. (g refl i && not e) && true
+      alone true false a e g = within-none (a && not e)
+
+      inside : Bool
+      inside = inWindow (q .window) (path k .0) (path k .1)
+
+      by : (t : Bool) → before (path k .0) (path k .1) ≡ t
+          → brushed q (newIn before (walked path k)) b .0 + oneIf (inside && not (before (path k .0) (path k .1))) ≡ pixelsIn (raster (q .frame)) (new (suc k))
+      by true e =
+          (λ i. pixelsIn (raster (q .frame)) (new k) + oneIf ((ap (λ (t : Bool). inside && not t) e ∙ within-none inside) i))
+          ∙ omega arith
+          ∙ pixels-cong (raster (q .frame)) (new k) (new (suc k)) (λ x y hx hy.
+          gone (inWindow (q .window) (pos x) (pos y)) (samePlace (pos x, pos y) (path k)) (walked path k (pos x) (pos y)) (before (pos x) (pos y))
+          (λ h. there (pos x) (pos y) before h ∙ e))
+      by false e =
+          (λ i. pixelsIn (raster (q .frame)) (new k) + ((ap (λ (t : Bool). oneIf (inside && not t)) e ∙ ap oneIf (and-true inside) ∙ sym (point-count (q .frame) (R .drawable .accepted .described) (q .colour) b (q .window) (path k .0) (path k .1) (R .within))) i))
+          ∙ sym (pixels-add (raster (q .frame)) (new k) (heldBy (q .window) (single (path k .0) (path k .1))) (λ x y hx hy.
+          alone (inWindow (q .window) (pos x) (pos y)) (samePlace (pos x, pos y) (path k)) (walked path k (pos x) (pos y)) (before (pos x) (pos y))
+          (λ h. there (pos x) (pos y) (walked path k) h ∙ none-leads path (path k) k apart)))
+          ∙ pixels-cong (raster (q .frame)) _ (new (suc k)) (λ x y hx hy.
+          came (inWindow (q .window) (pos x) (pos y)) (samePlace (pos x, pos y) (path k)) (walked path k (pos x) (pos y)) (before (pos x) (pos y))
+          (λ h. there (pos x) (pos y) before h ∙ e))

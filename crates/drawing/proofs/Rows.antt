@@ -2,7 +2,7 @@
 use mathlib.Core.Path.{_≡_, refl, sym, ap, _∙_}
 use mathlib.Core.Bool.{Bool, true, false, _&&_, _||_}
 use mathlib.Core.List.{List}
-use Prim.Native.Nat.{ℕ, _<_}
+use Prim.Native.Nat.{ℕ, _+_, _<_}
 use lib.IntN.{ℤ, pos, _+ℤ_}
 use lib.Signed.{leZ, ltZ, _≤ℤ_, _<ℤ_}
 use Rattle.whole.specs.Equal.{eqZ}
@@ -11,12 +11,12 @@ use Rattle.whole.proofs.Order.{le-lt-more, more-lt-le, le-of, lt-le, lt-apart, 
 use Rattle.whole.proofs.Machine.{lt-yes, lt-no}
 use Rattle.layout.specs.Figure.{spanFigure}
 use Rattle.layout.proofs.Placing.{Placing}
-use Rattle.layout.proofs.Painted.{painted-cong, painted-none}
+use Rattle.layout.proofs.Pixels.{marked-cong, marked-none}
 use Rattle.framebuffer.specs.declared.Brush.{Brush}
 use Rattle.framebuffer.specs.Description.{raster}
 use Rattle.framebuffer.specs.Judged.{brushed}
 use Rattle.framebuffer.specs.Window.{inWindow}
-use Rattle.drawing.proofs.Figures.{brushed-then}
+use Rattle.drawing.proofs.Figures.{within-both, brushed-more}
 
 -- the figure's rows above y
 abbrev pub above : (ℤ → ℤ → Bool) → ℤ → ℤ → ℤ → Bool
@@ -50,30 +50,42 @@ span-on : (a b : Bool) → b ≡ true → (a && b) ≡ a
 span-on true b e = e
 span-on false b e = refl
 
+-- a row above y is not row y
+apart : (w v y f s : Bool) → (v ≡ true → y ≡ true → ⊥) → (w && (v && f)) && (w && (s && y)) ≡ false
+apart false v y f s h = refl
+apart true false y f s h = refl
+apart true true true f s h = absurd (h refl refl)
+apart true true false f s h = span-off f (s && false) (span-off s false refl)
+
 module _ (q : Brush) (P : Placing (raster (q .frame))) (b : List ℕ) (figure : ℤ → ℤ → Bool) where
   -- no row of the figure is above y
-  pub rows-start : (y : ℤ) → ((u v : ℕ) → pos v <ℤ y → figure (pos u) (pos v) ≡ false) → brushed q (above figure y) b ≡ b
-  rows-start y none = painted-none (raster (q .frame)) P (q .colour) b _ (λ u v hu hv. by (inWindow (q .window) (pos u) (pos v)) (ltZ (pos v) y) (λ l. none u v (lt-yes l)))
+  pub rows-start : (y : ℤ) → ((u v : ℕ) → pos v <ℤ y → figure (pos u) (pos v) ≡ false) → brushed q (above figure y) b ≡ (0, b)
+  rows-start y none = marked-none (raster (q .frame)) P (q .colour) b _ (λ u v hu hv. by (inWindow (q .window) (pos u) (pos v)) (ltZ (pos v) y) (λ l. none u v (lt-yes l)))
     where
       by : (p l : Bool) {f : Bool} → (l ≡ true → f ≡ false) → (p && (l && f)) ≡ false
       by true true h = h refl
       by true false h = refl
       by false l h = refl
 
-  -- the span of row y has the figure's columns: one row more is painted
-  pub rows-turn : (y start end : ℤ) → ((u v : ℕ) → u < q .frame .width → v < q .frame .height → pos v ≡ y → (leZ start (pos u) && ltZ (pos u) end) ≡ figure (pos u) (pos v))
-      → brushed q (spanFigure y start end) (brushed q (above figure y) b) ≡ brushed q (above figure (y +ℤ pos 1)) b
-  rows-turn y start end same =
-      brushed-then q P b (above figure y) (spanFigure y start end)
-      ∙ painted-cong (raster (q .frame)) P (q .colour) b _ _ (λ u v hu hv.
-      ap (λ (t : Bool). inWindow (q .window) (pos u) (pos v) && t) (row-place (pos v) y (figure (pos u) (pos v)) (spanFigure y start end (pos u) (pos v))
+  -- the span of row y has the figure's columns: one row more is painted, and its pixels are counted
+  pub rows-turn : (y start end : ℤ) {m n : ℕ} {now next : List ℕ}
+      → ((u v : ℕ) → u < q .frame .width → v < q .frame .height → pos v ≡ y → (leZ start (pos u) && ltZ (pos u) end) ≡ figure (pos u) (pos v))
+      → (m, now) ≡ brushed q (above figure y) b → (n, next) ≡ brushed q (spanFigure y start end) now → (m + n, next) ≡ brushed q (above figure (y +ℤ pos 1)) b
+  rows-turn y start end same so-far more =
+      brushed-more q P b (above figure y) (spanFigure y start end) (above figure (y +ℤ pos 1)) so-far more
+      (λ u v hu hv.
+      apart (inWindow (q .window) (pos u) (pos v)) (ltZ (pos v) y) (eqZ (pos v) y) (figure (pos u) (pos v)) (leZ start (pos u) && ltZ (pos u) end)
+      (λ l e. lt-apart (lt-yes l) (decides-eq (pos v) y .yes e)))
+      (λ u v hu hv.
+      within-both (inWindow (q .window) (pos u) (pos v)) (above figure y (pos u) (pos v)) (spanFigure y start end (pos u) (pos v))
+      ∙ ap (λ (t : Bool). inWindow (q .window) (pos u) (pos v) && t) (row-place (pos v) y (figure (pos u) (pos v)) (spanFigure y start end (pos u) (pos v))
       (λ e. span-on (leZ start (pos u) && ltZ (pos u) end) (eqZ (pos v) y) e ∙ same u v hu hv (decides-eq (pos v) y .yes e))
       (λ e. span-off (leZ start (pos u) && ltZ (pos u) end) (eqZ (pos v) y) e)))
 
   -- no row of the figure is at y or below
   pub rows-end : (y : ℤ) → ((u v : ℕ) → y ≤ℤ pos v → figure (pos u) (pos v) ≡ false) → brushed q (above figure y) b ≡ brushed q figure b
   rows-end y none =
-      painted-cong (raster (q .frame)) P (q .colour) b _ _
+      marked-cong (raster (q .frame)) P (q .colour) b _ _
       (λ u v hu hv. ap (λ (t : Bool). inWindow (q .window) (pos u) (pos v) && t) (by (ltZ (pos v) y) (λ l. none u v (lt-no l))))
     where
       by : (l : Bool) {f : Bool} → (l ≡ false → f ≡ false) → (l && f) ≡ f

@@ -1,2 +1,3 @@
 pub mod Figure
+pub mod Earlier
 pub mod Drawing

@@ -1,9 +1,11 @@
 // Drawing calls into a lent buffer. Each judges its frame once, then its own arguments, and sets every pixel of the frame that its figure
-// contains.
+// contains; its answer says how many these are.
 ghost use mathlib.Core.Path.{_≡_};
+ghost use mathlib.Core.Bool.{not, _&&_};
 ghost use mathlib.Core.List.{_++_};
 ghost use lib.ListN.{length};
 ghost use Rattle.refusals.specs.First.{first};
+ghost use Rattle.layout.specs.Count.{oneIf};
 ghost use Rattle.geometry.specs.Bound.{Bounded};
 ghost use Rattle.line.specs.Answer.{endTests};
 ghost use Rattle.triangle.specs.Answer.{vertexTests};
@@ -12,6 +14,7 @@ ghost use Rattle.framebuffer.specs.Description.{drawTests};
 ghost use Rattle.framebuffer.specs.Drawing.{outcome};
 ghost use Rattle.framebuffer.specs.Judged.{Ready, brushed};
 ghost use Rattle.framebuffer.specs.Window.{wholeWindow};
+ghost use Rattle.drawing.specs.Earlier.{Ends, earlierFigure, newIn};
 ghost use Rattle.drawing.specs.Figure.{lineFigure, outlineFigure, triangleFigure, circleFigure};
 ghost use Rattle.drawing.specs.Drawing.{lineDrawing, outlineDrawing, triangleDrawing, circleDrawing};
 use framebuffer::Brush;
@@ -19,20 +22,79 @@ use framebuffer::Drawn;
 use framebuffer::Frame;
 use geometry::Point;
 
-// The points of an accepted line, as far as the rectangle holds them.
-fn draw_edge(buf: &mut [u8], brush: Brush, start: Point, end: Point)
-    requires { ⌜ Ready brush (length (now buf)) × (Bounded start × Bounded end) ⌝ }
-    ensures { λ r. ⌜ now (buf .exit) ≡ brushed brush (lineFigure start end) (now (buf .entry)) ⌝ }
+// The edges of an outline that are drawn already: the first `edges` of the lines a to b and b to c.
+struct Earlier {
+    edges: u32,
+    a: Point,
+    b: Point,
+    c: Point,
+}
+
+impl Earlier {
+    // Whether p is a point of one of them.
+    fn has(self, p: Point) -> bool
+        requires { ⌜ Ends self ⌝ }
+        ensures { λ r. ⌜ r ≡ earlierFigure self (p .0) (p .1) ⌝ }
+    {
+        if self.edges == 0 {
+            return false;
+        }
+        if line::meets(self.a, self.b, p) {
+            return true;
+        }
+        if self.edges == 1 {
+            return false;
+        }
+        line::meets(self.b, self.c, p)
+    }
+
+    // 1 for a point that is inside and on none of them, else 0.
+    fn adds(self, inside: bool, p: Point) -> u32
+        requires { ⌜ Ends self ⌝ }
+        ensures { λ r. ⌜ r ≡ oneIf (inside && not (earlierFigure self (p .0) (p .1))) ⌝ }
+    {
+        if !inside {
+            return 0;
+        }
+        if self.has(p) {
+            return 0;
+        }
+        1
+    }
+}
+
+// The points of an accepted line, as far as the rectangle holds them; and how many of these are on no earlier edge.
+fn draw_edge(buf: &mut [u8], brush: Brush, earlier: Earlier, start: Point, end: Point) -> u32
+    requires { ⌜ Ready brush (length (now buf)) × Ends earlier × (Bounded start × Bounded end) ⌝ }
+    ensures { λ r. ⌜ (r ≡ brushed brush (newIn (earlierFigure earlier) (lineFigure start end)) (now (buf .entry)) .0)
+        × (now (buf .exit) ≡ brushed brush (lineFigure start end) (now (buf .entry)) .1) ⌝ }
 {
     let mut walker = line::Walker::new(start, end);
     let count = line::last_step(start, end) + 1;
+    let mut seen = 0u32;
     let mut k = 0u32;
     while k < count {
         let stepped = walker.step();
-        framebuffer::put_point(buf, brush, stepped.point);
+        let inside = framebuffer::put_point(buf, brush, stepped.point);
+        seen += earlier.adds(inside, stepped.point);
         walker = stepped.walker;
         k += 1;
     }
+    seen
+}
+
+// The same of a line by itself: no edge comes before it.
+fn draw_alone(buf: &mut [u8], brush: Brush, start: Point, end: Point) -> u32
+    requires { ⌜ Ready brush (length (now buf)) × (Bounded start × Bounded end) ⌝ }
+    ensures { λ r. ⌜ (r, now (buf .exit)) ≡ brushed brush (lineFigure start end) (now (buf .entry)) ⌝ }
+{
+    let none = Earlier {
+        edges: 0,
+        a: start,
+        b: start,
+        c: start,
+    };
+    draw_edge(buf, brush, none, start, end)
 }
 
 // The number that drawing a line answers.
@@ -51,10 +113,13 @@ pub fn draw_line(buf: &mut [u8], frame: Frame, start: Point, end: Point, colour:
     ensures { λ r. ⌜ (r, now (buf .exit)) ≡ outcome frame (wholeWindow frame) (lineDrawing start end colour) (now (buf .entry)) ⌝ }
 {
     let number = line_number(frame, buf.len(), start, end, colour);
-    if number == 0 {
-        draw_edge(buf, frame.brush(colour), start, end);
+    if number != 0 {
+        return Drawn { number, count: 0 };
     }
-    Drawn { number }
+    Drawn {
+        number: 0,
+        count: draw_alone(buf, frame.brush(colour), start, end),
+    }
 }
 
 // The number that drawing a triangle or its outline answers.
@@ -68,14 +133,26 @@ fn triangle_number(frame: Frame, len: usize, v1: Point, v2: Point, v3: Point, co
     triangle::refusal(v1, v2, v3)
 }
 
-// The three edges of an accepted outline, as far as the rectangle holds them.
-fn draw_edges(buf: &mut [u8], brush: Brush, v1: Point, v2: Point, v3: Point)
+// The three edges of an accepted outline, as far as the rectangle holds them; a pixel of two of them counts once.
+fn draw_edges(buf: &mut [u8], brush: Brush, v1: Point, v2: Point, v3: Point) -> u32
     requires { ⌜ Ready brush (length (now buf)) × (Bounded v1 × Bounded v2 × Bounded v3) ⌝ }
-    ensures { λ r. ⌜ now (buf .exit) ≡ brushed brush (outlineFigure v1 v2 v3) (now (buf .entry)) ⌝ }
+    ensures { λ r. ⌜ (r, now (buf .exit)) ≡ brushed brush (outlineFigure v1 v2 v3) (now (buf .entry)) ⌝ }
 {
-    draw_edge(buf, brush, v1, v2);
-    draw_edge(buf, brush, v2, v3);
-    draw_edge(buf, brush, v3, v1);
+    let first = Earlier {
+        edges: 1,
+        a: v1,
+        b: v2,
+        c: v3,
+    };
+    let both = Earlier {
+        edges: 2,
+        a: v1,
+        b: v2,
+        c: v3,
+    };
+    let of_first = draw_alone(buf, brush, v1, v2);
+    let of_second = draw_edge(buf, brush, first, v2, v3);
+    of_first + of_second + draw_edge(buf, brush, both, v3, v1)
 }
 
 // Draws the outline of a triangle: its edges from each vertex to the next, in the order in which they are given.
@@ -90,25 +167,30 @@ pub fn draw_outline(
     ensures { λ r. ⌜ (r, now (buf .exit)) ≡ outcome frame (wholeWindow frame) (outlineDrawing v1 v2 v3 colour) (now (buf .entry)) ⌝ }
 {
     let number = triangle_number(frame, buf.len(), v1, v2, v3, colour);
-    if number == 0 {
-        draw_edges(buf, frame.brush(colour), v1, v2, v3);
+    if number != 0 {
+        return Drawn { number, count: 0 };
     }
-    Drawn { number }
+    Drawn {
+        number: 0,
+        count: draw_edges(buf, frame.brush(colour), v1, v2, v3),
+    }
 }
 
-// The rows of an accepted circle, as far as the rectangle holds them.
-fn fill_circle(buf: &mut [u8], brush: Brush, topleft: Point, diameter: u32)
+// The rows of an accepted circle, as far as the rectangle holds them; and how many pixels these have.
+fn fill_circle(buf: &mut [u8], brush: Brush, topleft: Point, diameter: u32) -> u32
     requires { ⌜ Ready brush (length (now buf)) × Fits topleft diameter ⌝ }
-    ensures { λ r. ⌜ now (buf .exit) ≡ brushed brush (circleFigure topleft diameter) (now (buf .entry)) ⌝ }
+    ensures { λ r. ⌜ (r, now (buf .exit)) ≡ brushed brush (circleFigure topleft diameter) (now (buf .entry)) ⌝ }
 {
     let top = topleft.1;
+    let mut seen = 0u32;
     let mut k = 0u32;
     while k < diameter {
         let y = top + (k as i32);
         let row = circle::accepted_row_span(topleft, diameter, y);
-        framebuffer::paint_span(buf, brush, y, row.start, row.end);
+        seen += framebuffer::paint_span(buf, brush, y, row.start, row.end);
         k += 1;
     }
+    seen
 }
 
 // The number that drawing a circle answers.
@@ -133,30 +215,36 @@ pub fn draw_circle(
     ensures { λ r. ⌜ (r, now (buf .exit)) ≡ outcome frame (wholeWindow frame) (circleDrawing topleft diameter colour) (now (buf .entry)) ⌝ }
 {
     let number = circle_number(frame, buf.len(), topleft, diameter, colour);
-    if number == 0 {
-        fill_circle(buf, frame.brush(colour), topleft, diameter);
+    if number != 0 {
+        return Drawn { number, count: 0 };
     }
-    Drawn { number }
+    Drawn {
+        number: 0,
+        count: fill_circle(buf, frame.brush(colour), topleft, diameter),
+    }
 }
 
-// The rows of an accepted triangle from the top down, each from the walks along its edges, as far as the rectangle holds them.
-fn fill_triangle(buf: &mut [u8], brush: Brush, v1: Point, v2: Point, v3: Point)
+// The rows of an accepted triangle from the top down, each from the walks along its edges, as far as the rectangle holds them; and how many pixels these
+// have.
+fn fill_triangle(buf: &mut [u8], brush: Brush, v1: Point, v2: Point, v3: Point) -> u32
     requires { ⌜ Ready brush (length (now buf)) × (Bounded v1 × Bounded v2 × Bounded v3) ⌝ }
-    ensures { λ r. ⌜ now (buf .exit) ≡ brushed brush (triangleFigure v1 v2 v3) (now (buf .entry)) ⌝ }
+    ensures { λ r. ⌜ (r, now (buf .exit)) ≡ brushed brush (triangleFigure v1 v2 v3) (now (buf .entry)) ⌝ }
 {
     let t = triangle::sorted_yx(v1, v2, v3);
     let top = t.p1;
     let last = t.p3;
     let bottom = last.1;
     let mut walk = edges::Walk::new(t, triangle::is_solid(v1, v2, v3));
+    let mut seen = 0u32;
     let mut y = top.1;
     while y <= bottom {
         let row = walk.row(y);
         let end = row.high + 1;
-        framebuffer::paint_span(buf, brush, y, row.low, end);
+        seen += framebuffer::paint_span(buf, brush, y, row.low, end);
         walk = row.walk;
         y += 1;
     }
+    seen
 }
 
 // Draws a filled triangle.
@@ -171,8 +259,11 @@ pub fn draw_triangle(
     ensures { λ r. ⌜ (r, now (buf .exit)) ≡ outcome frame (wholeWindow frame) (triangleDrawing v1 v2 v3 colour) (now (buf .entry)) ⌝ }
 {
     let number = triangle_number(frame, buf.len(), v1, v2, v3, colour);
-    if number == 0 {
-        fill_triangle(buf, frame.brush(colour), v1, v2, v3);
+    if number != 0 {
+        return Drawn { number, count: 0 };
     }
-    Drawn { number }
+    Drawn {
+        number: 0,
+        count: fill_triangle(buf, frame.brush(colour), v1, v2, v3),
+    }
 }

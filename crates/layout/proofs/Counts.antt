@@ -23,13 +23,13 @@ pub many-all : (n : ℕ) (f : ℕ → Bool) → ((p : ℕ) → p < n → f p ≡
 many-all zero f h = refl
 many-all (suc n) f h = ap₂ (λ (m : ℕ) (t : Bool). m + oneIf t) (many-all n f (λ p l. h p (omega arith))) (h n (le-refl (suc n))) ∙ omega arith
 
-one-small : (t : Bool) → oneIf t ≤ 1
-one-small true = omega arith
-one-small false = omega arith
+pub one-small : (t : Bool) {n : ℕ} → n ≡ oneIf t → n ≤ 1
+one-small true e = omega arith
+one-small false e = omega arith
 
 pub many-le : (n : ℕ) (f : ℕ → Bool) → howMany n f ≤ n
 many-le zero f = omega arith
-many-le (suc n) f = omega (arith, many-le n f, one-small (f n))
+many-le (suc n) f = omega (arith, many-le n f, one-small (f n) refl)
 
 -- what is inside either and both, together
 one-both : (s t : Bool) → oneIf (s || t) + oneIf (s && t) ≡ oneIf s + oneIf t

@@ -3,6 +3,7 @@ pub mod Lengths
 pub mod Walk
 pub mod Points
 pub mod Closed
+pub mod Apart
 pub mod Refusals
 pub mod Answer
 pub mod Determined

@@ -8,6 +8,10 @@ use Rattle.drawing.proofs.draw_circle.Tie as tie
 circle-number-requires : tie.Need-circle-number-requires
 circle-number-requires c κs = search needs
 
+-- refused
+returns : tie.Need-returns
+returns c = search calls
+
 brush-requires : tie.Need-brush-requires
 brush-requires c κs = search needs
 
@@ -18,12 +22,8 @@ same-length : tie.Need-same-length
 same-length c = search needs
 
 -- accepted
-returns : tie.Need-returns
-returns c = search calls
-
--- refused
 returns-2 : tie.Need-returns-2
 returns-2 c = search calls
 
 pub draw-circle-spec : {M : Type 1} → statement M
-draw-circle-spec = tie.close (tie.spec circle-number-requires brush-requires fill-circle-requires same-length returns returns-2)
+draw-circle-spec = tie.close (tie.spec circle-number-requires returns brush-requires fill-circle-requires same-length returns-2)

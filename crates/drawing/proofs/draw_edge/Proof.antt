@@ -1,28 +1,39 @@
--- `drawing::draw_edge` sets the points that the walker hands out, one a turn: before turn k those of the steps below k are set. Assumes nothing.
+-- `drawing::draw_edge` sets the points that the walker hands out, one a turn: before turn k those of the steps below k are set, and those that no earlier
+-- edge has are counted. No step leads where one before it led. Assumes nothing.
 use mathlib.Core.Path.{_≡_, refl, sym, ap, ap₂, subst, _∙_}
+use mathlib.Core.Bool.{Bool, not, _&&_}
 use mathlib.Core.List.{List}
 use Prim.Native.Nat.{ℕ, _+_, _-_, _≤_}
 use native.Mathlib.Omega.{arith}
+use lib.IntN.{ℤ}
 use lib.ListN.{length}
 use borrow.Author.Needs.{needs}
 use Rattle.geometry.specs.declared.Point.{Point}
-use Rattle.line.specs.Line.{points}
+use Rattle.line.specs.Line.{points, pointAt}
 use Rattle.line.specs.Walk.{WalkerAt, Walking}
+use Rattle.line.proofs.Apart.{steps-apart}
 use Rattle.line.proofs.Lengths.{major-size}
+use Rattle.layout.specs.Count.{oneIf}
 use Rattle.layout.specs.Figure.{single}
+use Rattle.layout.proofs.Counts.{one-small}
 use Rattle.framebuffer.specs.Judged.{Ready, brushed}
-use Rattle.drawing.proofs.Figures.{brush-sound, steps, steps-start, steps-more, steps-end}
+use Rattle.framebuffer.specs.Window.{inWindow}
+use Rattle.drawing.specs.Earlier.{earlierFigure, newIn}
+use Rattle.drawing.specs.Figure.{lineFigure}
+use Rattle.drawing.proofs.Figures.{brush-sound, walked, line-walked, walked-start, walked-more, new-start, new-more}
 use Rattle.drawing.proofs.draw_edge.Statement.{statement}
 use Rattle.drawing.proofs.draw_edge.Tie as tie
 
 abbrev Inv-loop : tie.InvT-loop
-Inv-loop buf₀ brush walker₀ count k₀ buf walker k =
-    (length buf ≡ length buf₀) × (k ≤ count)
+Inv-loop buf₀ brush earlier walker₀ count seen₀ k₀ buf walker seen k =
+    (length buf ≡ length buf₀) × (k ≤ count) × (seen ≤ k)
     × ((s e : Point) → count ≡ points s e → Ready brush (length buf₀) → WalkerAt s e 0 walker₀
-    → WalkerAt s e k walker × (buf ≡ steps brush buf₀ s e k))
+    → WalkerAt s e k walker
+    × (seen ≡ brushed brush (newIn (earlierFigure earlier) (walked (pointAt s e) k)) buf₀ .0)
+    × (buf ≡ brushed brush (walked (pointAt s e) k) buf₀ .1))
 
 abbrev μ-loop : tie.MeasureT-loop
-μ-loop buf₀ brush walker₀ count k₀ buf walker k = count - k
+μ-loop buf₀ brush earlier walker₀ count seen₀ k₀ buf walker seen k = count - k
 
 new-requires : tie.Need-new-requires Inv-loop μ-loop
 new-requires c κs = search needs
@@ -31,21 +42,32 @@ last-step-requires : tie.Need-last-step-requires Inv-loop μ-loop
 last-step-requires c κs = search needs
 
 add-count : tie.Need-add-count Inv-loop μ-loop
-add-count c = let s = c .before .before .before in omega (arith, c .last-step .ensures, major-size (s .pre .1 .0) (s .pre .1 .1))
+add-count c = let s = c .before .before .before in omega (arith, c .last-step .ensures, major-size (s .pre .2 .0) (s .pre .2 .1))
 
 loop-holds : tie.Need-loop-holds Inv-loop μ-loop
 loop-holds c =
-    let a = c .before .before .before .args in
-    (refl, omega arith, λ s e n ok at. (at, sym (steps-start (a .brush) (brush-sound ok) (a .buf .now) s e)))
+    let a = c .before .before .before .args in (
+      refl,
+      omega arith,
+      omega arith,
+      λ s e n ok at. (at, new-start ok (earlierFigure (a .earlier)) (pointAt s e) (a .buf .now), sym (walked-start (a .brush) (brush-sound ok) (a .buf .now) (pointAt s e))),
+    )
 
--- at the loop's head the walker stands at step k, and the steps below it are set
+-- at the loop's head the walker stands at step k, and the steps below it are set and counted
 module _ (c : tie.At-loop Inv-loop μ-loop) where
   abbrev entry : tie.Start Inv-loop μ-loop
   entry = c .before .before .before .before
 
+  abbrev path : ℕ → Point
+  path = pointAt (entry .args .start) (entry .args .end)
+
   head : WalkerAt (entry .args .start) (entry .args .end) (c .loop .k) (c .loop .walker)
-      × (c .loop .buf ≡ steps (entry .args .brush) (entry .args .buf .now) (entry .args .start) (entry .args .end) (c .loop .k))
-  head = c .loop .inv .2 (entry .args .start) (entry .args .end) (ap (λ (n : ℕ). n + 1) (c .before .last-step .ensures)) (entry .pre .0) (c .before .before .new .ensures)
+      × (c .loop .seen ≡ brushed (entry .args .brush) (newIn (earlierFigure (entry .args .earlier)) (walked path (c .loop .k))) (entry .args .buf .now) .0)
+      × (c .loop .buf ≡ brushed (entry .args .brush) (walked path (c .loop .k)) (entry .args .buf .now) .1)
+  head = c .loop .inv .3 (entry .args .start) (entry .args .end) (ap (λ (n : ℕ). n + 1) (c .before .last-step .ensures)) (entry .pre .0) (c .before .before .new .ensures)
+
+  few-steps : c .loop .k ≤ 262145
+  few-steps = omega (arith, c .loop .inv .1, c .before .last-step .ensures, major-size (entry .pre .2 .0) (entry .pre .2 .1))
 
 walking : (c : tie.In-loop Inv-loop μ-loop) → Walking (c .before .loop .walker)
 walking c =
@@ -61,28 +83,48 @@ put-point-requires c κs =
     let s = entry h in
     subst (Ready (s .args .brush)) (sym (h .loop .inv .0)) (s .pre .0)
 
-add-k : tie.Need-add-k Inv-loop μ-loop
-add-k c =
+adds-requires : tie.Need-adds-requires Inv-loop μ-loop
+adds-requires c κs = entry (c .before .before .before .before .before .before) .pre .1
+
+-- a point adds one at most
+one : (c : tie.After-adds Inv-loop μ-loop) → c .adds .result ≤ 1
+one c =
+    let put = c .before .before .before in
+    let step = put .before .before in
+    let p = step .step .result .point in
+    one-small (put .put-point .result && not (earlierFigure (entry (step .before .before) .args .earlier) (p .0) (p .1))) (c .adds .ensures)
+
+add-seen : tie.Need-add-seen Inv-loop μ-loop
+add-seen c =
     let h = c .before .before .before .before .before .before .before in
-    let s = entry h in omega (arith, h .before .last-step .ensures, major-size (s .pre .1 .0) (s .pre .1 .1))
+    omega (arith, few-steps h, h .loop .inv .2, one c)
+
+add-k : tie.Need-add-k Inv-loop μ-loop
+add-k c = omega (arith, few-steps (c .before .before .before .before .before .before .before .before))
 
 loop-less : tie.Need-loop-less Inv-loop μ-loop
 loop-less c = search needs
 
 loop-again : tie.Need-loop-again Inv-loop μ-loop
 loop-again c =
-    let put = c .before .before .before in
+    let adds = c .before in
+    let put = adds .before .before .before in
     let step = put .before .before in
     let h = step .before .before in
     let a = entry h .args in (
       put .put-point .kept .0 ∙ h .loop .inv .0,
       omega arith,
+      omega (arith, h .loop .inv .2, one adds),
       λ s e n ok at.
-          let i = h .loop .inv .2 s e n ok at in
+          let i = h .loop .inv .3 s e n ok at in
           let g = step .step .ensures s e (h .loop .k) (omega arith) (i .0) in (
             g .1,
-            put .put-point .ensures ∙ ap₂ (λ (p : Point) (b : List ℕ). brushed (a .brush) (single (p .0) (p .1)) b) (g .0) (i .1)
-                ∙ steps-more (a .brush) (brush-sound ok) (a .buf .now) s e (h .loop .k),
+            (λ j.
+                i .1 j + (adds .adds .ensures ∙ (λ j. oneIf (put .put-point .ensures .0 j && not (earlierFigure (a .earlier) (step .step .result .point .0) (step .step .result .point .1))))
+                ∙ ap (λ (p : Point). oneIf (inWindow (a .brush .window) (p .0) (p .1) && not (earlierFigure (a .earlier) (p .0) (p .1)))) (g .0)) j)
+                ∙ new-more ok (earlierFigure (a .earlier)) (pointAt s e) (a .buf .now) (h .loop .k) (λ j l e′. let z = steps-apart s e (h .loop .k) j e′ in omega arith),
+            put .put-point .ensures .1 ∙ ap₂ (λ (p : Point) (b : List ℕ). brushed (a .brush) (single (p .0) (p .1)) b .1) (g .0) (i .2)
+                ∙ walked-more (a .brush) (brush-sound ok) (a .buf .now) (pointAt s e) (h .loop .k),
           ),
     )
 
@@ -93,7 +135,10 @@ returns : tie.Need-returns Inv-loop μ-loop
 returns c =
     let a = entry (c .before) .args in
     let all : c .before .loop .k ≡ points (a .start) (a .end) = omega (arith, c .before .before .last-step .ensures) in
-    head (c .before) .1 ∙ ap (steps (a .brush) (a .buf .now) (a .start) (a .end)) all ∙ steps-end (a .brush) (a .buf .now) (a .start) (a .end)
+    let figure : walked (path (c .before)) (c .before .loop .k) ≡ lineFigure (a .start) (a .end) = ap (walked (path (c .before))) all ∙ line-walked (a .start) (a .end) in (
+      head (c .before) .1 ∙ ap (λ (f : ℤ → ℤ → Bool). brushed (a .brush) (newIn (earlierFigure (a .earlier)) f) (a .buf .now) .0) figure,
+      head (c .before) .2 ∙ ap (λ (f : ℤ → ℤ → Bool). brushed (a .brush) f (a .buf .now) .1) figure,
+    )
 
 pub draw-edge-spec : {M : Type 1} → statement M
 draw-edge-spec =
@@ -107,6 +152,8 @@ draw-edge-spec =
     loop-holds
     step-requires
     put-point-requires
+    adds-requires
+    add-seen
     add-k
     loop-less
     loop-again

@@ -8,6 +8,10 @@ use Rattle.drawing.proofs.draw_triangle.Tie as tie
 triangle-number-requires : tie.Need-triangle-number-requires
 triangle-number-requires c κs = search needs
 
+-- refused
+returns : tie.Need-returns
+returns c = search calls
+
 brush-requires : tie.Need-brush-requires
 brush-requires c κs = search needs
 
@@ -18,12 +22,8 @@ same-length : tie.Need-same-length
 same-length c = search needs
 
 -- accepted
-returns : tie.Need-returns
-returns c = search calls
-
--- refused
 returns-2 : tie.Need-returns-2
 returns-2 c = search calls
 
 pub draw-triangle-spec : {M : Type 1} → statement M
-draw-triangle-spec = tie.close (tie.spec triangle-number-requires brush-requires fill-triangle-requires same-length returns returns-2)
+draw-triangle-spec = tie.close (tie.spec triangle-number-requires returns brush-requires fill-triangle-requires same-length returns-2)

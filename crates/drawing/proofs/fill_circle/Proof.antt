@@ -1,4 +1,4 @@
--- `drawing::fill_circle` paints a row's span a turn: before turn k the figure's rows above the k-th are painted. Assumes nothing.
+-- `drawing::fill_circle` paints a row's span a turn: before turn k the figure's rows above the k-th are painted, and their pixels counted. Assumes nothing.
 use mathlib.Core.Path.{_≡_, refl, sym, ap, subst, _∙_}
 use Prim.Native.Nat.{ℕ, _+_, _-_, _≤_, _<_}
 use native.Mathlib.Omega.{arith}
@@ -18,19 +18,19 @@ use Rattle.circle.proofs.Worked.{after-fits, after-is}
 use Rattle.layout.specs.Figure.{spanFigure}
 use Rattle.framebuffer.specs.Judged.{Ready, brushed}
 use Rattle.drawing.specs.Figure.{circleFigure}
-use Rattle.drawing.proofs.Figures.{brush-sound}
+use Rattle.drawing.proofs.Figures.{brush-sound, few-pixels}
 use Rattle.drawing.proofs.Circles.{circle-above, circle-below, circle-columns}
 use Rattle.drawing.proofs.Rows.{above, rows-start, rows-turn, rows-end}
 use Rattle.drawing.proofs.fill_circle.Statement.{statement}
 use Rattle.drawing.proofs.fill_circle.Tie as tie
 
 abbrev Inv-loop : tie.InvT-loop
-Inv-loop buf₀ brush topleft diameter top k₀ buf k =
+Inv-loop buf₀ brush topleft diameter top seen₀ k₀ buf seen k =
     (length buf ≡ length buf₀) × (k ≤ diameter)
-    × (Ready brush (length buf₀) → buf ≡ brushed brush (above (circleFigure topleft diameter) (topleft .1 +ℤ pos k)) buf₀)
+    × (Ready brush (length buf₀) → (seen, buf) ≡ brushed brush (above (circleFigure topleft diameter) (topleft .1 +ℤ pos k)) buf₀)
 
 abbrev μ-loop : tie.MeasureT-loop
-μ-loop buf₀ brush topleft diameter top k₀ buf k = diameter - k
+μ-loop buf₀ brush topleft diameter top seen₀ k₀ buf seen k = diameter - k
 
 loop-holds : tie.Need-loop-holds Inv-loop μ-loop
 loop-holds c =
@@ -71,6 +71,13 @@ paint-span-requires c κs =
     let s = entry h in
     subst (Ready (s .args .brush)) (sym (h .before .loop .inv .0)) (s .pre .0)
 
+add-seen : tie.Need-add-seen Inv-loop μ-loop
+add-seen c =
+    let paint = c .before .before in
+    let h = paint .before .before .before .before .before in
+    let s = entry h in
+    omega (arith, few-pixels (s .pre .0) _ (λ i. h .before .loop .inv .2 (s .pre .0) i .0), few-pixels (s .pre .0) _ (λ i. paint .paint-span .ensures i .0))
+
 add-k : tie.Need-add-k Inv-loop μ-loop
 add-k c = search needs
 
@@ -92,11 +99,11 @@ loop-again c =
       paint .paint-span .kept .0 ∙ h .before .loop .inv .0,
       omega arith,
       λ ok.
-          paint .paint-span .ensures
-          ∙ (λ i. brushed (a .brush) (spanFigure (y-is h i) (start i) (end i)) (h .before .loop .inv .2 ok i))
-          ∙ rows-turn (a .brush) (brush-sound ok) (a .buf .now) (circleFigure (a .topleft) (a .diameter)) y (spanStart (a .topleft) (a .diameter) y)
+          rows-turn (a .brush) (brush-sound ok) (a .buf .now) (circleFigure (a .topleft) (a .diameter)) y (spanStart (a .topleft) (a .diameter) y)
           (spanEnd (a .topleft) (a .diameter) y)
           (λ u v hu hv e. circle-columns (a .topleft) (a .diameter) y u v e)
+          (h .before .loop .inv .2 ok)
+          (paint .paint-span .ensures ∙ (λ i. brushed (a .brush) (spanFigure (y-is h i) (start i) (end i)) (h .before .loop .buf)))
           ∙ ap (λ (z : ℤ). brushed (a .brush) (above (circleFigure (a .topleft) (a .diameter)) z) (a .buf .now)) (+ℤ-assoc (a .topleft .1) (pos k) (pos 1)),
     )
 
@@ -123,6 +130,7 @@ fill-circle-spec =
     add-y
     accepted-row-span-requires
     paint-span-requires
+    add-seen
     add-k
     loop-less
     loop-again

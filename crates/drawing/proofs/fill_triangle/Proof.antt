@@ -1,5 +1,5 @@
 -- `drawing::fill_triangle` takes a row from the walks along the edges and paints its span, a row a turn: before row y the triangle's rows above y are
--- painted. Assumes nothing.
+-- painted, and their pixels counted. Assumes nothing.
 use mathlib.Core.Path.{_≡_, refl, sym, ap, subst, subst₂, _∙_}
 use mathlib.Core.Bool.{Bool}
 use Prim.Native.Nat.{_+_, _-_, _<_}
@@ -24,7 +24,7 @@ use Rattle.edges.specs.Edges.{WalkAt, Rowed}
 use Rattle.layout.specs.Figure.{spanFigure}
 use Rattle.framebuffer.specs.Judged.{Ready, brushed}
 use Rattle.drawing.specs.Figure.{triangleFigure}
-use Rattle.drawing.proofs.Figures.{brush-sound}
+use Rattle.drawing.proofs.Figures.{brush-sound, few-pixels}
 use Rattle.drawing.proofs.Fill.{solid, none-above, none-below, row-columns, past-fits, row-fits, nearer, still-below}
 use Rattle.drawing.proofs.Rows.{above, rows-start, rows-turn, rows-end}
 use Rattle.drawing.proofs.fill_triangle.Statement.{statement}
@@ -32,13 +32,13 @@ use Rattle.drawing.proofs.fill_triangle.Tie as tie
 
 -- the loop does not have the vertices at hand: whichever triangle the walks are of, at its top
 abbrev Inv-loop : tie.InvT-loop
-Inv-loop buf₀ brush bottom walk₀ y₀ buf walk y =
+Inv-loop buf₀ brush bottom walk₀ seen₀ y₀ buf walk seen y =
     (length buf ≡ length buf₀) × (toZ w32 y₀ ≤ℤ toZ w32 y)
     × ((v1 v2 v3 : Point) → Ready brush (length buf₀) → toZ w32 y₀ ≡ sorted v1 v2 v3 .p1 .1 → WalkAt (sorted v1 v2 v3) (solid v1 v2 v3) (toZ w32 y₀) walk₀
-    → WalkAt (sorted v1 v2 v3) (solid v1 v2 v3) (toZ w32 y) walk × (buf ≡ brushed brush (above (triangleFigure v1 v2 v3) (toZ w32 y)) buf₀))
+    → WalkAt (sorted v1 v2 v3) (solid v1 v2 v3) (toZ w32 y) walk × ((seen, buf) ≡ brushed brush (above (triangleFigure v1 v2 v3) (toZ w32 y)) buf₀))
 
 abbrev μ-loop : tie.MeasureT-loop
-μ-loop buf₀ brush bottom walk₀ y₀ buf walk y = (up (toZ w32 bottom) + dn (toZ w32 y) + 1) - (up (toZ w32 y) + dn (toZ w32 bottom))
+μ-loop buf₀ brush bottom walk₀ seen₀ y₀ buf walk seen y = (up (toZ w32 bottom) + dn (toZ w32 y) + 1) - (up (toZ w32 y) + dn (toZ w32 bottom))
 
 sorted-yx-requires : tie.Need-sorted-yx-requires Inv-loop μ-loop
 sorted-yx-requires c κs = search needs
@@ -162,6 +162,14 @@ paint-span-requires c κs =
     let s = entry (start h) in
     subst (Ready (s .args .brush)) (sym (h .before .loop .inv .0)) (s .pre .0)
 
+add-seen : tie.Need-add-seen Inv-loop μ-loop
+add-seen c =
+    let paint = c .before .before in
+    let h = turn (paint .before .before .before) in
+    let s = start h in
+    let ok = entry s .pre .0 in
+    omega (arith, few-pixels ok _ (λ i. h .before .loop .inv .2 (v1 s) (v2 s) (v3 s) ok (top-is s) (begun s) .1 i .0), few-pixels ok _ (λ i. paint .paint-span .ensures i .0))
+
 add-y : tie.Need-add-y Inv-loop μ-loop
 add-y c = next-row (c .before .before .before .before .before .before .before .before .before)
 
@@ -186,13 +194,15 @@ loop-again c =
           let on = l .inv .2 v1 v2 v3 ok first at in
           let done = told .before .before .row .ensures (sorted v1 v2 v3) (solid v1 v2 v3) (on .0) in
           subst
-          (λ (v : ℤ). WalkAt (sorted v1 v2 v3) (solid v1 v2 v3) v (r .walk) × (paint .paint-span .last .0 ≡ brushed (a .brush) (above (triangleFigure v1 v2 v3) v) (a .buf .now)))
+          (λ (v : ℤ).
+          WalkAt (sorted v1 v2 v3) (solid v1 v2 v3) v (r .walk)
+          × ((l .seen + paint .paint-span .result, paint .paint-span .last .0) ≡ brushed (a .brush) (above (triangleFigure v1 v2 v3) v) (a .buf .now)))
           (sym (next-back h)) (
             done .walk,
-            paint .paint-span .ensures
-                ∙ (λ i. brushed (a .brush) (spanFigure (y h) (low-back i) (end-is told i)) (on .1 i))
-                ∙ rows-turn (a .brush) (brush-sound ok) (a .buf .now) (triangleFigure v1 v2 v3) (y h) (r .low) (r .high +ℤ pos 1)
-                (λ u v hu hv e. row-columns v1 v2 v3 (y h) r done u v (omega (arith, ok .drawable .accepted .described .width)) e),
+            rows-turn (a .brush) (brush-sound ok) (a .buf .now) (triangleFigure v1 v2 v3) (y h) (r .low) (r .high +ℤ pos 1)
+                (λ u v hu hv e. row-columns v1 v2 v3 (y h) r done u v (omega (arith, ok .drawable .accepted .described .width)) e)
+                (on .1)
+                (paint .paint-span .ensures ∙ (λ i. brushed (a .brush) (spanFigure (y h) (low-back i) (end-is told i)) (l .buf))),
           ),
     )
 
@@ -222,6 +232,7 @@ fill-triangle-spec =
     row-requires
     add-end
     paint-span-requires
+    add-seen
     add-y
     loop-less
     loop-again

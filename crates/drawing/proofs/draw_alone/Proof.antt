@@ -1,0 +1,22 @@
+-- `drawing::draw_alone` draws an edge before which there is none, so that all its points are new. Assumes nothing.
+use mathlib.Core.Path.{_≡_, _∙_}
+use borrow.Author.Needs.{needs}
+use Rattle.drawing.specs.Figure.{lineFigure}
+use Rattle.drawing.proofs.Figures.{all-new}
+use Rattle.drawing.proofs.draw_alone.Statement.{statement}
+use Rattle.drawing.proofs.draw_alone.Tie as tie
+
+draw-edge-requires : tie.Need-draw-edge-requires
+draw-edge-requires c κs = let s = c .before .before in let h = s .pre .1 .0 in (s .pre .0, (h, h, h), s .pre .1)
+
+same-length : tie.Need-same-length
+same-length c = search needs
+
+returns : tie.Need-returns
+returns c =
+    let edge = c .before .before in
+    let a = edge .before .before .before .args in
+    λ i. ((edge .draw-edge .ensures .0 ∙ all-new (a .brush) (lineFigure (a .start) (a .end)) (a .buf .now)) i, edge .draw-edge .ensures .1 i)
+
+pub draw-alone-spec : {M : Type 1} → statement M
+draw-alone-spec = tie.close (tie.spec draw-edge-requires same-length returns)

@@ -8,7 +8,6 @@ use lib.IntN.{pos, natAbs}
 use lib.ListN.{length, length-replicate}
 use denote.Ref.{now}
 use Rattle.framebuffer.specs.declared.Frame.{Frame}
-use Rattle.framebuffer.specs.declared.Drawn.{Drawn}
 use Rattle.framebuffer.proofs.set_pixel.Reads as set-pixel
 use Rattle.framebuffer.proofs.fill.Reads as fill
 use Rattle.drawing.proofs.draw_line.Reads as draw-line
@@ -19,24 +18,24 @@ use Rattle.picture.specs.Calls.{Call, setPixel, fillFrame, drawLine, dra
 use Rattle.picture.proofs.Picture.{zeros, one-picture-one-frame}
 use Rattle.picture.proofs.Ties.{Does, set-pixel-does, fill-does, draw-line-does, draw-triangle-does, draw-outline-does, draw-circle-does}
 
--- a call made by its function: the arguments, the answer and the bytes afterwards are as the function's contract says
-pub data Made : Frame → Call → List ℕ → Drawn → List ℕ → Type 0 where
-  by-set-pixel : (κs : _) (a : _) (r : _) (s : _) → set-pixel.Post κs a r s → Made (a .1 .0) (setPixel (a .1 .1 .0) (a .1 .1 .1 .0)) (now (a .0)) r (now (s .0))
-  by-fill : (κs : _) (a : _) (r : _) (s : _) → fill.Post κs a r s → Made (a .1 .0) (fillFrame (a .1 .1 .0)) (now (a .0)) r (now (s .0))
-  by-draw-line : (κs : _) (a : _) (r : _) (s : _) → draw-line.Post κs a r s → Made (a .1 .0) (drawLine (a .1 .1 .0) (a .1 .1 .1 .0) (a .1 .1 .1 .1 .0)) (now (a .0)) r (now (s .0))
+-- a call made by its function: the arguments, the answer, whose number is kept, and the bytes afterwards are as the function's contract says
+pub data Made : Frame → Call → List ℕ → ℕ → List ℕ → Type 0 where
+  by-set-pixel : (κs : _) (a : _) (r : _) (s : _) → set-pixel.Post κs a r s → Made (a .1 .0) (setPixel (a .1 .1 .0) (a .1 .1 .1 .0)) (now (a .0)) (r .number) (now (s .0))
+  by-fill : (κs : _) (a : _) (r : _) (s : _) → fill.Post κs a r s → Made (a .1 .0) (fillFrame (a .1 .1 .0)) (now (a .0)) (r .number) (now (s .0))
+  by-draw-line : (κs : _) (a : _) (r : _) (s : _) → draw-line.Post κs a r s → Made (a .1 .0) (drawLine (a .1 .1 .0) (a .1 .1 .1 .0) (a .1 .1 .1 .1 .0)) (now (a .0)) (r .number) (now (s .0))
   by-draw-triangle : (κs : _) (a : _) (r : _) (s : _) → draw-triangle.Post κs a r s
-      → Made (a .1 .0) (drawTriangle (a .1 .1 .0) (a .1 .1 .1 .0) (a .1 .1 .1 .1 .0) (a .1 .1 .1 .1 .1 .0)) (now (a .0)) r (now (s .0))
+      → Made (a .1 .0) (drawTriangle (a .1 .1 .0) (a .1 .1 .1 .0) (a .1 .1 .1 .1 .0) (a .1 .1 .1 .1 .1 .0)) (now (a .0)) (r .number) (now (s .0))
   by-draw-outline : (κs : _) (a : _) (r : _) (s : _) → draw-outline.Post κs a r s
-      → Made (a .1 .0) (drawOutline (a .1 .1 .0) (a .1 .1 .1 .0) (a .1 .1 .1 .1 .0) (a .1 .1 .1 .1 .1 .0)) (now (a .0)) r (now (s .0))
+      → Made (a .1 .0) (drawOutline (a .1 .1 .0) (a .1 .1 .1 .0) (a .1 .1 .1 .1 .0) (a .1 .1 .1 .1 .1 .0)) (now (a .0)) (r .number) (now (s .0))
   by-draw-circle : (κs : _) (a : _) (r : _) (s : _) → draw-circle.Post κs a r s
-      → Made (a .1 .0) (drawCircle (a .1 .1 .0) (a .1 .1 .1 .0) (a .1 .1 .1 .1 .0)) (now (a .0)) r (now (s .0))
+      → Made (a .1 .0) (drawCircle (a .1 .1 .0) (a .1 .1 .1 .0) (a .1 .1 .1 .1 .0)) (now (a .0)) (r .number) (now (s .0))
 
 -- calls made one after the other on one frame, from the bytes at the start to those at the end
 pub data Run (f : Frame) : List Call → List ℕ → List ℕ → Type 0 where
   ended : {b : List ℕ} → Run f [] b b
-  call : {o : Call} {os : List Call} {b c e : List ℕ} {r : Drawn} → Made f o b r c → Run f os c e → Run f (o ∷ os) b e
+  call : {o : Call} {os : List Call} {b c e : List ℕ} {n : ℕ} → Made f o b n c → Run f os c e → Run f (o ∷ os) b e
 
-pub made-does : {f : Frame} {o : Call} {b c : List ℕ} {r : Drawn} → Made f o b r c → Does f o b r c
+pub made-does : {f : Frame} {o : Call} {b c : List ℕ} {n : ℕ} → Made f o b n c → Does f o b n c
 made-does (by-set-pixel κs a r s h) = set-pixel-does κs a r s h
 made-does (by-fill κs a r s h) = fill-does κs a r s h
 made-does (by-draw-line κs a r s h) = draw-line-does κs a r s h

@@ -1,0 +1,22 @@
+-- 02, T-02: when the lit pixels of a frame are counted, and what the count answers.
+use mathlib.Core.Bool.{Bool, not}
+use mathlib.Core.List.{[], _∷_, _++_}
+use Prim.Native.Nat.{ℕ, zero, suc}
+use lib.Dec.{eqb}
+use Rattle.refusals.specs.First.{Tests}
+use Rattle.framebuffer.specs.declared.Frame.{Frame}
+use Rattle.framebuffer.specs.Description.{frameTests}
+use Rattle.lights.specs.declared.Lights.{Lights}
+
+-- 10: "another depth"
+abbrev pub notOneBit : Frame → Bool
+notOneBit f = not (eqb (f .depth) 1)
+
+-- a frame over len bytes: "1 to 3, then 10 for another depth"
+unfoldable pub litTests : Frame → ℕ → Tests
+litTests f len = frameTests f len ++ ((10, notOneBit f) ∷ [])
+
+-- the answer by its number: 0 and the count, or a refusal, with which the count is 0
+abbrev pub lights : ℕ → ℕ → Lights
+lights zero k = record { number = 0; count = k }
+lights (suc n) k = record { number = suc n; count = 0 }

@@ -1,0 +1,87 @@
+// The lit pixels of a one-bit frame, by the processor's count of ones on each byte.
+ghost use mathlib.Core.Path.{_≡_};
+ghost use Prim.Native.Nat.{_*_, _≤_};
+ghost use lib.ListN.{length};
+ghost use Rattle.refusals.specs.First.{first};
+ghost use Rattle.layout.specs.Count.{litIn};
+ghost use Rattle.framebuffer.specs.Description.{raster};
+ghost use Rattle.framebuffer.specs.Judged.{Accepted};
+ghost use Rattle.lights.specs.Answer.{litTests, lights};
+ghost use Rattle.lights.specs.Bits.{litBits};
+use framebuffer::Frame;
+
+// How many pixels of a one-bit frame have the colour 1; with a refusal its number and 0.
+#[repr(C)]
+pub struct Lights {
+    pub number: u32,
+    pub count: u32,
+}
+
+// The ones among the first n bits of bytes: whole bytes, and of the byte behind them what its mask leaves. The loop over whole bytes is plain, so that the
+// compiler counts many of them at once.
+fn lit_bits(bytes: &[u8], n: u32) -> u32
+    requires { ⌜ (n ≤ 4194304) × (n ≤ length (now bytes) * 8) ⌝ }
+    ensures { λ r. ⌜ r ≡ litBits n (now (bytes .entry)) ⌝ }
+{
+    let whole = (n / 8) as usize;
+    let rest = n % 8;
+    let mut sum = 0u32;
+    let mut i = 0usize;
+    while i < whole {
+        sum += u8::count_ones(bytes[i]);
+        i += 1;
+    }
+    if rest != 0 {
+        sum += u8::count_ones(bytes[whole] & !packing::bits_from(1, rest));
+    }
+    sum
+}
+
+// The lit pixels of an accepted frame, row by row.
+fn lit_rows(buf: &[u8], frame: Frame) -> u32
+    requires { ⌜ Accepted frame (length (now buf)) × (frame .depth ≡ 1) ⌝ }
+    ensures { λ r. ⌜ r ≡ litIn (raster frame) (now (buf .entry)) ⌝ }
+{
+    let height = frame.height;
+    let distance = ((frame.width + 7) / 8) as usize;
+    let mut sum = 0u32;
+    let mut at = 0usize;
+    let mut y = 0u32;
+    while y < height {
+        sum += lit_bits(&buf[at..], frame.width);
+        at += distance;
+        y += 1;
+    }
+    sum
+}
+
+// The same. Rows without padding follow one another, and are one run.
+fn lit_frame(buf: &[u8], frame: Frame) -> u32
+    requires { ⌜ Accepted frame (length (now buf)) × (frame .depth ≡ 1) ⌝ }
+    ensures { λ r. ⌜ r ≡ litIn (raster frame) (now (buf .entry)) ⌝ }
+{
+    if frame.width % 8 == 0 {
+        return lit_bits(buf, frame.width * frame.height);
+    }
+    lit_rows(buf, frame)
+}
+
+// How many pixels of a one-bit frame are lit. Padding, and what follows the frame, are not counted.
+pub fn lit(buf: &[u8], frame: Frame) -> Lights
+    ensures { λ r. ⌜ r ≡ lights (first (litTests frame (length (now (buf .entry))))) (litIn (raster frame) (now (buf .entry))) ⌝ }
+{
+    let number = framebuffer::frame_refusal(frame, buf.len());
+    if number != 0 {
+        return Lights { number, count: 0 };
+    }
+    if frame.depth != 1 {
+        return Lights {
+            number: 10,
+            count: 0,
+        };
+    }
+    Lights {
+        number: 0,
+        count: lit_frame(buf, frame),
+    }
+}

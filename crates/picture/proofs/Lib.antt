@@ -5,3 +5,4 @@ pub mod Runs
 pub mod Known
 pub mod Table
 pub mod Kept
+pub mod Seen

@@ -44,7 +44,7 @@ pub record Lawful (f : Frame) (c : Change) : Type 0 where
   pub colours : Described f → first (c .own f) ≡ 0 → (g : Picture) → Colours f g → Colours f (c .changes f g)
 
 -- a colour below 2^depth fits the digits of its pixel
-colour-fits : (f : Frame) → Described f → (v : ℕ) → v < 2 ^ (f .depth) → Colour (raster f) v
+pub colour-fits : (f : Frame) → Described f → (v : ℕ) → v < 2 ^ (f .depth) → Colour (raster f) v
 colour-fits f D v h =
     let d = f .depth in
     subst (λ (x : ℕ). v < x) (sym (pow-mul (field d) (parts d) ∙ ap (λ (x : ℕ). 2 ^ x) (depth-of d (D .depth) .bits))) h

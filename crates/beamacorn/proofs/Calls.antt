@@ -7,7 +7,8 @@ use mir.Syntax.{w32}
 use mir.Val.{SFits, toZ, ofZ}
 use Rattle.framebuffer.specs.declared.Frame.{Frame}
 use Rattle.framebuffer.specs.declared.Drawn.{Drawn}
-use Rattle.framebuffer.specs.Drawing.{Drawing, outcome}
+use Rattle.framebuffer.specs.declared.Placed.{Placed}
+use Rattle.framebuffer.specs.Drawing.{Drawing, outcome, pixelOutcome}
 use Rattle.framebuffer.specs.Window.{wholeWindow}
 use Rattle.geometry.specs.declared.Point.{Point}
 use Rattle.beamacorn.proofs.Places.{place}
@@ -16,6 +17,11 @@ use Rattle.beamacorn.proofs.Places.{place}
 pub handed-on : {f f′ : Frame} {d d′ : Drawing} {r : Drawn} {a : List ℕ} (b : List ℕ)
     → f ≡ f′ → d ≡ d′ → _≡_ {A = Drawn × List ℕ} (r, a) (outcome f (wholeWindow f) d b) → _≡_ {A = Drawn × List ℕ} (r, a) (outcome f′ (wholeWindow f′) d′ b)
 handed-on b f d said = said ∙ (λ i. outcome (f i) (wholeWindow (f i)) (d i) b)
+
+-- of a pixel set, too
+pub handed-on-pixel : {f f′ : Frame} {p p′ : Point} {r : Placed} {a : List ℕ} (colour : ℕ) (b : List ℕ) → f ≡ f′ → p ≡ p′
+    → _≡_ {A = Placed × List ℕ} (r, a) (pixelOutcome f (wholeWindow f) p colour b) → _≡_ {A = Placed × List ℕ} (r, a) (pixelOutcome f′ (wholeWindow f′) p′ colour b)
+handed-on-pixel colour b f p said = said ∙ (λ i. pixelOutcome (f i) (wholeWindow (f i)) (p i) colour b)
 
 -- a drawing of three corners, whose coordinates are put into points
 pub handed-on-three : (D : Point → Point → Point → ℕ → Drawing) (colour : ℕ) {f f′ : Frame} {x1 y1 x2 y2 x3 y3 : ℤ} {r : Drawn} {a : List ℕ} (b : List ℕ)

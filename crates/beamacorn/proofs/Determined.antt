@@ -22,6 +22,7 @@ use Rattle.beamacorn.proofs.beamacorn_draw_line.Reads as draw-line
 use Rattle.beamacorn.proofs.beamacorn_draw_triangle.Reads as draw-triangle
 use Rattle.beamacorn.proofs.beamacorn_draw_outline.Reads as draw-outline
 use Rattle.beamacorn.proofs.beamacorn_draw_circle.Reads as draw-circle
+use Rattle.beamacorn.proofs.beamacorn_lit.Reads as lit
 use Rattle.beamacorn.proofs.beamacorn_image_size.Reads as image-size
 use Rattle.beamacorn.proofs.beamacorn_write_image.Reads as write-image
 
@@ -55,6 +56,9 @@ frame-size-one κs args r q s t = same
 
 pub pixel-one : One pixel.Post
 pixel-one κs args r q s t = same
+
+pub lit-one : One lit.Post
+lit-one κs args r q s t = same
 
 -- ---- calls that draw: the answer, and the bytes that it leaves
 pub set-pixel-one : OneBuffer set-pixel.Post

@@ -13,14 +13,15 @@ use Rattle.triangle.specs.Answer.{vertexTests, rowsAnswer}
 use Rattle.circle.specs.Circle as circle
 use Rattle.circle.specs.Refusal.{circleTests}
 use Rattle.framebuffer.specs.declared.Drawn.{Drawn}
+use Rattle.framebuffer.specs.declared.Placed.{Placed}
 use Rattle.framebuffer.specs.declared.Size.{Size}
 use Rattle.framebuffer.specs.Answer.{sized}
 use Rattle.framebuffer.specs.Description.{size, descriptionTests}
-use Rattle.framebuffer.specs.Drawing.{pixelDrawing, fillDrawing}
+use Rattle.framebuffer.specs.Drawing.{fillDrawing}
 use Rattle.drawing.specs.Drawing.{lineDrawing, outlineDrawing, triangleDrawing, circleDrawing}
 use Rattle.netpbm.specs.Image.{imageLength}
 use Rattle.netpbm.specs.Written.{imageSizeTests, written}
-use Rattle.beamacorn.specs.Plain.{frameOf, plainStep, outcomeOn, pixelOn}
+use Rattle.beamacorn.specs.Plain.{frameOf, plainStep, outcomeOn, placedOn, pixelOn, litOn}
 use Rattle.beamacorn.proofs.beamacorn_line_length.Reads as line-length
 use Rattle.beamacorn.proofs.beamacorn_line_point.Reads as line-point
 use Rattle.beamacorn.proofs.beamacorn_line_has_point.Reads as line-has-point
@@ -37,6 +38,7 @@ use Rattle.beamacorn.proofs.beamacorn_draw_line.Reads as draw-line
 use Rattle.beamacorn.proofs.beamacorn_draw_triangle.Reads as draw-triangle
 use Rattle.beamacorn.proofs.beamacorn_draw_outline.Reads as draw-outline
 use Rattle.beamacorn.proofs.beamacorn_draw_circle.Reads as draw-circle
+use Rattle.beamacorn.proofs.beamacorn_lit.Reads as lit
 use Rattle.beamacorn.proofs.beamacorn_image_size.Reads as image-size
 use Rattle.beamacorn.proofs.beamacorn_write_image.Reads as write-image
 
@@ -94,9 +96,12 @@ pub pixel-at : (κs : _) (a : _) (r : _) (s : _) → pixel.Post κs a r s
     → r ≡ pixelOn (a .1 .0) (a .1 .1 .0) (a .1 .1 .1 .0) (a .1 .1 .1 .1 .0) (a .1 .1 .1 .1 .1 .0, a .1 .1 .1 .1 .1 .1 .0) (a .0 .now)
 pixel-at κs a r s h = h
 
+pub lit-at : (κs : _) (a : _) (r : _) (s : _) → lit.Post κs a r s → r ≡ litOn (a .1 .0) (a .1 .1 .0) (a .1 .1 .1 .0) (a .1 .1 .1 .1 .0) (a .0 .now)
+lit-at κs a r s h = h
+
 pub set-pixel-at : (κs : _) (a : _) (r : _) (s : _) → set-pixel.Post κs a r s
-    → _≡_ {A = Drawn × List ℕ} (r, s .0 .now)
-    (outcomeOn (a .1 .0) (a .1 .1 .0) (a .1 .1 .1 .0) (a .1 .1 .1 .1 .0) (pixelDrawing (a .1 .1 .1 .1 .1 .0, a .1 .1 .1 .1 .1 .1 .0) (a .1 .1 .1 .1 .1 .1 .1 .0)) (a .0 .now))
+    → _≡_ {A = Placed × List ℕ} (r, s .0 .now)
+    (placedOn (a .1 .0) (a .1 .1 .0) (a .1 .1 .1 .0) (a .1 .1 .1 .1 .0) (a .1 .1 .1 .1 .1 .0, a .1 .1 .1 .1 .1 .1 .0) (a .1 .1 .1 .1 .1 .1 .1 .0) (a .0 .now))
 set-pixel-at κs a r s h = h
 
 pub fill-at : (κs : _) (a : _) (r : _) (s : _) → fill.Post κs a r s

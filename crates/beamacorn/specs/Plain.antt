@@ -9,11 +9,15 @@ use Rattle.geometry.specs.declared.Point.{Point}
 use Rattle.line.specs.declared.Step as line
 use Rattle.framebuffer.specs.declared.Frame.{Frame}
 use Rattle.framebuffer.specs.declared.Drawn.{Drawn}
+use Rattle.framebuffer.specs.declared.Placed.{Placed}
 use Rattle.framebuffer.specs.declared.Read.{Read}
 use Rattle.framebuffer.specs.Answer.{read}
-use Rattle.framebuffer.specs.Description.{described, readTests, colourAt}
-use Rattle.framebuffer.specs.Drawing.{Drawing, outcome}
+use Rattle.framebuffer.specs.Description.{described, raster, readTests, colourAt}
+use Rattle.framebuffer.specs.Drawing.{Drawing, outcome, pixelOutcome}
 use Rattle.framebuffer.specs.Window.{wholeWindow}
+use Rattle.layout.specs.Count.{litIn}
+use Rattle.lights.specs.declared.Lights.{Lights}
+use Rattle.lights.specs.Answer.{litTests, lights}
 use Rattle.beamacorn.specs.declared.Step.{Step}
 
 -- 01, "Packed frames", "little or big end first as the description says": 0 is little, anything else big
@@ -23,6 +27,14 @@ frameOf width height depth order = described width height depth (not (eqb order 
 -- what a call that draws on the whole of that frame answers and leaves
 abbrev pub outcomeOn : ℕ → ℕ → ℕ → ℕ → Drawing → List ℕ → Drawn × List ℕ
 outcomeOn width height depth order d b = let f = frameOf width height depth order in outcome f (wholeWindow f) d b
+
+-- what setting a pixel of it answers and leaves
+abbrev pub placedOn : ℕ → ℕ → ℕ → ℕ → Point → ℕ → List ℕ → Placed × List ℕ
+placedOn width height depth order p colour b = let f = frameOf width height depth order in pixelOutcome f (wholeWindow f) p colour b
+
+-- what counting its lit pixels answers
+abbrev pub litOn : ℕ → ℕ → ℕ → ℕ → List ℕ → Lights
+litOn width height depth order b = let f = frameOf width height depth order in lights (first (litTests f (length b))) (litIn (raster f) b)
 
 -- what reading a pixel of it answers
 abbrev pub pixelOn : ℕ → ℕ → ℕ → ℕ → Point → List ℕ → Read

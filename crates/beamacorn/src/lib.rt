@@ -12,11 +12,11 @@ ghost use Rattle.circle.specs.Circle as circle;
 ghost use Rattle.circle.specs.Refusal.{circleTests};
 ghost use Rattle.framebuffer.specs.Answer.{sized};
 ghost use Rattle.framebuffer.specs.Description.{size, descriptionTests};
-ghost use Rattle.framebuffer.specs.Drawing.{pixelDrawing, fillDrawing};
+ghost use Rattle.framebuffer.specs.Drawing.{fillDrawing};
 ghost use Rattle.drawing.specs.Drawing.{lineDrawing, outlineDrawing, triangleDrawing, circleDrawing};
 ghost use Rattle.netpbm.specs.Image.{imageLength};
 ghost use Rattle.netpbm.specs.Written.{imageSizeTests, written};
-ghost use Rattle.beamacorn.specs.Plain.{frameOf, plainStep, outcomeOn, pixelOn};
+ghost use Rattle.beamacorn.specs.Plain.{frameOf, plainStep, outcomeOn, placedOn, pixelOn, litOn};
 use framebuffer::Drawn;
 use framebuffer::Frame;
 use geometry::Point;
@@ -160,7 +160,7 @@ pub extern "C" fn beamacorn_frame_size(width: u32, height: u32, depth: u32) -> f
     framebuffer::buffer_size_bpp(frame(width, height, depth, 0))
 }
 
-// The pixel at (x, y) gets the colour; outside the frame nothing changes.
+// The pixel at (x, y) gets the colour; outside the frame nothing changes, and the answer says so.
 #[no_mangle]
 pub extern "C" fn beamacorn_set_pixel(
     buf: &mut [u8],
@@ -171,8 +171,8 @@ pub extern "C" fn beamacorn_set_pixel(
     x: i32,
     y: i32,
     colour: u32,
-) -> Drawn
-    ensures { λ r. ⌜ (r, now (buf .exit)) ≡ outcomeOn width height depth order (pixelDrawing (x, y) colour) (now (buf .entry)) ⌝ }
+) -> framebuffer::Placed
+    ensures { λ r. ⌜ (r, now (buf .exit)) ≡ placedOn width height depth order (x, y) colour (now (buf .entry)) ⌝ }
 {
     framebuffer::set_pixel(buf, frame(width, height, depth, order), Point(x, y), colour)
 }
@@ -311,6 +311,20 @@ pub extern "C" fn beamacorn_draw_circle(
         diameter,
         colour,
     )
+}
+
+// How many pixels of a one-bit frame have colour 1.
+#[no_mangle]
+pub extern "C" fn beamacorn_lit(
+    buf: &[u8],
+    width: u32,
+    height: u32,
+    depth: u32,
+    order: u32,
+) -> lights::Lights
+    ensures { λ r. ⌜ r ≡ litOn width height depth order (now (buf .entry)) ⌝ }
+{
+    lights::lit(buf, frame(width, height, depth, order))
 }
 
 // ---- image files

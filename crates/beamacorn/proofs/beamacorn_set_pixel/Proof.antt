@@ -1,8 +1,7 @@
 -- `beamacorn_set_pixel` hands on to `framebuffer::set_pixel`. Assumes nothing.
 use borrow.Author.Needs.{needs}
-use Rattle.framebuffer.specs.Drawing.{pixelDrawing}
 use Rattle.beamacorn.proofs.Places.{place}
-use Rattle.beamacorn.proofs.Calls.{handed-on}
+use Rattle.beamacorn.proofs.Calls.{handed-on-pixel}
 use Rattle.beamacorn.proofs.beamacorn_set_pixel.Statement.{statement}
 use Rattle.beamacorn.proofs.beamacorn_set_pixel.Tie as tie
 
@@ -21,7 +20,7 @@ returns c =
     let f = c .before .before .before .before .before .before .fits in
     let p = place (f .x) (f .y) in
     let frame = c .before .before .before .frame .ensures in
-    handed-on (g .buf .now) frame (λ i. pixelDrawing (p i) (g .colour)) (c .before .before .set-pixel .ensures)
+    handed-on-pixel (g .colour) (g .buf .now) frame p (c .before .before .set-pixel .ensures)
 
 pub beamacorn-set-pixel-spec : {M : Type 1} → statement M
 beamacorn-set-pixel-spec = tie.close (tie.spec frame-requires set-pixel-requires same-length returns)

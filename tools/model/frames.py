@@ -1,4 +1,5 @@
-"""01 (docs/RULES.md), "Packed frames", and painting as demand 3 has it: every pixel of the frame that the figure contains is set."""
+"""01 (docs/RULES.md), "Packed frames", and painting as demand 3 has it: every pixel of the frame that the figure contains is set. 02, "How much was seen": how
+many those are, and how many pixels of one bit are lit."""
 
 from dataclasses import dataclass
 
@@ -39,8 +40,18 @@ class Frame:
     def order(self):
         return "big" if self.big else "little"
 
-    def paint(self, buffer, contains, colour):
-        for y in range(self.height):
-            for x in range(self.width):
-                if contains(x, y):
-                    self.set(buffer, x, y, colour)
+    def pixels(self, contains):
+        """The pixels of the frame that a figure contains, each once."""
+        return [(x, y) for y in range(self.height) for x in range(self.width) if contains(x, y)]
+
+    def paint(self, buffer, pixels, colour):
+        for x, y in pixels:
+            self.set(buffer, x, y, colour)
+
+    def lit(self, buffer):
+        """How many pixels of one bit are 1, each read by itself."""
+        return sum(self.read(buffer, x, y) for x, y in self.pixels(everywhere))
+
+
+def everywhere(x, y):
+    return True

@@ -1,4 +1,5 @@
-"""The known answers 1 to 14 of 01 (docs/RULES.md), the listing of `spans`, errors that look right, and image files worked out by hand from 02's words."""
+"""The known answers 1 to 14 of 01 (docs/RULES.md), the listing of `spans`, errors that look right, and what was worked out by hand from 02's words: image
+files, counts of pixels."""
 
 # Under each number the lines that ask for it and, behind ->, the answers.
 KNOWN = """
@@ -36,19 +37,19 @@ KNOWN = """
     disc 0 0 1 0 0 -> 0 1
     discspan 0 0 1 0 -> 0 0 1
 10  frame 10 1 1 0 2 -> 0 2
-    pixel 9 0 1 -> 0
+    pixel 9 0 1 -> 0 1
     dump 0 2 -> 0040
 11  frame 4 1 2 0 1 -> 0 1
-    pixel 1 0 3 -> 0
+    pixel 1 0 3 -> 0 1
     dump 0 1 -> 30
     frame 2 1 4 0 1 -> 0 1
-    pixel 1 0 10 -> 0
+    pixel 1 0 10 -> 0 1
     dump 0 1 -> 0a
 12  frame 1 1 24 0 3 -> 0 3
-    pixel 0 0 66051 -> 0
+    pixel 0 0 66051 -> 0 1
     dump 0 3 -> 030201
     frame 1 1 24 1 3 -> 0 3
-    pixel 0 0 66051 -> 0
+    pixel 0 0 66051 -> 0 1
     dump 0 3 -> 010203
 13  frame 10 3 1 0 0 -> 0 6
     frame 9 5 2 0 0 -> 0 15
@@ -72,10 +73,10 @@ errors inside 0 0 4 2 2 1 1 0 -> 0 1
     disc 0 0 3 0 0 -> 0 0
 one-bit frame 10 3 1 0 6 -> 0 6
     preset 255 -> 0
-    fill 0 -> 0
-    pixel 0 0 1 -> 0
-    pixel 9 1 1 -> 0
-    line 0 2 9 2 1 -> 0
+    fill 0 -> 0 30
+    pixel 0 0 1 -> 0 1
+    pixel 9 1 1 -> 0 1
+    line 0 2 9 2 1 -> 0 10
     dump 0 6 -> 803f007fffff
     imagesize -> 0 14
     wipe 170 -> 0
@@ -84,18 +85,18 @@ one-bit frame 10 3 1 0 6 -> 0 6
     image 14 -> 0 14
     file 0 16 -> 50340a313020330a80000040ffc0aaaa
 grey frame 2 1 8 0 2 -> 0 2
-    pixel 0 0 7 -> 0
-    pixel 1 0 200 -> 0
+    pixel 0 0 7 -> 0 1
+    pixel 1 0 200 -> 0 1
     image 65536 -> 0 13
     file 0 14 -> 50350a3220310a3235350a07c8c0
 colour frame 1 1 24 0 3 -> 0 3
-    pixel 0 0 66051 -> 0
+    pixel 0 0 66051 -> 0 1
     dump 0 3 -> 030201
     wipe 0 -> 0
     image 14 -> 0 14
     file 0 15 -> 50360a3120310a3235350a01020300
     frame 1 1 24 1 3 -> 0 3
-    pixel 0 0 66051 -> 0
+    pixel 0 0 66051 -> 0 1
     dump 0 3 -> 010203
     wipe 0 -> 0
     image 14 -> 0 14
@@ -117,6 +118,59 @@ refused frame 3 2 16 0 12 -> 0 12
     imagesize -> 2 0
     image 0 -> 2 0
     file 0 15 -> 50350a3320320a3235350a00000000
+placed frame 8 4 1 0 4 -> 0 4
+    pixel 7 3 1 -> 0 1
+    pixel 7 3 1 -> 0 1
+    pixel 8 3 1 -> 0 0
+    pixel 7 4 1 -> 0 0
+    pixel -1 0 1 -> 0 0
+    pixel 0 -2147483648 1 -> 0 0
+    pixel 7 3 2 -> 4 0
+    dump 0 4 -> 00000001
+counted frame 8 4 1 0 4 -> 0 4
+    fill 1 -> 0 32
+    fill 1 -> 0 32
+    fill 2 -> 4 0
+    line 0 0 7 0 0 -> 0 8
+    line -3 0 2 0 0 -> 0 3
+    line 0 4 7 4 0 -> 0 0
+    line 6 1 6 131072 0 -> 5 0
+    triangle 0 0 3 0 0 3 1 -> 0 10
+    triangle -4 0 -1 0 -4 3 1 -> 0 0
+    outline 0 0 3 0 0 3 1 -> 0 9
+    outline 5 0 8 0 5 3 1 -> 0 8
+    outline 0 0 4 0 2 0 1 -> 0 5
+    outline 0 0 2 1 0 0 1 -> 0 4
+    outline 1 1 1 1 1 1 1 -> 0 1
+    outline 9 1 9 1 9 1 1 -> 0 0
+    circle 0 0 4 1 -> 0 12
+    circle 6 0 4 1 -> 0 6
+    circle -2 -2 4 1 -> 0 3
+    circle -3 -3 4 1 -> 0 0
+    circle 0 0 0 1 -> 0 0
+    circle 131071 0 2 1 -> 6 0
+lights frame 10 3 1 0 8 -> 0 6
+    preset 255 -> 0
+    lit -> 0 30
+    fill 0 -> 0 30
+    dump 0 8 -> 003f003f003fffff
+    lit -> 0 0
+    pixel 9 1 1 -> 0 1
+    line 0 2 9 2 1 -> 0 10
+    lit -> 0 11
+    frame 0 3 1 0 0 -> 0 0
+    preset 255 -> 0
+    lit -> 0 0
+    frame 10 3 1 0 5 -> 0 6
+    lit -> 3 0
+    frame 10 3 2 0 8 -> 0 9
+    lit -> 3 0
+    frame 10 3 2 0 9 -> 0 9
+    lit -> 10 0
+    frame 2049 1 1 0 257 -> 2 0
+    lit -> 2 0
+    frame 2049 1 3 0 0 -> 1 0
+    lit -> 1 0
 """
 
 

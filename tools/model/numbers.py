@@ -41,5 +41,9 @@ def image(frame):
     return {10: not images.has_format(frame)}
 
 
+def lights(frame):
+    return {10: frame.depth != 1}
+
+
 def output(frame, room):
     return {9: room < images.length(frame)}

@@ -5,7 +5,7 @@ from functools import lru_cache
 
 from . import images, numbers
 from .circles import Circle
-from .frames import Frame
+from .frames import Frame, everywhere
 from .lines import Line
 from .triangles import Outline, Triangle
 
@@ -15,7 +15,7 @@ LONGEST_LINE = 128
 
 # The numbers that follow each word: s signed, u unsigned, of 32 bits.
 FIELDS = {
-    "frame": "uuuuu", "preset": "u", "read": "ss", "dump": "uu",
+    "frame": "uuuuu", "preset": "u", "read": "ss", "dump": "uu", "lit": "",
     "image": "u", "imagesize": "", "file": "uu", "wipe": "u",
     "pixel": "ssu", "fill": "u", "line": "ssssu", "triangle": "ssssssu", "outline": "ssssssu", "circle": "ssuu",
     "length": "ssss", "point": "ssssu", "online": "ssssss",
@@ -71,6 +71,10 @@ class Replay:
         number = numbers.first(*self.lent(), numbers.read(self.now, x, y))
         return answered(number, 1, lambda: [self.now.read(self.buffer, x, y)])
 
+    def lit(self):
+        number = numbers.first(*self.lent(), numbers.lights(self.now))
+        return answered(number, 1, lambda: [self.now.lit(self.buffer)])
+
     def lent(self):
         return numbers.description(self.now), numbers.buffer(self.now, self.lent_bytes)
 
@@ -99,11 +103,10 @@ class Replay:
     # Drawing calls.
 
     def pixel(self, x, y, colour):
-        inside = self.now.has(x, y)
-        return self.drawn(lambda: self.now.set(self.buffer, x, y, colour) if inside else None, colour)
+        return self.drawn(lambda: [(x, y)] if self.now.has(x, y) else [], colour)
 
     def fill(self, colour):
-        return self.painted(lambda x, y: True, colour)
+        return self.painted(everywhere, colour)
 
     def line(self, x1, y1, x2, y2, colour):
         return self.painted(Line(x1, y1, x2, y2).contains, colour, numbers.coordinates(x1, y1, x2, y2))
@@ -121,13 +124,16 @@ class Replay:
         return self.painted(figure.contains, colour, *on_circle(left, top, diameter))
 
     def painted(self, contains, colour, *tests):
-        return self.drawn(lambda: self.now.paint(self.buffer, contains, colour), colour, *tests)
+        return self.drawn(lambda: self.now.pixels(contains), colour, *tests)
 
-    def drawn(self, change, colour, *tests):
+    def drawn(self, pixels, colour, *tests):
+        """Sets the pixels, which are looked for only if the call is not refused, and says how many they are: of `pixel` 1 if it is inside, else 0."""
         number = numbers.first(*self.lent(), numbers.colour(self.now, colour), *tests)
-        if number == 0:
-            change()
-        return [number]
+        if number != 0:
+            return [number, 0]
+        seen = pixels()
+        self.now.paint(self.buffer, seen, colour)
+        return [0, len(seen)]
 
     # Questions on figures.
 

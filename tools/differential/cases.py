@@ -2,10 +2,11 @@
 
 from itertools import product
 
-from . import corners, frames, grids
+from . import corners, frames, grids, lights
 from .figures import Figures
 from .frames import Drawings
 from .images import Images
+from .lights import Lights
 from .refusals import Limits
 
 FRAMES = [*product((0, 1, 2, 3, 5, 8, 9, 13, 17, 24, 33), (0, 1, 2, 5, 12, 20)), (100, 80), (320, 9), (2, 2_048), (2_048, 2)]
@@ -22,6 +23,8 @@ def once_by_rust(random, sizes):
         "triangles at the range's corners": corners.triangles(),
         "circles at the range's corners": corners.circles(),
         "every pixel of small frames": frames.every_pixel(random, sizes),
+        "every figure on a small frame": frames.every_figure(random),
+        "lit pixels at every size": lights.every_size(random, sizes, corners.LOW, corners.HIGH),
         "drawing at the range's corners": frames.corners(random, common(sizes), corners.LOW, corners.HIGH),
     }
 
@@ -54,13 +57,14 @@ def round_by_model(random):
     """Kinds and what makes a batch, beyond what the Rust can answer."""
     far = Figures(random, -131_072, 131_071, -(2**31), 2**31 - 1)
     drawings = Drawings(random, FRAMES, far.low, far.high, with_fill=True, refused=0.2)
-    limits, files = Limits(random), Images(random)
+    limits, files, lit = Limits(random), Images(random), Lights(random)
     return {
         "far lines": lambda: far.lines(1_000),
         "far triangles": lambda: far.triangles(1_000),
         "far circles": lambda: far.circles(100),
         "drawing, fills and refused calls": lambda: drawings.sequences(300),
         "image files": lambda: files.sequences(150),
+        "lit pixels": lambda: lit.sequences(5),
         "questions at their limits": lambda: limits.questions(3_000),
         "calls at their limits": lambda: limits.calls(300),
         "bad lines": lambda: limits.bad_lines(3_000),

@@ -1,6 +1,6 @@
 """Frames and drawing calls, with the bytes after each: at the sizes that the Rust was compiled for, and at others."""
 
-from itertools import chain, product
+from itertools import chain, cycle, product
 
 from model.frames import Frame
 from model.replay import BYTES, MOST_DUMPED
@@ -9,6 +9,10 @@ from .questions import asked
 
 DEPTHS = [1, 2, 4, 8, 16, 24, 32]
 SMALL = 200
+# Figures are counted on this frame, with corners in it and beside it.
+COUNTED = 4, 4
+AROUND = list(product(range(-1, 5), repeat=2))
+LARGEST_COUNTED = 9
 CORNER_DIAMETERS = [1, 4, 100, 8_191, 8_192, 8_193, 16_383, 16_384]
 AT_THE_ENDS = 0.05
 
@@ -37,6 +41,28 @@ def one_by_one(random, width, height, depth, order):
         colour = random.choice([0, 2**depth - 1, random.randrange(2**depth)])
         lines += [asked("pixel", x, y, colour), asked("read", x, y), *dumps(size)]
     return lines
+
+
+def every_figure(random):
+    """Every line, triangle and outline with its corners on a small frame and beside it, those that are flat or a dot too, and every circle about the frame, each
+    depth and order in turn: how many pixels of the frame each has."""
+    lines = [[("line", *start, *end) for end in AROUND] for start in AROUND]
+    triples = [[(*v1, *v2, *v3) for v3 in AROUND] for v1, v2 in product(AROUND, repeat=2)]
+    triangles, outlines = ([[(word, *vertices) for vertices in some] for some in triples] for word in ("triangle", "outline"))
+    circles = [[("circle", left, top, diameter) for left, top in about(diameter)] for diameter in range(LARGEST_COUNTED + 1)]
+    frames = cycle(product(DEPTHS, (0, 1)))
+    for figures in (lines, triangles, outlines, circles):
+        yield [line for some in figures for line in on_one_frame(random, *next(frames), some)]
+
+
+def about(diameter):
+    """Where a circle touches the frame, and one place further."""
+    return product(*(range(-diameter - 1, side + 2) for side in COUNTED))
+
+
+def on_one_frame(random, depth, order, figures):
+    frame = asked("frame", *COUNTED, depth, order, size_of(*COUNTED, depth))
+    return [frame, *(asked(*figure, random.randrange(2**depth)) for figure in figures)]
 
 
 def corners(random, sizes, low, high):

@@ -44,7 +44,7 @@ class Limits:
         depth = self.random.choice(DEPTHS + DEPTHS + OTHER_DEPTHS)
         size = size_of(width, height, depth)
         length = max(0, min(size + self.random.choice([-1, 0, 0, 1, 100]), BYTES))
-        lines = [asked("frame", width, height, depth, self.random.randrange(2), length), asked("preset", 165)]
+        lines = [asked("frame", width, height, depth, self.random.randrange(2), length), asked("preset", 165), asked("lit")]
         for _ in range(6):
             lines += [self.call(depth), asked("dump", 0, min(size + 4, 256)), asked("read", self.near(width), self.near(height))]
         return lines

@@ -1,6 +1,8 @@
-"""Models that are wrong in one way each: the errors that look right of 01 (docs/RULES.md) and others of their kind, in image files too, which a run must find."""
+"""Models that are wrong in one way each: the errors that look right of 01 (docs/RULES.md) and others of their kind, in image files and counts too, which a run
+must find."""
 
 from contextlib import contextmanager
+from dataclasses import replace
 from unittest.mock import patch
 
 from model import images, numbers, replay
@@ -8,7 +10,7 @@ from model.circles import Circle
 from model.frames import Frame
 from model.lines import Line
 from model.replay import Replay
-from model.triangles import Triangle
+from model.triangles import Outline, Triangle
 
 
 class WrongModel:
@@ -45,7 +47,7 @@ def models():
         WrongModel("edges walked from their other end", Triangle, "__init__", with_edges_turned(Triangle.__init__)),
         WrongModel("no at zero area", Triangle, "contains", never_flat(Triangle.contains)),
         WrongModel("inside only, without the points of edges", Triangle, "contains", inside_only),
-        WrongModel("filling clears the padding", Replay, "fill", fill_all),
+        WrongModel("filling clears the padding", Replay, "fill", clearing_padding(Replay.fill)),
         WrongModel("little end first always", Frame, "order", lambda self: "little"),
         WrongModel("first pixel in the low bits", Frame, "place", low_bits_first(Frame.place)),
         WrongModel("the highest refusal wins", numbers, "first", highest),
@@ -56,14 +58,24 @@ def models():
         WrongModel("no circle from 16,000 on", Circle, "contains", small_circles(Circle.contains), "drawing at the range's corners"),
         WrongModel("no points of a line beyond 4,000", Line, "__init__", near_lines(Line.__init__), "drawing"),
         WrongModel("no circle from 6,000 on", Circle, "contains", small_circles(Circle.contains, 6_000), "drawing"),
-        WrongModel("columns from 1,024 on not painted", Frame, "paint", painted_to(1_024, 2_048), "drawing on wide and high frames"),
-        WrongModel("rows from 1,024 on not painted", Frame, "paint", painted_to(2_048, 1_024), "drawing on wide and high frames"),
+        WrongModel("columns from 1,024 on not painted", Frame, "paint", painted_to(1_024, 2_048, Frame.paint), "drawing on wide and high frames"),
+        WrongModel("rows from 1,024 on not painted", Frame, "paint", painted_to(2_048, 1_024, Frame.paint), "drawing on wide and high frames"),
         WrongModel("padding kept in a file's rows", images, "row", as_it_stands(1, images.row), "image files"),
         WrongModel("the frame's byte order in a P6", images, "row", as_it_stands(24, images.row), "image files"),
         WrongModel("a room one byte too short", numbers, "output", one_short(numbers.output), "image files"),
         WrongModel("9 before 10", numbers, "first", lowest, "image files"),
         WrongModel("width and height swapped", images, "header", turned(images.header), "image files"),
         WrongModel("bytes behind the file cleared", Replay, "image", clearing(Replay.image), "image files"),
+        WrongModel("inside said of the column past the last", Replay, "pixel", one_column_more(Replay.pixel), "every pixel of small frames"),
+        WrongModel("an outline's corners counted twice", Replay, "outline", corners_twice(Replay.outline), "every figure on a small frame"),
+        WrongModel("points in the column past the last counted", Replay, "painted", counted_beside(Replay.painted), "every figure on a small frame"),
+        WrongModel("only pixels that change counted", Replay, "drawn", changes_counted(Replay.drawn), "drawing"),
+        WrongModel("a count beside a refusal", Replay, "drawn", counted_all_the_same(Replay.drawn), "drawing, fills and refused calls"),
+        WrongModel("padding counted as lit", Frame, "lit", padding_lit, "lit pixels at every size"),
+        WrongModel("the tail counted as lit", Replay, "lit", tail_lit(Replay.lit), "lit pixels at every size"),
+        WrongModel("any depth has lit pixels", numbers, "lights", lambda frame: {}, "lit pixels"),
+        WrongModel("10 before 3", Replay, "lit", format_first, "lit pixels"),
+        WrongModel("no frame without pixels taken", numbers, "lights", numbers.image, "lit pixels"),
     ]
 
 
@@ -95,17 +107,18 @@ def inside_only(self, x, y):
     return self.area != 0 and self.has_on_one_side(x, y)
 
 
-def fill_all(self, colour):
+def clearing_padding(fill):
     """Leaves the padding of each row 0."""
 
-    def change():
-        self.now.paint(self.buffer, lambda x, y: True, colour)
-        if self.now.width and self.now.depth < 8:
+    def replacement(self, colour):
+        answer = fill(self, colour)
+        if answer[0] == 0 and self.now.width and self.now.depth < 8:
             padding = self.now.row_bytes() * 8 - self.now.width * self.now.depth
             for last in range(self.now.row_bytes() - 1, self.now.size(), self.now.row_bytes()):
                 self.buffer[last] &= -1 << padding
+        return answer
 
-    return self.drawn(change, colour)
+    return replacement
 
 
 def low_bits_first(place):
@@ -124,11 +137,11 @@ def lowest(*tests):
     return min((number for test in tests for number, applies in test.items() if applies), default=0)
 
 
-def drawn_all_the_same(self, change, colour, *tests):
+def drawn_all_the_same(self, pixels, colour, *tests):
     number = numbers.first(*self.lent(), numbers.colour(self.now, colour), *tests)
-    if number in (0, 5, 6):
-        change()
-    return [number]
+    seen = pixels() if number in (0, 5, 6) else []
+    self.now.paint(self.buffer, seen, colour)
+    return [number, len(seen) if number == 0 else 0]
 
 
 def not_shortened(span):
@@ -161,14 +174,11 @@ def small_circles(contains, least=16_000):
     return lambda self, x, y: self.diameter < least and contains(self, x, y)
 
 
-def painted_to(columns, rows):
-    def paint(self, buffer, contains, colour):
-        for y in range(min(self.height, rows)):
-            for x in range(min(self.width, columns)):
-                if contains(x, y):
-                    self.set(buffer, x, y, colour)
+def painted_to(columns, rows, paint):
+    def replacement(self, buffer, pixels, colour):
+        paint(self, buffer, [(x, y) for x, y in pixels if x < columns and y < rows], colour)
 
-    return paint
+    return replacement
 
 
 def as_it_stands(depth, row):
@@ -197,3 +207,70 @@ def clearing(image):
         return answer
 
     return replacement
+
+
+def one_column_more(pixel):
+    def replacement(self, x, y, colour):
+        number, inside = pixel(self, x, y, colour)
+        return [number, inside or number == 0 and self.now.has(x - 1, y)]
+
+    return replacement
+
+
+def corners_twice(outline):
+    """Adds up the points of the three edges."""
+
+    def replacement(self, *given):
+        *vertices, _ = given
+        number, _ = outline(self, *given)
+        edges = Outline(*vertices).lines if number == 0 else []
+        return [number, sum(len(self.now.pixels(edge.contains)) for edge in edges)]
+
+    return replacement
+
+
+def counted_beside(painted):
+    def replacement(self, contains, colour, *tests):
+        number, _ = painted(self, contains, colour, *tests)
+        wider = replace(self.now, width=self.now.width + 1)
+        return [number, len(wider.pixels(contains)) if number == 0 else 0]
+
+    return replacement
+
+
+def changes_counted(drawn):
+    def replacement(self, pixels, colour, *tests):
+        before = bytes(self.buffer)
+        number, count = drawn(self, pixels, colour, *tests)
+        changed = [place for place in pixels() if self.now.read(before, *place) != colour] if count else []
+        return [number, len(changed)]
+
+    return replacement
+
+
+def counted_all_the_same(drawn):
+    """Counts where nothing but the colour or the figure is refused."""
+
+    def replacement(self, pixels, colour, *tests):
+        number, count = drawn(self, pixels, colour, *tests)
+        return [number, len(pixels()) if number in (4, 5, 6) else count]
+
+    return replacement
+
+
+def padding_lit(self, buffer):
+    return sum(byte.bit_count() for byte in buffer[:self.size()])
+
+
+def tail_lit(lit):
+    def replacement(self):
+        number, count = lit(self)
+        tail = self.buffer[self.now.size():self.lent_bytes] if number == 0 else b""
+        return [number, count + sum(byte.bit_count() for byte in tail)]
+
+    return replacement
+
+
+def format_first(self):
+    number = numbers.first(numbers.description(self.now), numbers.lights(self.now), numbers.buffer(self.now, self.lent_bytes))
+    return [number, self.now.lit(self.buffer) if number == 0 else 0]

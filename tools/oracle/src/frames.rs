@@ -114,6 +114,8 @@ pub struct Frames(Option<Described>);
 
 struct Described {
     frame: Box<dyn Frame>,
+    /// A frame of that size with one bit a pixel, on which a figure is counted.
+    seen: Box<dyn Frame>,
     size: (i32, i32),
     depth: u32,
 }
@@ -142,12 +144,12 @@ impl Frames {
         let size = (u32::try_from(width).ok()?, u32::try_from(height).ok()?);
         let depth = u32::try_from(depth).ok()?;
         let big = [false, true].get(usize::try_from(order).ok()?)?;
-        let frame = new_frame(size, depth, *big)?;
+        let (frame, seen) = (new_frame(size, depth, *big)?, new_frame(size, 1, false)?);
         let bytes = buffer_size_bpp(size.0 as usize, size.1 as usize, depth as usize);
         if !(bytes..=LENGTH).contains(&usize::try_from(length).ok()?) {
             return None;
         }
-        self.0 = Some(Described { frame, size: (size.0 as i32, size.1 as i32), depth });
+        self.0 = Some(Described { frame, seen, size: (size.0 as i32, size.1 as i32), depth });
         Some(format!("0\t{bytes}"))
     }
 }
@@ -169,6 +171,7 @@ impl Described {
                 let bytes = self.frame.bytes().get(from..from + count)?;
                 (count <= MOST_DUMPED).then(|| hexadecimal(bytes))
             }
+            ("lit", []) if self.depth == 1 => Some(format!("0\t{}", lit(&*self.frame, self.size))),
             (word, [figure @ .., colour]) => {
                 let colour = self.colour(*colour)?;
                 self.draw(points(word, figure, figures, self.size)?, colour)
@@ -177,17 +180,27 @@ impl Described {
         }
     }
 
+    /// The crate's calls answer nothing, so that the pixels of a figure are counted as those that it lights on zeros. Of `pixel` that is 1 inside the
+    /// frame and 0 beside it.
     fn draw(&mut self, points: Points, colour: u32) -> Option<String> {
+        self.seen.bytes().fill(0);
         for p in points {
             self.frame.set(p, colour);
+            self.seen.set(p, 1);
         }
-        Some("0".into())
+        Some(format!("0\t{}", lit(&*self.seen, self.size)))
     }
 
     /// A colour that the depth holds; the Rust cuts the bits of others off.
     fn colour(&self, colour: i64) -> Option<u32> {
         u32::try_from(colour).ok().filter(|c| u64::from(*c) < 1 << self.depth)
     }
+}
+
+/// How many pixels of one bit are 1, each read by itself.
+fn lit(frame: &dyn Frame, (width, height): (i32, i32)) -> usize {
+    let places = (0..height).flat_map(|y| (0..width).map(move |x| Point::new(x, y)));
+    places.filter(|p| frame.get(*p) == Some(1)).count()
 }
 
 type Points = Box<dyn Iterator<Item = Point>>;

@@ -6,9 +6,9 @@
  * of them draws or writes into it.
  *
  * Every function takes whatever numbers it is given. An answer's `number` is 0, or says why the call was refused: of several reasons the first, in the
- * order that the function names. With a refusal every other number of the answer is 0, `yes` is false, and no byte of a buffer is changed. So no value
- * means anything before the number was looked at, and `false` alone does not mean "outside": ask `beamacorn_says`, which has three answers. With
- * BEAMACORN_STRICT defined, GCC and Clang warn wherever a C program reads `yes` itself.
+ * order that the function names. With a refusal every other number of the answer is 0, `yes` and `inside` are false, and no byte of a buffer is changed.
+ * So no value means anything before the number was looked at, and `false` alone does not mean "outside": of a verdict ask `beamacorn_says`, which has three
+ * answers. With BEAMACORN_STRICT defined, GCC and Clang warn wherever a C program reads `yes` itself.
  *
  * The range: coordinates of a vertex, of a line end and of a circle's top-left corner are accepted from -131,072 to 131,071; x grows to the right, y
  * downwards. A pixel or a row that is asked about, or set, may be any int32_t. A frame has at most 2,048 by 2,048 pixels.
@@ -25,10 +25,10 @@
 #include <stdint.h>
 
 /* The version of this header and of the library, as in CHANGELOG.md. */
-#define BEAMACORN_VERSION "0.1.1"
+#define BEAMACORN_VERSION "0.2.0"
 #define BEAMACORN_VERSION_MAJOR 0
-#define BEAMACORN_VERSION_MINOR 1
-#define BEAMACORN_VERSION_PATCH 1
+#define BEAMACORN_VERSION_MINOR 2
+#define BEAMACORN_VERSION_PATCH 0
 
 #if defined BEAMACORN_STRICT && defined __GNUC__ && !defined __cplusplus
 #define BEAMACORN_BEHIND_THE_NUMBER __attribute__((deprecated("no with a refusal too: ask beamacorn_says")))
@@ -224,10 +224,23 @@ typedef struct {
     uint32_t colour;
 } beamacorn_read;
 
-/* What a call that draws answers. */
+/* What a call that draws answers: how many pixels of the frame its figure contains, each once and whatever its colour was; 0 if the figure lies off it. */
 typedef struct {
     uint32_t number;
+    uint32_t count;
 } beamacorn_drawn;
+
+/* Whether the pixel that was to be set is inside the frame; no with a refusal too. */
+typedef struct {
+    uint32_t number;
+    bool inside;
+} beamacorn_placed;
+
+/* How many pixels of a one-bit frame are lit. */
+typedef struct {
+    uint32_t number;
+    uint32_t count;
+} beamacorn_lights;
 
 /*
  * How many bytes a buffer for the frame must have, in either order.
@@ -239,14 +252,15 @@ typedef struct {
 beamacorn_size beamacorn_frame_size(uint32_t width, uint32_t height, uint32_t depth);
 
 /*
- * Sets the pixel (x, y) to the colour. Outside the frame that is done, and changes nothing.
+ * Sets the pixel (x, y) to the colour, and says whether it is inside the frame. Outside that is done, and changes nothing.
  * Refused with 1 to 4.
  *
- *     beamacorn_drawn call = beamacorn_set_pixel(buf, len, 320, 200, 1, 0, x, y, 1);
+ *     beamacorn_placed call = beamacorn_set_pixel(buf, len, 320, 200, 1, 0, x, y, 1);
  *     if (call.number != 0) { return refused(call.number); }
+ *     seen += call.inside;
  */
-beamacorn_drawn beamacorn_set_pixel(uint8_t *buf, size_t len, uint32_t width, uint32_t height, uint32_t depth, uint32_t order,
-                                    int32_t x, int32_t y, uint32_t colour);
+beamacorn_placed beamacorn_set_pixel(uint8_t *buf, size_t len, uint32_t width, uint32_t height, uint32_t depth, uint32_t order,
+                                     int32_t x, int32_t y, uint32_t colour);
 
 /*
  * The colour of the pixel (x, y).
@@ -259,7 +273,16 @@ beamacorn_read beamacorn_pixel(const uint8_t *buf, size_t len, uint32_t width, u
                                int32_t x, int32_t y);
 
 /*
- * Sets every pixel of the frame to the colour.
+ * How many pixels of a one-bit frame have the colour 1. Padding and the bytes past the frame are not counted.
+ * Refused with 1 to 3, and with 10 where the depth is not 1. A frame without pixels has none that are lit.
+ *
+ *     beamacorn_lights lit = beamacorn_lit(buf, len, 320, 200, 1, 0);
+ *     if (lit.number == 0) { show(lit.count); }
+ */
+beamacorn_lights beamacorn_lit(const uint8_t *buf, size_t len, uint32_t width, uint32_t height, uint32_t depth, uint32_t order);
+
+/*
+ * Sets every pixel of the frame to the colour, and says how many those are: width times height.
  * Refused with 1 to 4.
  *
  *     beamacorn_drawn call = beamacorn_fill(buf, len, 320, 200, 1, 0, 1);
@@ -269,17 +292,18 @@ beamacorn_drawn beamacorn_fill(uint8_t *buf, size_t len, uint32_t width, uint32_
                                uint32_t colour);
 
 /*
- * Draws the points of the line from (x1, y1) to (x2, y2) that lie in the frame.
+ * Draws the points of the line from (x1, y1) to (x2, y2) that lie in the frame, and says how many those are.
  * Refused with 1 to 5.
  *
  *     beamacorn_drawn call = beamacorn_draw_line(buf, len, 320, 200, 1, 0, 0, 0, 5, 2, 1);
  *     if (call.number != 0) { return refused(call.number); }
+ *     if (call.count == 0) { note("the graph lies off the pane"); }
  */
 beamacorn_drawn beamacorn_draw_line(uint8_t *buf, size_t len, uint32_t width, uint32_t height, uint32_t depth, uint32_t order,
                                     int32_t x1, int32_t y1, int32_t x2, int32_t y2, uint32_t colour);
 
 /*
- * Draws the filled triangle: every pixel of the frame that beamacorn_triangle_contains says yes to.
+ * Draws the filled triangle, every pixel of the frame that beamacorn_triangle_contains says yes to, and says how many those are.
  * Refused with 1 to 5.
  *
  *     beamacorn_drawn call = beamacorn_draw_triangle(buf, len, 320, 200, 1, 0, 0, 0, 9, 0, 0, 9, 1);
@@ -289,7 +313,8 @@ beamacorn_drawn beamacorn_draw_triangle(uint8_t *buf, size_t len, uint32_t width
                                         int32_t x1, int32_t y1, int32_t x2, int32_t y2, int32_t x3, int32_t y3, uint32_t colour);
 
 /*
- * Draws the triangle's outline: the lines from the first vertex to the second, on to the third, and back to the first.
+ * Draws the triangle's outline: the lines from the first vertex to the second, on to the third, and back to the first. Says how many pixels
+ * of the frame they have; one that two of them have counts once.
  * Refused with 1 to 5.
  *
  *     beamacorn_drawn call = beamacorn_draw_outline(buf, len, 320, 200, 1, 0, 0, 0, 9, 0, 0, 9, 1);
@@ -299,7 +324,7 @@ beamacorn_drawn beamacorn_draw_outline(uint8_t *buf, size_t len, uint32_t width,
                                        int32_t x1, int32_t y1, int32_t x2, int32_t y2, int32_t x3, int32_t y3, uint32_t colour);
 
 /*
- * Draws the filled circle: every pixel of the frame that beamacorn_circle_contains says yes to.
+ * Draws the filled circle, every pixel of the frame that beamacorn_circle_contains says yes to, and says how many those are.
  * Refused with 1 to 6.
  *
  *     beamacorn_drawn call = beamacorn_draw_circle(buf, len, 320, 200, 1, 0, 10, 10, 25, 1);

@@ -34,7 +34,9 @@ static void say_step(beamacorn_step r) { say(r.number), say_also(r.x), say_also(
 static void say_rows(beamacorn_rows r) { say(r.number), say_also(r.first), say_also(r.count); }
 static void say_size(beamacorn_size r) { say(r.number), say_also(r.bytes); }
 static void say_read(beamacorn_read r) { say(r.number), say_also(r.colour); }
-static void say_drawn(beamacorn_drawn r) { say(r.number); }
+static void say_drawn(beamacorn_drawn r) { say(r.number), say_also(r.count); }
+static void say_placed(beamacorn_placed r) { say(r.number), say_also(r.inside); }
+static void say_lights(beamacorn_lights r) { say(r.number), say_also(r.count); }
 
 /* The functions, each with its numbers in their order. */
 #define ON_FRAME buffer, lent, n[0], n[1], n[2], n[3]
@@ -47,8 +49,9 @@ static void triangle_row_span(const int64_t *n) { say_span(beamacorn_triangle_ro
 static void circle_contains(const int64_t *n) { say_verdict(beamacorn_circle_contains(n[0], n[1], n[2], n[3], n[4])); }
 static void circle_row_span(const int64_t *n) { say_span(beamacorn_circle_row_span(n[0], n[1], n[2], n[3])); }
 static void frame_size(const int64_t *n) { say_size(beamacorn_frame_size(n[0], n[1], n[2])); }
-static void set_pixel(const int64_t *n) { say_drawn(beamacorn_set_pixel(ON_FRAME, n[4], n[5], n[6])); }
+static void set_pixel(const int64_t *n) { say_placed(beamacorn_set_pixel(ON_FRAME, n[4], n[5], n[6])); }
 static void pixel(const int64_t *n) { say_read(beamacorn_pixel(ON_FRAME, n[4], n[5])); }
+static void lit(const int64_t *n) { say_lights(beamacorn_lit(ON_FRAME)); }
 static void fill(const int64_t *n) { say_drawn(beamacorn_fill(ON_FRAME, n[4])); }
 static void draw_line(const int64_t *n) { say_drawn(beamacorn_draw_line(ON_FRAME, n[4], n[5], n[6], n[7], n[8])); }
 static void draw_triangle(const int64_t *n) { say_drawn(beamacorn_draw_triangle(ON_FRAME, n[4], n[5], n[6], n[7], n[8], n[9], n[10])); }
@@ -75,6 +78,7 @@ static const question questions[] = {
     {"discspan", "ssus", "beamacorn_circle_row_span", circle_row_span, false},
     {"pixel", "ssu", "beamacorn_set_pixel", set_pixel, true},
     {"read", "ss", "beamacorn_pixel", pixel, true},
+    {"lit", "", "beamacorn_lit", lit, true},
     {"fill", "u", "beamacorn_fill", fill, true},
     {"line", "ssssu", "beamacorn_draw_line", draw_line, true},
     {"triangle", "ssssssu", "beamacorn_draw_triangle", draw_triangle, true},

@@ -23,6 +23,9 @@ static bool is_step(beamacorn_step r, uint32_t number, int32_t x, int32_t y) { r
 static bool is_rows(beamacorn_rows r, uint32_t number, int32_t first, uint32_t count) { return r.number == number && r.first == first && r.count == count; }
 static bool is_size(beamacorn_size r, uint32_t number, uint32_t bytes) { return r.number == number && r.bytes == bytes; }
 static bool is_read(beamacorn_read r, uint32_t number, uint32_t colour) { return r.number == number && r.colour == colour; }
+static bool is_drawn(beamacorn_drawn r, uint32_t number, uint32_t count) { return r.number == number && r.count == count; }
+static bool is_placed(beamacorn_placed r, uint32_t number, bool inside) { return r.number == number && r.inside == inside; }
+static bool is_lights(beamacorn_lights r, uint32_t number, uint32_t count) { return r.number == number && r.count == count; }
 
 /* Whether each of n bytes is v. */
 static bool all(const uint8_t *bytes, size_t n, uint8_t v)
@@ -117,26 +120,30 @@ static void frames(void)
     CHECK(is_size(beamacorn_frame_size(2049, 1, 3), 1, 0));
     CHECK(is_size(beamacorn_frame_size(2049, 1, 1), 2, 0));
 
-    CHECK(beamacorn_set_pixel(buf, 8, 10, 1, 1, 0, 9, 0, 1).number == 0);
+    CHECK(is_placed(beamacorn_set_pixel(buf, 8, 10, 1, 1, 0, 9, 0, 1), 0, true));
     CHECK(buf[0] == 0 && buf[1] == 0x40);
     CHECK(is_read(beamacorn_pixel(buf, 8, 10, 1, 1, 0, 9, 0), 0, 1));
     CHECK(is_read(beamacorn_pixel(buf, 8, 10, 1, 1, 0, 10, 0), 8, 0));
     CHECK(is_read(beamacorn_pixel(buf, 1, 10, 1, 1, 0, 10, 0), 3, 0));
-    CHECK(beamacorn_set_pixel(buf, 8, 10, 1, 1, 0, INT32_MIN, INT32_MAX, 1).number == 0);
+    CHECK(is_placed(beamacorn_set_pixel(buf, 8, 10, 1, 1, 0, 10, 0, 1), 0, false));
+    CHECK(is_placed(beamacorn_set_pixel(buf, 8, 10, 1, 1, 0, 9, 1, 1), 0, false));
+    CHECK(is_placed(beamacorn_set_pixel(buf, 8, 10, 1, 1, 0, INT32_MIN, INT32_MAX, 1), 0, false));
+    CHECK(is_placed(beamacorn_set_pixel(buf, 8, 10, 1, 1, 0, 9, 0, 2), 4, false));
     CHECK(buf[0] == 0 && buf[1] == 0x40 && all(buf + 2, 6, 0));
 
-    CHECK(beamacorn_set_pixel(buf + 2, 3, 1, 1, 24, 0, 0, 0, 0x010203).number == 0);
+    CHECK(is_placed(beamacorn_set_pixel(buf + 2, 3, 1, 1, 24, 0, 0, 0, 0x010203), 0, true));
     CHECK(buf[2] == 3 && buf[3] == 2 && buf[4] == 1);
-    CHECK(beamacorn_set_pixel(buf + 2, 3, 1, 1, 24, 1, 0, 0, 0x010203).number == 0);
+    CHECK(is_placed(beamacorn_set_pixel(buf + 2, 3, 1, 1, 24, 1, 0, 0, 0x010203), 0, true));
     CHECK(buf[2] == 1 && buf[3] == 2 && buf[4] == 3);
     CHECK(is_read(beamacorn_pixel(buf + 2, 3, 1, 1, 24, 4294967295u, 0, 0), 0, 0x010203));
     CHECK(is_read(beamacorn_pixel(buf + 2, 3, 1, 1, 24, 0, 0, 0), 0, 0x030201));
 
     /* An empty buffer: enough for no pixels, and too short for one. */
-    CHECK(beamacorn_fill(NULL, 0, 0, 2048, 32, 0, 7).number == 0);
-    CHECK(beamacorn_draw_circle(NULL, 0, 2048, 0, 1, 0, 0, 0, 9, 1).number == 0);
-    CHECK(beamacorn_set_pixel(NULL, 0, 1, 1, 1, 0, 0, 0, 1).number == 3);
+    CHECK(is_drawn(beamacorn_fill(NULL, 0, 0, 2048, 32, 0, 7), 0, 0));
+    CHECK(is_drawn(beamacorn_draw_circle(NULL, 0, 2048, 0, 1, 0, 0, 0, 9, 1), 0, 0));
+    CHECK(is_placed(beamacorn_set_pixel(NULL, 0, 1, 1, 1, 0, 0, 0, 1), 3, false));
     CHECK(is_read(beamacorn_pixel(NULL, 0, 0, 0, 1, 0, 0, 0), 8, 0));
+    CHECK(is_lights(beamacorn_lit(NULL, 0, 0, 2048, 1, 0), 0, 0));
 }
 
 static void drawing(void)
@@ -145,37 +152,63 @@ static void drawing(void)
     uint8_t buf[9];
 
     memset(buf, 0xa5, sizeof buf);
-    CHECK(beamacorn_fill(buf, 9, 10, 4, 1, 0, 0).number == 0);
+    CHECK(is_drawn(beamacorn_fill(buf, 9, 10, 4, 1, 0, 0), 0, 40));
     CHECK(buf[0] == 0 && buf[1] == 0x25 && buf[6] == 0 && buf[7] == 0x25 && buf[8] == 0xa5);
-    CHECK(beamacorn_fill(buf, 9, 10, 4, 1, 0, 1).number == 0);
+    CHECK(is_drawn(beamacorn_fill(buf, 9, 10, 4, 1, 0, 1), 0, 40));
     CHECK(buf[0] == 0xff && buf[1] == 0xe5 && buf[8] == 0xa5);
 
     memset(buf, 0, sizeof buf);
-    CHECK(beamacorn_draw_line(buf, 9, 10, 4, 1, 0, 0, 0, 5, 2, 1).number == 0);
+    CHECK(is_drawn(beamacorn_draw_line(buf, 9, 10, 4, 1, 0, 0, 0, 5, 2, 1), 0, 6));
     CHECK(buf[0] == 0xc0 && buf[2] == 0x30 && buf[4] == 0x0c && buf[6] == 0);
 
     memset(buf, 0, sizeof buf);
-    CHECK(beamacorn_draw_triangle(buf, 9, 10, 4, 1, 0, 0, 0, 3, 0, 0, 3, 1).number == 0);
+    CHECK(is_drawn(beamacorn_draw_triangle(buf, 9, 10, 4, 1, 0, 0, 0, 3, 0, 0, 3, 1), 0, 10));
     CHECK(buf[0] == 0xf0 && buf[2] == 0xe0 && buf[4] == 0xc0 && buf[6] == 0x80);
 
     memset(buf, 0, sizeof buf);
-    CHECK(beamacorn_draw_outline(buf, 9, 10, 4, 1, 0, 0, 0, 3, 0, 0, 3, 1).number == 0);
+    CHECK(is_drawn(beamacorn_draw_outline(buf, 9, 10, 4, 1, 0, 0, 0, 3, 0, 0, 3, 1), 0, 9));
     CHECK(buf[0] == 0xf0 && buf[2] == 0xa0 && buf[4] == 0xc0 && buf[6] == 0x80);
 
     memset(buf, 0, sizeof buf);
-    CHECK(beamacorn_draw_circle(buf, 9, 10, 4, 1, 0, 0, 0, 4, 1).number == 0);
+    CHECK(is_drawn(beamacorn_draw_circle(buf, 9, 10, 4, 1, 0, 0, 0, 4, 1), 0, 12));
     CHECK(buf[0] == 0x60 && buf[2] == 0xf0 && buf[4] == 0xf0 && buf[6] == 0x60);
 
-    /* The first reason is given, and no byte changes. */
+    /* Cut by the frame's edges, and off the frame. */
+    CHECK(is_drawn(beamacorn_draw_line(buf, 9, 10, 4, 1, 0, -131072, 3, 131071, 3, 1), 0, 10));
+    CHECK(is_drawn(beamacorn_draw_outline(buf, 9, 10, 4, 1, 0, 7, 0, 10, 0, 7, 3, 1), 0, 8));
+    CHECK(is_drawn(beamacorn_draw_circle(buf, 9, 10, 4, 1, 0, -2, -2, 4, 1), 0, 3));
+    CHECK(is_drawn(beamacorn_draw_triangle(buf, 9, 10, 4, 1, 0, 10, 0, 99, 0, 10, 99, 1), 0, 0));
+
+    /* The first reason is given, with 0 beside it, and no byte changes. */
     memset(buf, 0xa5, sizeof buf);
-    CHECK(beamacorn_draw_line(buf, 0, 2049, 4, 3, 0, 131072, 0, 5, 2, 2).number == 1);
-    CHECK(beamacorn_draw_triangle(buf, 0, 2049, 4, 1, 0, 131072, 0, 5, 2, 0, 0, 2).number == 2);
-    CHECK(beamacorn_draw_outline(buf, 7, 10, 4, 1, 0, 131072, 0, 5, 2, 0, 0, 2).number == 3);
-    CHECK(beamacorn_draw_circle(buf, 8, 10, 4, 1, 0, 131072, 0, 5, 2).number == 4);
-    CHECK(beamacorn_fill(buf, 8, 10, 4, 1, 0, 2).number == 4);
-    CHECK(beamacorn_draw_outline(buf, 8, 10, 4, 1, 0, 131072, 0, 5, 2, 0, 0, 1).number == 5);
-    CHECK(beamacorn_draw_circle(buf, 8, 10, 4, 1, 0, 131071, 0, 2, 1).number == 6);
+    CHECK(is_drawn(beamacorn_draw_line(buf, 0, 2049, 4, 3, 0, 131072, 0, 5, 2, 2), 1, 0));
+    CHECK(is_drawn(beamacorn_draw_triangle(buf, 0, 2049, 4, 1, 0, 131072, 0, 5, 2, 0, 0, 2), 2, 0));
+    CHECK(is_drawn(beamacorn_draw_outline(buf, 7, 10, 4, 1, 0, 131072, 0, 5, 2, 0, 0, 2), 3, 0));
+    CHECK(is_drawn(beamacorn_draw_circle(buf, 8, 10, 4, 1, 0, 131072, 0, 5, 2), 4, 0));
+    CHECK(is_drawn(beamacorn_fill(buf, 8, 10, 4, 1, 0, 2), 4, 0));
+    CHECK(is_drawn(beamacorn_draw_outline(buf, 8, 10, 4, 1, 0, 131072, 0, 5, 2, 0, 0, 1), 5, 0));
+    CHECK(is_drawn(beamacorn_draw_circle(buf, 8, 10, 4, 1, 0, 131071, 0, 2, 1), 6, 0));
     CHECK(all(buf, 9, 0xa5));
+}
+
+static void lit_pixels(void)
+{
+    /* Three rows of ten pixels, a bit each, and two bytes behind them; all padding and the tail set. */
+    static const uint8_t buf[] = {0x80, 0x3f, 0x00, 0x7f, 0xff, 0xff, 0xff, 0xff};
+
+    CHECK(is_lights(beamacorn_lit(buf, 8, 10, 3, 1, 0), 0, 12));
+    CHECK(is_lights(beamacorn_lit(buf, 6, 10, 3, 1, 4294967295u), 0, 12));
+    CHECK(is_lights(beamacorn_lit(buf, 8, 9, 3, 1, 0), 0, 10));
+    CHECK(is_lights(beamacorn_lit(buf, 8, 16, 4, 1, 0), 0, 46));
+
+    /* The first reason is given, 3 before 10. */
+    CHECK(is_lights(beamacorn_lit(buf, 0, 2049, 3, 3, 0), 1, 0));
+    CHECK(is_lights(beamacorn_lit(buf, 0, 2049, 3, 2, 0), 2, 0));
+    CHECK(is_lights(beamacorn_lit(buf, 5, 10, 3, 1, 0), 3, 0));
+    CHECK(is_lights(beamacorn_lit(buf, 8, 10, 3, 2, 0), 3, 0));
+    CHECK(is_lights(beamacorn_lit(buf, 8, 4, 3, 2, 0), 10, 0));
+    CHECK(is_lights(beamacorn_lit(buf, 8, 0, 3, 8, 0), 10, 0));
+    CHECK(is_lights(beamacorn_lit(NULL, 0, 10, 3, 1, 0), 3, 0));
 }
 
 static void image_files(void)
@@ -228,6 +261,7 @@ int main(void)
     verdicts();
     frames();
     drawing();
+    lit_pixels();
     image_files();
     printf("%d checks, %d failed\n", checks, failures);
     return failures != 0;

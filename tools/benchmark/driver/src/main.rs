@@ -4,6 +4,7 @@ mod figures;
 mod frames;
 mod images;
 mod inputs;
+mod lights;
 mod ours;
 mod race;
 
@@ -25,7 +26,8 @@ fn main() -> ExitCode {
 fn table(runs: usize) {
     println!("| Work | Against | Ours, median (quartiles) | The other | Ratio | Goal | |");
     println!("|---|---|---|---|---|---|---|");
-    for race in figures::races().into_iter().chain(frames::races()).chain(images::races()) {
+    let races = [figures::races(), frames::races(), images::races(), lights::races()];
+    for race in races.into_iter().flatten() {
         println!("{}", race.row(runs));
     }
 }

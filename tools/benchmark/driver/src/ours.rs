@@ -16,6 +16,19 @@ pub struct Span {
 #[repr(C)]
 pub struct Drawn {
     pub number: u32,
+    pub count: u32,
+}
+
+#[repr(C)]
+pub struct Placed {
+    pub number: u32,
+    pub inside: bool,
+}
+
+#[repr(C)]
+pub struct Lights {
+    pub number: u32,
+    pub count: u32,
 }
 
 #[repr(C)]
@@ -31,7 +44,8 @@ extern "C" {
     fn beamacorn_circle_row_span(left: i32, top: i32, diameter: u32, y: i32) -> Span;
 
     fn beamacorn_set_pixel(buf: *mut u8, len: usize, width: u32, height: u32, depth: u32, order: u32,
-        x: i32, y: i32, colour: u32) -> Drawn;
+        x: i32, y: i32, colour: u32) -> Placed;
+    fn beamacorn_lit(buf: *const u8, len: usize, width: u32, height: u32, depth: u32, order: u32) -> Lights;
     fn beamacorn_fill(buf: *mut u8, len: usize, width: u32, height: u32, depth: u32, order: u32,
         colour: u32) -> Drawn;
     fn beamacorn_draw_line(buf: *mut u8, len: usize, width: u32, height: u32, depth: u32, order: u32,
@@ -70,6 +84,13 @@ pub fn image_size(width: u32, height: u32, depth: u32) -> usize {
 /// Writes it, and says the same.
 pub fn write_image(buf: &[u8], width: u32, height: u32, depth: u32, order: u32, out: &mut [u8]) -> usize {
     accepted(unsafe { beamacorn_write_image(buf.as_ptr(), buf.len(), width, height, depth, order, out.as_mut_ptr(), out.len()) })
+}
+
+/// How many pixels of a one-bit frame are lit.
+pub fn lit(buf: &[u8], width: u32, height: u32) -> u32 {
+    let lights = unsafe { beamacorn_lit(buf.as_ptr(), buf.len(), width, height, 1, 0) };
+    assert_eq!(lights.number, 0, "our library refused");
+    lights.count
 }
 
 fn accepted(size: Size) -> usize {

@@ -4,28 +4,38 @@ use mathlib.Core.List.{List, [], _∷_}
 use Prim.Native.Nat.{ℕ}
 use Rattle.framebuffer.specs.declared.Drawn.{Drawn}
 use Rattle.framebuffer.specs.declared.Frame.{Frame}
-use Rattle.framebuffer.specs.Drawing.{Drawing, pixelDrawing, fillDrawing, outcome}
+use Rattle.framebuffer.specs.declared.Placed.{Placed}
+use Rattle.framebuffer.specs.Drawing.{Drawing, fillDrawing, outcome, pixelOutcome}
 use Rattle.framebuffer.specs.Window.{wholeWindow}
 use Rattle.drawing.specs.Drawing.{lineDrawing, triangleDrawing, outlineDrawing, circleDrawing}
 use Rattle.text.specs.Fields.{nextU32}
 use Rattle.protocol.specs.declared.reply.Reply.{Reply}
-use Rattle.protocol.specs.declared.reply.Reply.the-variants.{Bad, Number}
+use Rattle.protocol.specs.declared.reply.Reply.the-variants.{Bad, One}
+use Rattle.protocol.specs.declared.reply.Value.the-variants.{Natural}
 use Rattle.protocol.specs.Fields.{isLast, ofOne, ofTwo, nextPoint, nextEnds, nextVertices, nextCircle}
+use Rattle.protocol.specs.Reply.{verdictReply}
 use Rattle.protocol.specs.Words.{meant}
 use Rattle.questions.specs.Ask.{askReply}
 use Rattle.calls.specs.Words.{pixelWord, fillWord, lineWord, triangleWord, outlineWord, circleWord}
 
--- what a call answers and leaves, with its answer put into a reply
-abbrev pub drawnSaid : Drawn × List ℕ → Reply × List ℕ
-drawnSaid c = (Number (c .0 .number), c .1)
+-- a call, if the line ends there; else `bad line`, and the bytes as they were
+abbrev pub callIfLast : List ℕ → ℕ → Reply × List ℕ → List ℕ → Reply × List ℕ
+callIfLast said next c b = cond (isLast said next) c (Bad, b)
 
--- the call on the whole frame, if the line ends there; else `bad line`, and the bytes as they were
-abbrev pub called : List ℕ → ℕ → Frame → Drawing → List ℕ → Reply × List ℕ
-called said next f d b = cond (isLast said next) (drawnSaid (outcome f (wholeWindow f) d b)) (Bad, b)
+-- ---- `pixel X Y C`: number, whether it was inside the frame (02, T-02)
+abbrev pub placedSaid : Placed × List ℕ → Reply × List ℕ
+placedSaid c = (verdictReply (record { number = c .0 .number; yes = c .0 .inside }), c .1)
 
--- `pixel X Y C`
 unfoldable pub pixelCall : List ℕ → ℕ → Frame → List ℕ → Reply × List ℕ
-pixelCall said at f b = ofTwo (λ p c. called said (c .next) f (pixelDrawing (p .point) (c .value)) b) (nextPoint said at) (λ p. nextU32 said (p .next))
+pixelCall said at f b =
+    ofTwo (λ p c. callIfLast said (c .next) (placedSaid (pixelOutcome f (wholeWindow f) (p .point) (c .value) b)) b) (nextPoint said at) (λ p. nextU32 said (p .next))
+
+-- ---- a drawing on the whole frame: number, how many pixels of it the figure contains (02, T-02)
+abbrev pub drawnSaid : Drawn × List ℕ → Reply × List ℕ
+drawnSaid c = (One (c .0 .number) (Natural (c .0 .count)), c .1)
+
+abbrev pub called : List ℕ → ℕ → Frame → Drawing → List ℕ → Reply × List ℕ
+called said next f d b = callIfLast said next (drawnSaid (outcome f (wholeWindow f) d b)) b
 
 -- `fill C`
 unfoldable pub fillCall : List ℕ → ℕ → Frame → List ℕ → Reply × List ℕ

@@ -2,13 +2,16 @@
 ghost use mathlib.Core.Path.{_≡_};
 ghost use Rattle.calls.specs.Draw.{pixelCall, fillCall, lineCall, triangleCall, outlineCall, circleCall, drawCall};
 use framebuffer::Frame;
+use geometry::Verdict;
 use protocol::Reply;
+use protocol::Value;
 use protocol::ends_at;
 use protocol::next_circle;
 use protocol::next_ends;
 use protocol::next_point;
 use protocol::next_vertices;
 use protocol::place_in;
+use protocol::verdict_reply;
 use questions::ask;
 
 fn pixel(said: &[u8], at: usize, buf: &mut [u8], frame: Frame) -> Reply
@@ -19,8 +22,11 @@ fn pixel(said: &[u8], at: usize, buf: &mut [u8], frame: Frame) -> Reply
     if !ends_at(said, colour.next) {
         return Reply::Bad;
     }
-    let drawn = framebuffer::set_pixel(buf, frame, place.point, colour.value);
-    Reply::Number(drawn.number)
+    let placed = framebuffer::set_pixel(buf, frame, place.point, colour.value);
+    verdict_reply(Verdict {
+        number: placed.number,
+        yes: placed.inside,
+    })
 }
 
 fn fill(said: &[u8], at: usize, buf: &mut [u8], frame: Frame) -> Reply
@@ -31,7 +37,7 @@ fn fill(said: &[u8], at: usize, buf: &mut [u8], frame: Frame) -> Reply
         return Reply::Bad;
     }
     let drawn = framebuffer::fill(buf, frame, colour.value);
-    Reply::Number(drawn.number)
+    Reply::One(drawn.number, Value::Natural(drawn.count))
 }
 
 fn line(said: &[u8], at: usize, buf: &mut [u8], frame: Frame) -> Reply
@@ -43,7 +49,7 @@ fn line(said: &[u8], at: usize, buf: &mut [u8], frame: Frame) -> Reply
         return Reply::Bad;
     }
     let drawn = drawing::draw_line(buf, frame, ends.start, ends.end, colour.value);
-    Reply::Number(drawn.number)
+    Reply::One(drawn.number, Value::Natural(drawn.count))
 }
 
 fn triangle(said: &[u8], at: usize, buf: &mut [u8], frame: Frame) -> Reply
@@ -55,7 +61,7 @@ fn triangle(said: &[u8], at: usize, buf: &mut [u8], frame: Frame) -> Reply
         return Reply::Bad;
     }
     let drawn = drawing::draw_triangle(buf, frame, t.v1, t.v2, t.v3, colour.value);
-    Reply::Number(drawn.number)
+    Reply::One(drawn.number, Value::Natural(drawn.count))
 }
 
 fn outline(said: &[u8], at: usize, buf: &mut [u8], frame: Frame) -> Reply
@@ -67,7 +73,7 @@ fn outline(said: &[u8], at: usize, buf: &mut [u8], frame: Frame) -> Reply
         return Reply::Bad;
     }
     let drawn = drawing::draw_outline(buf, frame, t.v1, t.v2, t.v3, colour.value);
-    Reply::Number(drawn.number)
+    Reply::One(drawn.number, Value::Natural(drawn.count))
 }
 
 fn circle(said: &[u8], at: usize, buf: &mut [u8], frame: Frame) -> Reply
@@ -79,7 +85,7 @@ fn circle(said: &[u8], at: usize, buf: &mut [u8], frame: Frame) -> Reply
         return Reply::Bad;
     }
     let drawn = drawing::draw_circle(buf, frame, round.topleft, round.diameter, colour.value);
-    Reply::Number(drawn.number)
+    Reply::One(drawn.number, Value::Natural(drawn.count))
 }
 
 // Makes the call that starts with the word; a line that starts with none of these words may be a question.

@@ -21,6 +21,9 @@ returns c = search calls
 set-pixel-requires : tie.Need-set-pixel-requires
 set-pixel-requires c κs = search needs
 
+verdict-reply-requires : tie.Need-verdict-reply-requires
+verdict-reply-requires c κs = search needs
+
 same-length : tie.Need-same-length
 same-length c = search needs
 
@@ -37,5 +40,6 @@ pixel-spec =
     ends-at-requires
     returns
     set-pixel-requires
+    verdict-reply-requires
     same-length
     returns-2)

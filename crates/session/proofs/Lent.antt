@@ -35,7 +35,7 @@ frame-lent said at s m h = by (nextScreen said at .ok) refl
     by false e = h
 
 response-lent : (word said : List ℕ) (at : ℕ) (s : Screen) (m : List ℕ) → s .lent ≤ 65536 → response word said at s m .0 .screen .lent ≤ 65536
-response-lent word said at s m h = meant-each (λ t. t .0 .screen .lent ≤ 65536) word (turnTable said at s m) _ (frame-lent said at s m h, (h, (h, (h, tt)))) h
+response-lent word said at s m h = meant-each (λ t. t .0 .screen .lent ≤ 65536) word (turnTable said at s m) _ (frame-lent said at s m h, (h, (h, (h, (h, tt))))) h
 
 act-lent : (word said : List ℕ) (at : ℕ) (s : Screen) (m : Buffers) → s .lent ≤ 65536 → act word said at s m .0 .screen .lent ≤ 65536
 act-lent word said at s m h = meant-each (λ t. t .0 .screen .lent ≤ 65536) word (fileTable said at s m) _ (h, (h, tt)) (response-lent word said at s (m .0) h)

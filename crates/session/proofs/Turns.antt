@@ -10,6 +10,7 @@ use borrow.Author.Tests.{le-leb, lt-leb}
 use Rattle.framebuffer.specs.declared.Frame.{Frame}
 use Rattle.framebuffer.specs.declared.Read.{Read}
 use Rattle.framebuffer.specs.declared.Size.{Size}
+use Rattle.lights.specs.declared.Lights.{Lights}
 use Rattle.protocol.specs.declared.reply.Reply.{Reply}
 use Rattle.protocol.specs.declared.reply.Reply.the-variants.{One}
 use Rattle.protocol.specs.declared.reply.Value.the-variants.{Natural}
@@ -18,7 +19,7 @@ use Rattle.protocol.proofs.Replies.{readings}
 use Rattle.session.specs.declared.screen.Described.{Described}
 use Rattle.session.specs.declared.screen.Screen.{Screen}
 use Rattle.session.specs.declared.screen.Turn.{Turn}
-use Rattle.session.specs.Screen.{turn, screenOf, sizeSaid, readSaid, bufferTurn, lentTurn}
+use Rattle.session.specs.Screen.{turn, screenOf, sizeSaid, readSaid, litSaid, bufferTurn, lentTurn}
 use Rattle.session.specs.Files.{Buffers, imageSaid, fileTurn, screenTurn}
 
 -- ---- a description, and the test of its order before that of the rest
@@ -42,6 +43,9 @@ read-said e = ap readSaid e
 pub length-said : {a found : Size} → a ≡ found → One (a .number) (Natural (a .bytes)) ≡ sizeSaid found
 length-said e = ap sizeSaid e
 
+pub lit-said : {a found : Lights} → a ≡ found → One (a .number) (Natural (a .count)) ≡ litSaid found
+lit-said e = ap litSaid e
+
 pub size-said : (s : Screen) {a found : Size} {m left : List ℕ} → a ≡ found → m ≡ left
     → _≡_ {A = Turn × List ℕ} (turn s (One (a .number) (Natural (a .bytes))), m) (turn s (sizeSaid found), left)
 size-said s e h = ap₂ {C = Turn × List ℕ} (λ x l. (turn s (sizeSaid x), l)) e h
@@ -49,8 +53,8 @@ size-said s e h = ap₂ {C = Turn × List ℕ} (λ x l. (turn s (sizeSaid x), l)
 pub bytes-left : (r : Reply) {m left : List ℕ} → m ≡ left → _≡_ {A = Reply × List ℕ} (r, m) (r, left)
 bytes-left r e = ap {B = Reply × List ℕ} (λ l. (r, l)) e
 
--- what answers the needs of `frame`, `preset`, `read` and `imagesize`
-pub ruleset turns = (readings, read-said, length-said, size-said, bytes-left)
+-- what answers the needs of `frame`, `preset`, `read`, `imagesize` and `lit`
+pub ruleset turns = (readings, read-said, length-said, lit-said, size-said, bytes-left)
 
 -- ---- what a call on the buffer, on its lent part, and a question leave
 pub turn-buffer : (s : Screen) {r : Reply} {left : List ℕ} {c : Reply × List ℕ} → _≡_ {A = Reply × List ℕ} (r, left) c → _≡_ {A = Turn × List ℕ} (turn s r, left) (bufferTurn s c)

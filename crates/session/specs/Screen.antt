@@ -1,16 +1,19 @@
--- The buffer's bytes, the description of the frame and the lent length: what `frame`, `preset`, `read` and `imagesize` answer and leave.
+-- The buffer's bytes, the description of the frame and the lent length: what `frame`, `preset`, `read`, `imagesize` and `lit` answer and leave.
 use mathlib.Core.Bool.{false, cond, _&&_}
 use mathlib.Core.List.{List, [], _∷_, _++_}
 use Prim.Native.Nat.{ℕ}
 use lib.Dec.{eqb, leb}
 use lib.ListN.{length, take, drop}
 use Rattle.refusals.specs.First.{first}
+use Rattle.layout.specs.Count.{litIn}
 use Rattle.layout.specs.Digits.{setRun}
 use Rattle.framebuffer.specs.declared.Frame.{Frame}
 use Rattle.framebuffer.specs.declared.Read.{Read}
 use Rattle.framebuffer.specs.declared.Size.{Size}
 use Rattle.framebuffer.specs.Answer.{sized, read}
-use Rattle.framebuffer.specs.Description.{described, size, descriptionTests, readTests, colourAt}
+use Rattle.framebuffer.specs.Description.{described, raster, size, descriptionTests, readTests, colourAt}
+use Rattle.lights.specs.declared.Lights.{Lights}
+use Rattle.lights.specs.Answer.{litTests, lights}
 use Rattle.netpbm.specs.Image.{imageLength}
 use Rattle.netpbm.specs.Written.{imageSizeTests}
 use Rattle.text.specs.declared.NextU32.{NextU32}
@@ -25,7 +28,7 @@ use Rattle.session.specs.declared.screen.Described.{Described}
 use Rattle.session.specs.declared.screen.Screen.{Screen}
 use Rattle.session.specs.declared.screen.Turn.{Turn}
 use Rattle.calls.specs.Draw.{drawCall}
-use Rattle.session.specs.Words.{frameWord, presetWord, readWord, imageSizeWord}
+use Rattle.session.specs.Words.{frameWord, presetWord, readWord, imageSizeWord, litWord}
 
 -- every byte the same
 abbrev pub allSet : ℕ → List ℕ → List ℕ
@@ -83,6 +86,13 @@ readReply said at f b = ofOne (λ p. ifLast said (p .next) (readSaid (read (firs
 unfoldable pub imageSizeReply : List ℕ → ℕ → Frame → Reply
 imageSizeReply said at f = ifLast said at (sizeSaid (sized (first (imageSizeTests f)) (imageLength f)))
 
+-- ---- `lit`: number, how many pixels of the one-bit frame are lit (02, T-02)
+abbrev pub litSaid : Lights → Reply
+litSaid a = One (a .number) (Natural (a .count))
+
+unfoldable pub litReply : List ℕ → ℕ → Frame → List ℕ → Reply
+litReply said at f b = ifLast said at (litSaid (lights (first (litTests f (length b))) (litIn (raster f) b)))
+
 -- ---- a line by its word, all but those on the file and those that show bytes: a turn on the buffer leaves the screen; the calls are on the lent part, and
 -- the bytes behind it stay
 abbrev pub bufferTurn : Screen → Reply × List ℕ → Turn × List ℕ
@@ -97,6 +107,7 @@ turnTable said at s m =
     ∷ (presetWord, bufferTurn s (presetCall said at m))
     ∷ (readWord, (turn s (readReply said at (s .frame) (take (s .lent) m)), m))
     ∷ (imageSizeWord, (turn s (imageSizeReply said at (s .frame)), m))
+    ∷ (litWord, (turn s (litReply said at (s .frame) (take (s .lent) m)), m))
     ∷ []
 
 abbrev pub response : List ℕ → List ℕ → ℕ → Screen → List ℕ → Turn × List ℕ

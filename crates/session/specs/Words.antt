@@ -22,6 +22,10 @@ dumpWord = 100 ∷ 117 ∷ 109 ∷ 112 ∷ []
 abbrev pub imageSizeWord : List ℕ
 imageSizeWord = 105 ∷ 109 ∷ 97 ∷ 103 ∷ 101 ∷ 115 ∷ 105 ∷ 122 ∷ 101 ∷ []
 
+-- `lit`
+abbrev pub litWord : List ℕ
+litWord = 108 ∷ 105 ∷ 116 ∷ []
+
 -- `image`
 abbrev pub imageWord : List ℕ
 imageWord = 105 ∷ 109 ∷ 97 ∷ 103 ∷ 101 ∷ []

@@ -2,7 +2,7 @@
 ghost use mathlib.Core.Path.{_≡_};
 ghost use Prim.Native.Nat.{_≤_};
 ghost use lib.ListN.{length};
-ghost use Rattle.session.specs.Screen.{start, nextScreen, frameTurn, presetCall, readReply, imageSizeReply, response};
+ghost use Rattle.session.specs.Screen.{start, nextScreen, frameTurn, presetCall, readReply, imageSizeReply, litReply, response};
 use calls::draw;
 use framebuffer::Frame;
 use protocol::Reply;
@@ -115,6 +115,16 @@ fn image_size(said: &[u8], at: usize, frame: Frame) -> Reply
     Reply::One(size.number, Value::Natural(size.bytes))
 }
 
+fn lit(said: &[u8], at: usize, buf: &[u8], frame: Frame) -> Reply
+    ensures { λ r. ⌜ r ≡ litReply (now (said .entry)) at frame (now (buf .entry)) ⌝ }
+{
+    if !ends_at(said, at) {
+        return Reply::Bad;
+    }
+    let found = lights::lit(buf, frame);
+    Reply::One(found.number, Value::Natural(found.count))
+}
+
 // Inside the library: does what the line says that starts with the word, all but those on the file and those that show bytes. Calls are made on the lent part of
 // the buffer.
 pub fn respond(word: &[u8], said: &[u8], at: usize, memory: &mut [u8], screen: Screen) -> Turn
@@ -122,7 +132,7 @@ pub fn respond(word: &[u8], said: &[u8], at: usize, memory: &mut [u8], screen: S
     ensures { λ r. ⌜ (r, now (memory .exit)) ≡ response (now (word .entry)) (now (said .entry)) at screen (now (memory .entry)) ⌝ }
 {
     let lent = screen.lent;
-    match place_in(b"frame\tpreset\tread\timagesize", word) {
+    match place_in(b"frame\tpreset\tread\timagesize\tlit", word) {
         0 => frame(said, at, memory, screen),
         1 => {
             let reply = preset(said, at, memory);
@@ -134,6 +144,10 @@ pub fn respond(word: &[u8], said: &[u8], at: usize, memory: &mut [u8], screen: S
         }
         3 => {
             let reply = image_size(said, at, screen.frame);
+            Turn { screen, reply }
+        }
+        4 => {
+            let reply = lit(said, at, &memory[..lent], screen.frame);
             Turn { screen, reply }
         }
         _ => {

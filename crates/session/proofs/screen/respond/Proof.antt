@@ -28,6 +28,15 @@ read-requires c κs = search needs
 image-size-requires : tie.Need-image-size-requires
 image-size-requires c κs = search needs
 
+slice-reshare-prefix-lit : tie.Need-slice-reshare-prefix-lit
+slice-reshare-prefix-lit c = search needs
+
+slice-aggregate-lit : tie.Need-slice-aggregate-lit
+slice-aggregate-lit c = search turn-words
+
+lit-requires : tie.Need-lit-requires
+lit-requires c κs = search needs
+
 slice-relend-prefix-draw : tie.Need-slice-relend-prefix-draw
 slice-relend-prefix-draw c = search needs
 
@@ -64,6 +73,12 @@ same-length-4 c = search needs
 returns-5 : tie.Need-returns-5
 returns-5 c = search turn-words
 
+same-length-5 : tie.Need-same-length-5
+same-length-5 c = search needs
+
+returns-6 : tie.Need-returns-6
+returns-6 c = search turn-words
+
 pub respond-spec : {M : Type 1} → statement M
 respond-spec =
     tie.close
@@ -76,6 +91,9 @@ respond-spec =
     slice-aggregate-read
     read-requires
     image-size-requires
+    slice-reshare-prefix-lit
+    slice-aggregate-lit
+    lit-requires
     slice-relend-prefix-draw
     slice-aggregate-draw
     draw-requires
@@ -87,4 +105,6 @@ respond-spec =
     returns-3
     returns-4
     same-length-4
-    returns-5)
+    returns-5
+    same-length-5
+    returns-6)

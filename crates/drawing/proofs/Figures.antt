@@ -185,7 +185,9 @@ module _ {q : Brush} {len : ℕ} (R : Ready q len) (before : ℤ → ℤ → Boo
           gone (inWindow (q .window) (pos x) (pos y)) (samePlace (pos x, pos y) (path k)) (walked path k (pos x) (pos y)) (before (pos x) (pos y))
           (λ h. there (pos x) (pos y) before h ∙ e))
       by false e =
-          (λ i. pixelsIn (raster (q .frame)) (new k) + ((ap (λ (t : Bool). oneIf (inside && not t)) e ∙ ap oneIf (and-true inside) ∙ sym (point-count (q .frame) (R .drawable .accepted .described) (q .colour) b (q .window) (path k .0) (path k .1) (R .within))) i))
+          ap (λ (n : ℕ). pixelsIn (raster (q .frame)) (new k) + n)
+          (ap (λ (t : Bool). oneIf (inside && not t)) e ∙ ap oneIf (and-true inside)
+          ∙ sym (point-count (q .frame) (R .drawable .accepted .described) (q .colour) b (q .window) (path k .0) (path k .1) (R .within)))
           ∙ sym (pixels-add (raster (q .frame)) (new k) (heldBy (q .window) (single (path k .0) (path k .1))) (λ x y hx hy.
           alone (inWindow (q .window) (pos x) (pos y)) (samePlace (pos x, pos y) (path k)) (walked path k (pos x) (pos y)) (before (pos x) (pos y))
           (λ h. there (pos x) (pos y) (walked path k) h ∙ none-leads path (path k) k apart)))

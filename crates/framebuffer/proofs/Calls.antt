@@ -1,12 +1,12 @@
 -- Laws of a call that draws: its number, test by test, what is known where that is 0, and its outcome, accepted and refused. Assumes nothing.
-use mathlib.Core.Path.{_≡_, refl, sym, ap, subst, _∙_}
+use mathlib.Core.Path.{_≡_, sym, ap, subst, _∙_}
 use mathlib.Core.Bool.{Bool, false, cond}
 use mathlib.Core.List.{List, [], _++_, append-nil}
 use Prim.Native.Nat.{ℕ, _*_, _≤_}
 use native.Mathlib.Nat.{mul-le-mul}
 use lib.Dec.{eqb}
 use lib.ListN.{length}
-use borrow.Author.Tests.{eq-eqb, ne-eqb}
+use borrow.Author.Tests.{ne-eqb}
 use Rattle.refusals.specs.First.{Tests, first}
 use Rattle.refusals.proofs.First.{refused, passed, both-pass}
 use Rattle.geometry.specs.declared.Point.{Point}
@@ -98,11 +98,13 @@ module _ (f : Frame) (p : Point) (colour : ℕ) (b : List ℕ) {r : ℕ} (e : r 
       (λ i. (refused-placed r t n i, refused-outcome f (wholeWindow f) d b number-is n i .1)) ∙ ap (λ (k : ℕ). (wasInside k t, outcome f (wholeWindow f) d b .1)) number-is
 
   pub placed-pixel : {q : Window} {t : Bool} {after : List ℕ} → r ≡ 0 → q ≡ wholeWindow f → t ≡ inWindow q (p .0) (p .1)
-      → after ≡ painted (raster f) (heldBy q (single (p .0) (p .1))) colour b → _≡_ {A = Placed × List ℕ} (record { number = 0; inside = t }, after) (pixelOutcome f (wholeWindow f) p colour b)
+      → after ≡ painted (raster f) (heldBy q (single (p .0) (p .1))) colour b
+      → _≡_ {A = Placed × List ℕ} (record { number = 0; inside = t }, after) (pixelOutcome f (wholeWindow f) p colour b)
   unfolding pixelOutcome
   placed-pixel {q} z w i h =
       let d = pixelDrawing p colour in
-      let a = accepted-outcome f (wholeWindow f) d b number-is z (λ j. (pixelsIn (raster f) (heldBy (wholeWindow f) (d .figure)), (h ∙ ap (λ (q : Window). painted (raster f) (heldBy q (d .figure)) colour b) w) j)) in
+      let bytes = h ∙ ap (λ (q : Window). painted (raster f) (heldBy q (d .figure)) colour b) w in
+      let a = accepted-outcome f (wholeWindow f) d b number-is z (λ j. (pixelsIn (raster f) (heldBy (wholeWindow f) (d .figure)), bytes j)) in
       (λ j. (record { number = 0; inside = (i ∙ ap (λ (q : Window). inWindow q (p .0) (p .1)) w) j }, a j .1))
       ∙ ap (λ (k : ℕ). (wasInside k (inWindow (wholeWindow f) (p .0) (p .1)), outcome f (wholeWindow f) d b .1)) (sym z ∙ number-is)
 

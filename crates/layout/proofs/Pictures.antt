@@ -13,8 +13,8 @@ use lib.ListN.{length, getD, replicate}
 use lib.Seq.{getD-set-other}
 use Rattle.layout.specs.Digits.{digit, replaced, cell, putDigits}
 use Rattle.layout.specs.Paint.{render}
-use Rattle.layout.specs.Layout.{Layout, Picture, putPixel, getPixel, putNo, getNo, painted, shown, coloured, rendered}
-use Rattle.layout.proofs.Screen.{render-cong, render-ok, render-render, self-render, get-render, paint-is}
+use Rattle.layout.specs.Layout.{Layout, Picture, putPixel, getPixel, putNo, painted, shown, coloured, rendered}
+use Rattle.layout.proofs.Screen.{render-cong, render-render, self-render, get-render, paint-is}
 use Rattle.layout.proofs.Cells.{cell-other, digit-lt, puts-len}
 use Rattle.layout.proofs.Fields.{value-lt, value-zero}
 use Rattle.layout.proofs.Placing.{Placing, Everywhere, number-in, numbered, laws}

@@ -14,7 +14,7 @@ use borrow.Author.Tests.{eqb-true, eq-eqb}
 use Rattle.whole.proofs.Tests.{same-test, and-true, true-and, fails}
 use Rattle.layout.specs.Figure.{single, everywhere}
 use Rattle.layout.specs.Layout.{Layout, painted, shown, coloured}
-use Rattle.layout.specs.Count.{howMany, pixelsIn, litIn, marked}
+use Rattle.layout.specs.Count.{pixelsIn, litIn, marked}
 use Rattle.layout.proofs.Counts.{many-cong, many-none, many-all, many-le, many-add, many-part, many-one, many-zero}
 use Rattle.layout.proofs.Placing.{Placing, Everywhere, numbered}
 use Rattle.layout.proofs.Spans.{columns, in-span, span-none, span-one, span-join}

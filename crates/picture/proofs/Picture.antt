@@ -2,7 +2,7 @@
 -- afterwards are equal exactly if every pixel of the frame has the same colour in both. Assumes nothing.
 use mathlib.Core.Path.{_≡_, refl, sym, ap, subst, _∙_}
 use mathlib.Core.Bool.{Bool, true, false, cond}
-use mathlib.Core.List.{List, [], _∷_, _++_}
+use mathlib.Core.List.{List, [], _∷_}
 use mathlib.Core.Logic.{_↔_}
 use Prim.Native.Nat.{ℕ, _^_, _≤_, _<_}
 use native.Mathlib.Nat.{one-le-pow}
@@ -13,7 +13,7 @@ use lib.Pow.{pow-pos}
 use borrow.Author.Tests.{eqb-true, eqb-false, ne-eqb, leb-false}
 use Rattle.refusals.specs.First.{first}
 use Rattle.refusals.proofs.First.{refused, both-pass, fails-alone}
-use Rattle.layout.specs.Layout.{Layout, Picture, shown, rendered}
+use Rattle.layout.specs.Layout.{Picture, shown, rendered}
 use Rattle.layout.specs.Packed.{field, parts}
 use Rattle.layout.proofs.Fields.{pow-mul}
 use Rattle.layout.proofs.Placing.{Everywhere}

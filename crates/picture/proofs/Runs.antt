@@ -1,11 +1,10 @@
 -- The theorem about runs of the code: a run is a list of calls, each made by the compiled function, whose contract is all that is known of it.
 -- Assumes nothing.
-use mathlib.Core.Path.{_≡_, refl, sym, ap, subst₂, _∙_}
+use mathlib.Core.Path.{_≡_, refl, sym, ap, _∙_}
 use mathlib.Core.List.{List, [], _∷_}
 use mathlib.Core.Logic.{_↔_}
-use Prim.Native.Nat.{ℕ, _≤_, _<_}
-use lib.IntN.{pos, natAbs}
-use lib.ListN.{length, length-replicate}
+use Prim.Native.Nat.{ℕ, _<_}
+use lib.ListN.{length}
 use denote.Ref.{now}
 use Rattle.framebuffer.specs.declared.Frame.{Frame}
 use Rattle.framebuffer.proofs.set_pixel.Reads as set-pixel
@@ -22,7 +21,8 @@ use Rattle.picture.proofs.Ties.{Does, set-pixel-does, fill-does, draw-l
 pub data Made : Frame → Call → List ℕ → ℕ → List ℕ → Type 0 where
   by-set-pixel : (κs : _) (a : _) (r : _) (s : _) → set-pixel.Post κs a r s → Made (a .1 .0) (setPixel (a .1 .1 .0) (a .1 .1 .1 .0)) (now (a .0)) (r .number) (now (s .0))
   by-fill : (κs : _) (a : _) (r : _) (s : _) → fill.Post κs a r s → Made (a .1 .0) (fillFrame (a .1 .1 .0)) (now (a .0)) (r .number) (now (s .0))
-  by-draw-line : (κs : _) (a : _) (r : _) (s : _) → draw-line.Post κs a r s → Made (a .1 .0) (drawLine (a .1 .1 .0) (a .1 .1 .1 .0) (a .1 .1 .1 .1 .0)) (now (a .0)) (r .number) (now (s .0))
+  by-draw-line : (κs : _) (a : _) (r : _) (s : _) → draw-line.Post κs a r s
+      → Made (a .1 .0) (drawLine (a .1 .1 .0) (a .1 .1 .1 .0) (a .1 .1 .1 .1 .0)) (now (a .0)) (r .number) (now (s .0))
   by-draw-triangle : (κs : _) (a : _) (r : _) (s : _) → draw-triangle.Post κs a r s
       → Made (a .1 .0) (drawTriangle (a .1 .1 .0) (a .1 .1 .1 .0) (a .1 .1 .1 .1 .0) (a .1 .1 .1 .1 .1 .0)) (now (a .0)) (r .number) (now (s .0))
   by-draw-outline : (κs : _) (a : _) (r : _) (s : _) → draw-outline.Post κs a r s

@@ -59,7 +59,8 @@ module _ (f : Frame) (d : Drawing) (b : List ℕ) where
     where
       go : (n : ℕ) → number ≡ n → (outcome f (wholeWindow f) d b .0 .count ≡ 0) × (outcome f (wholeWindow f) d b .1 ≡ b)
       go zero z =
-          let e = accepted-count z ∙ ap (λ (m : ℕ × List ℕ). (drawn 0 (m .0), m .1)) (marked-none (raster f) (sound f (drawable z .accepted .described)) (d .colour) b (d .figure) off) in
+          let nothing = marked-none (raster f) (sound f (drawable z .accepted .described)) (d .colour) b (d .figure) off in
+          let e = accepted-count z ∙ ap (λ (m : ℕ × List ℕ). (drawn 0 (m .0), m .1)) nothing in
           (ap (λ (p : Drawn × List ℕ). p .0 .count) e, ap (λ (p : Drawn × List ℕ). p .1) e)
       go (suc n) z =
           let e = by-number (suc n) z in

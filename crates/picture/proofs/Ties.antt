@@ -71,7 +71,8 @@ module _ (f : Frame) (d : Drawing) (b : List ℕ) where
       }
 
   -- with a count
-  counts-does : (o : Call) → changeOf o ≡ draws d → {r : Drawn} {after : List ℕ} → _≡_ {A = Drawn × List ℕ} (r, after) (outcome f (wholeWindow f) d b) → Does f o b (r .number) after
+  counts-does : (o : Call) → changeOf o ≡ draws d → {r : Drawn} {after : List ℕ} → _≡_ {A = Drawn × List ℕ} (r, after) (outcome f (wholeWindow f) d b)
+      → Does f o b (r .number) after
   unfolding outcome
   counts-does o e h = draws-does o e (ap (λ (p : Drawn × List ℕ). p .0 .number) h ∙ drawn-number (first (callTests f (length b) d)) _) (ap (λ (p : Drawn × List ℕ). p .1) h)
 

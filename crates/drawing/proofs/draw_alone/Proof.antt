@@ -1,5 +1,5 @@
 -- `drawing::draw_alone` draws an edge before which there is none, so that all its points are new. Assumes nothing.
-use mathlib.Core.Path.{_≡_, _∙_}
+use mathlib.Core.Path.{_∙_}
 use borrow.Author.Needs.{needs}
 use Rattle.drawing.specs.Figure.{lineFigure}
 use Rattle.drawing.proofs.Figures.{all-new}

@@ -120,7 +120,8 @@ loop-again c =
           let g = step .step .ensures s e (h .loop .k) (omega arith) (i .0) in (
             g .1,
             (λ j.
-                i .1 j + (adds .adds .ensures ∙ (λ j. oneIf (put .put-point .ensures .0 j && not (earlierFigure (a .earlier) (step .step .result .point .0) (step .step .result .point .1))))
+                i .1 j + (adds .adds .ensures
+                ∙ (λ j. oneIf (put .put-point .ensures .0 j && not (earlierFigure (a .earlier) (step .step .result .point .0) (step .step .result .point .1))))
                 ∙ ap (λ (p : Point). oneIf (inWindow (a .brush .window) (p .0) (p .1) && not (earlierFigure (a .earlier) (p .0) (p .1)))) (g .0)) j)
                 ∙ new-more ok (earlierFigure (a .earlier)) (pointAt s e) (a .buf .now) (h .loop .k) (λ j l e′. let z = steps-apart s e (h .loop .k) j e′ in omega arith),
             put .put-point .ensures .1 ∙ ap₂ (λ (p : Point) (b : List ℕ). brushed (a .brush) (single (p .0) (p .1)) b .1) (g .0) (i .2)

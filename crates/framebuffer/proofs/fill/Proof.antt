@@ -20,7 +20,8 @@ fill-frame-requires c κs = search drawable
 mul-t10 : tie.Need-mul-t10
 mul-t10 c =
     let s = c .before .before .before .before .before .before .before .before in
-    omega (arith, whole-fits (s .args .frame) (length (s .args .buf .now)) (s .args .colour) (c .before .before .before .before .before .before .draw-refusal .ensures) (omega arith))
+    let number = c .before .before .before .before .before .before .draw-refusal .ensures in
+    omega (arith, whole-fits (s .args .frame) (length (s .args .buf .now)) (s .args .colour) number (omega arith))
 
 same-length : tie.Need-same-length
 same-length c = search needs

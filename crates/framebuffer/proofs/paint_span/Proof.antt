@@ -84,10 +84,10 @@ below c =
     let s = c .before .before .before .before in
     let a = s .args in
     let b = s .pre .within .bottom in
+    let q = a .brush .window in
     let i = inner c in
     let l =
-    in-between (natAbs (a .y)) (a .brush .window .top) (a .brush .window .bottom)
-    (ap (λ (z : ℤ). between (pos (a .brush .window .top)) (pos (a .brush .window .bottom)) z) (sym (between-pos (a .y) (a .brush .window .top) (a .brush .window .bottom) i)) ∙ i) .1
+    in-between (natAbs (a .y)) (q .top) (q .bottom) (ap (λ (z : ℤ). between (pos (q .top)) (pos (q .bottom)) z) (sym (between-pos (a .y) (q .top) (q .bottom) i)) ∙ i) .1
     in omega arith
 
 paint-columns-requires : tie.Need-paint-columns-requires

@@ -1,6 +1,6 @@
 -- `drawing::Earlier::adds` counts a point that is inside and new. Assumes nothing.
 use mathlib.Core.Path.{_≡_, sym, ap, _∙_}
-use mathlib.Core.Bool.{Bool, true, false, not, _&&_}
+use mathlib.Core.Bool.{Bool, not, _&&_}
 use borrow.Author.Tests.{not-true, not-false}
 use Rattle.layout.specs.Count.{oneIf}
 use Rattle.drawing.specs.Earlier.{earlierFigure}

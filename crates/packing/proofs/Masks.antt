@@ -2,17 +2,21 @@
 use mathlib.Core.Path.{_≡_, refl, sym, ap, ap₂, _∙_, subst}
 use mathlib.Core.Bool.{true}
 use Prim.Native.Nat.{ℕ, _+_, _-_, _*_, _/_, _%_, _^_, _≤_, _<_}
-use native.Mathlib.Nat.{le-of-lt, mod-lt, mod-eq-of-lt, div-add-mod', mul-le-mul-right}
+use native.Mathlib.Nat.{le-of-lt, mod-lt, mod-mod, mod-eq-of-lt, div-add-mod', mul-le-mul-right}
 use native.Mathlib.Omega.{arith}
 use lib.Arith.{digits-div, digits-mod}
-use lib.Bits.{bitAnd, bitOr}
-use lib.Pow.{pow-pos, pow-mono, ones-split}
+use lib.Dec.{lit<, lit≤}
+use lib.Bits.{bitAnd, bitOr, and-mask, and-shr}
+use lib.ListN.{getD}
+use lib.Pow.{pow-pos, pow-mono, ones-split, shl-shr}
 use Rattle.layout.specs.Digits.{digit, replaced, value}
 use Rattle.layout.specs.Packed.{goodDepth, field, per, slotOf}
 use Rattle.layout.proofs.Places.{Depth, depth-of, depth-cases, depth-pos, small, per-pos}
 use Rattle.layout.proofs.Fields.{shifted-lt, field-write, field-read}
+use Rattle.layout.proofs.Cells.{digit-value}
 use Rattle.layout.proofs.Bytes.{byte-full}
-use Rattle.packing.specs.Words.{pixelMask, bitsFrom, merged}
+use Rattle.packing.specs.Words.{pixelMask, masksOf, maskTable, bitsFrom, merged}
+use Rattle.packing.proofs.Parts.{digit-is}
 
 module _ (d x : ℕ) (g : goodDepth d ≡ true) (s : d < 8) where
   D : Depth d
@@ -40,14 +44,14 @@ module _ (d x : ℕ) (g : goodDepth d ≡ true) (s : d < 8) where
           let e = eight in
           omega arith
 
-  pub shift-room : x * d % 8 ≤ 8 - d
+  shift-room : x * d % 8 ≤ 8 - d
   shift-room =
       let h : (x % per d + 1) * d ≤ per d * d = mul-le-mul-right d (let l = mod-lt x (per-pos d D) in omega arith) in
       let e = eight in
       let a = above in
       omega arith
 
-  pub shift-is : 8 - d - x * d % 8 ≡ field d * slotOf d x
+  shift-is : 8 - d - x * d % 8 ≡ field d * slotOf d x
   unfolding slotOf
   shift-is =
       let l = mod-lt x (per-pos d D) in
@@ -62,6 +66,24 @@ module _ (d x : ℕ) (g : goodDepth d ≡ true) (s : d < 8) where
   slot-below : slotOf d x < per d
   unfolding slotOf
   slot-below = let p = per-pos d D in omega arith
+
+  -- ones where the position of a pixel in its byte has zeros
+  pub slot-is : x ≤ 2048 → bitAnd (4294967295 - x) (7 / 2 ^ (d / 2)) ≡ slotOf d x
+  unfolding field per slotOf
+  slot-is h =
+      depth-cases (λ d. d < 8 → bitAnd (4294967295 - x) (7 / 2 ^ (d / 2)) ≡ slotOf d x)
+      (λ s. and-mask (4294967295 - x) 3 ∙ omega arith) (λ s. and-mask (4294967295 - x) 2 ∙ omega arith) (λ s. and-mask (4294967295 - x) 1 ∙ omega arith)
+      (λ s. omega arith) (λ s. omega arith) (λ s. omega arith) (λ s. omega arith) d g s
+
+  pub slot-small : {r : ℕ} → r ≡ slotOf d x → r < 8
+  unfolding field per
+  slot-small e =
+      let h : per d ≤ 8 = depth-cases (λ d. per d ≤ 8) (lit≤ tt) (lit≤ tt) (lit≤ tt) (lit≤ tt) (lit≤ tt) (lit≤ tt) (lit≤ tt) d g in
+      let b = slot-below in
+      omega arith
+
+  pub shift-of : {r : ℕ} → r ≡ slotOf d x → d * r ≡ field d * slotOf d x
+  shift-of e = ap₂ _*_ (sym flat) e
 
   pub shift-small : {r : ℕ} → r ≡ field d * slotOf d x → r < 8
   shift-small e = let i = shift-is in let p = depth-pos d g in omega arith
@@ -80,11 +102,12 @@ module _ (d x : ℕ) (g : goodDepth d ≡ true) (s : d < 8) where
       subst (λ (k : ℕ). pixelMask d x < k) (byte-full d D) (shifted-lt (field d) (per d) (slotOf d x) (2 ^ field d - 1) slot-below (let p = pow-pos (field d) in omega arith))
 
   module _ (r : ℕ) (e : r ≡ field d * slotOf d x) where
-    pub mask-is : (((1 * 2 ^ d) % 4294967296 - 1) * 2 ^ r) % 4294967296 ≡ pixelMask d x
-    mask-is = ap₂ (λ (k j : ℕ). ((k - 1) * 2 ^ j) % 4294967296) full e ∙ mod-eq-of-lt (let h = mask-lt in omega arith)
-
-    pub mask-fits : (((1 * 2 ^ d) % 4294967296 - 1) * 2 ^ r) % 4294967296 < 256
-    mask-fits = subst (λ (k : ℕ). k < 256) (sym mask-is) mask-lt
+    -- the pixel's bits, shifted down, are its colour
+    pub seen : (v : ℕ) → v < 256 → bitAnd (v / 2 ^ r) ((1 * 2 ^ d) % 4294967296 - 1) ≡ digit (2 ^ field d) (slotOf d x) v
+    seen v hv =
+        let s = field d * slotOf d x in
+        ap₂ (λ (k j : ℕ). bitAnd (v / 2 ^ k) (j - 1)) e full ∙ ap (bitAnd (v / 2 ^ s)) (sym (shl-shr (2 ^ field d - 1) s)) ∙ sym (and-shr v (pixelMask d x) s)
+        ∙ field-read (field d) (per d) (slotOf d x) v slot-below (subst (λ (k : ℕ). v < k) (sym (byte-full d D)) hv)
 
     module _ (c : ℕ) (hc : c < 2 ^ d) where
       low : c < 2 ^ field d
@@ -106,9 +129,6 @@ module _ (d x : ℕ) (g : goodDepth d ≡ true) (s : d < 8) where
           ∙ ap (λ (k : ℕ). bitOr (bitAnd v (k - 1 - pixelMask d x)) (bitAnd (c * 2 ^ (field d * slotOf d x)) (pixelMask d x))) (sym (byte-full d D))
           ∙ field-write (field d) (per d) (slotOf d x) v slot-below (subst (λ (k : ℕ). v < k) (sym (byte-full d D)) hv) c low
 
-  pub seen : (v : ℕ) → v < 256 → bitAnd v (pixelMask d x) / 2 ^ (field d * slotOf d x) ≡ digit (2 ^ field d) (slotOf d x) v
-  seen v hv = field-read (field d) (per d) (slotOf d x) v slot-below (subst (λ (k : ℕ). v < k) (sym (byte-full d D)) hv)
-
   -- a byte of ones without those above the pixel's
   pub bits-from-is : 255 / 2 ^ (x * d % 8) ≡ bitsFrom d x
   unfolding slotOf
@@ -121,6 +141,28 @@ module _ (d x : ℕ) (g : goodDepth d ≡ true) (s : d < 8) where
       let e : 8 - t + t ≡ 8 = omega arith in
       let o : 255 ≡ (2 ^ (8 - t) - 1) * 2 ^ t + (2 ^ t - 1) = sym (ap (λ (z : ℕ). 2 ^ z - 1) e) ∙ ones-split (8 - t) t in
       ap (λ (z : ℕ). z / 2 ^ t) o ∙ digits-div (2 ^ (8 - t) - 1) (let p = pow-pos t in omega arith) ∙ sym (ap (λ (z : ℕ). 2 ^ z - 1) k)
+
+-- ---- the table of masks
+module _ (d : ℕ) (g : goodDepth d ≡ true) (s : d < 8) where
+  pub row-below : d / 2 < 3
+  row-below = depth-cases (λ d. d < 8 → d / 2 < 3) (λ s. lit< tt) (λ s. lit< tt) (λ s. lit< tt) (λ s. omega arith) (λ s. omega arith) (λ s. omega arith) (λ s. omega arith) d g s
+
+  pub masks-there : getD maskTable (d / 2) 0 ≡ masksOf d
+  masks-there =
+      depth-cases (λ d. d < 8 → getD maskTable (d / 2) 0 ≡ masksOf d) (λ s. refl) (λ s. refl) (λ s. refl) (λ s. omega arith) (λ s. omega arith) (λ s. omega arith)
+      (λ s. omega arith) d g s
+
+  module _ (x : ℕ) where
+    -- the byte of a pixel's field is its mask
+    pub mask-there : {m r : ℕ} → m ≡ masksOf d → r ≡ slotOf d x → bitAnd (m / 2 ^ (8 * r)) 255 ≡ pixelMask d x
+    unfolding slotOf
+    mask-there e f =
+        ap₂ (λ (k j : ℕ). bitAnd (k / 2 ^ (8 * j)) 255) e f ∙ digit-is (slotOf d x) (masksOf d)
+        ∙ digit-value 256 (lit< tt) (per d) (slotOf d x) (λ j. pixelMask d (per d - 1 - j)) (λ j. mask-lt d (per d - 1 - j) g s) (slot-below d x g s)
+        ∙ ap (λ (k : ℕ). (2 ^ field d - 1) * 2 ^ (field d * (per d - 1 - k))) (ap (λ (k : ℕ). k % per d) back ∙ mod-mod x (per d))
+      where
+        back : per d - 1 - (per d - 1 - x % per d) ≡ x % per d
+        back = let l = mod-lt x (per-pos d (depth-of d g)) in omega arith
 
 -- ---- a byte all of whose pixels have one colour
 abbrev times : ℕ → ℕ → ℕ → Type 0

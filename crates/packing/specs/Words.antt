@@ -1,11 +1,12 @@
 -- The numbers that the code works out on its way to the bytes: masks of pixels in a byte, and a byte changed where a mask has ones.
 use mathlib.Core.Path.{_≡_}
 use mathlib.Core.Bool.{true}
-use mathlib.Core.List.{List}
+use mathlib.Core.List.{List, [], _∷_}
 use Prim.Native.Nat.{ℕ, _+_, _-_, _*_, _^_, _≤_, _<_}
 use lib.Bits.{bitAnd, bitOr}
 use lib.ListN.{getD, set}
-use Rattle.layout.specs.Packed.{goodDepth, field, slotOf}
+use Rattle.layout.specs.Digits.{value}
+use Rattle.layout.specs.Packed.{goodDepth, field, per, slotOf}
 
 -- pixel x is a part of a byte: at depths 1, 2 and 4, in a row or at its end
 pub record Part (depth x : ℕ) : Type 0 where
@@ -19,6 +20,14 @@ pixelMask depth x = (2 ^ field depth - 1) * 2 ^ (field depth * slotOf depth x)
 
 abbrev pub bitsFrom : ℕ → ℕ → ℕ
 bitsFrom depth x = 2 ^ (field depth * (slotOf depth x + 1)) - 1
+
+-- 02, T-03, "a constant table of fourteen masks": the bits of a pixel at each position in its byte, 8 at depth 1, 4 at depth 2, 2 at depth 4. A depth's masks are the bytes of
+-- one number, the first pixel's the highest
+abbrev pub masksOf : ℕ → ℕ
+masksOf depth = value 256 (per depth) (λ j. pixelMask depth (per depth - 1 - j))
+
+abbrev pub maskTable : List ℕ
+maskTable = masksOf 1 ∷ masksOf 2 ∷ masksOf 4 ∷ []
 
 -- the byte p where the mask m has ones, and else v
 abbrev pub merged : ℕ → ℕ → ℕ → ℕ

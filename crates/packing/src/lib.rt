@@ -6,16 +6,36 @@ ghost use Prim.Native.Nat.{ℕ, _+_, _*_, _%_, _^_, _≤_, _<_, min};
 ghost use lib.ListN.{length, getD};
 ghost use Rattle.layout.specs.Digits.{digit, value, replaced, setRun};
 ghost use Rattle.layout.specs.Packed.{goodDepth, field, parts, per, turned, slotOf, fullByte};
-ghost use Rattle.packing.specs.Words.{Part, pixelMask, bitsFrom, merged, mergedAt};
+ghost use Rattle.packing.specs.Words.{Part, pixelMask, masksOf, bitsFrom, merged, mergedAt};
 
 // ---- a pixel's field of its byte, at depths 1, 2 and 4
 
-// The bits below pixel x's field. The first pixel is in the high bits.
+// Pixel x's field of its byte, the lowest being field 0. The first pixel is in the high bits.
+fn slot(depth: u32, x: u32) -> u32
+    requires { ⌜ Part depth x ⌝ }
+    ensures { λ r. ⌜ r ≡ slotOf depth x ⌝ }
+{
+    !x & (7 >> (depth / 2))
+}
+
+// The bits below pixel x's field.
 fn shift(depth: u32, x: u32) -> u32
     requires { ⌜ Part depth x ⌝ }
     ensures { λ r. ⌜ r ≡ field depth * slotOf depth x ⌝ }
 {
-    8 - depth - x * depth % 8
+    depth * slot(depth, x)
+}
+
+// The bits of a pixel at each position in its byte, fourteen masks of a byte: 8 at depth 1, 4 at depth 2, 2 at depth 4, the first pixel's the highest. A depth's are one
+// number, since an array of fourteen bytes measured slower than working out the masks (docs/BENCHMARKS.md).
+const MASKS: [u64; 3] = [0x80_40_20_10_08_04_02_01, 0xC0_30_0C_03, 0xF0_0F];
+
+// The masks of a depth.
+fn masks_of(depth: u32) -> u64
+    requires { ⌜ (goodDepth depth ≡ true) × (depth < 8) ⌝ }
+    ensures { λ r. ⌜ r ≡ masksOf depth ⌝ }
+{
+    MASKS[(depth / 2) as usize]
 }
 
 // Pixel x's bits.
@@ -23,7 +43,7 @@ fn mask(depth: u32, x: u32) -> u8
     requires { ⌜ Part depth x ⌝ }
     ensures { λ r. ⌜ r ≡ pixelMask depth x ⌝ }
 {
-    (((1u32 << depth) - 1) << shift(depth, x)) as u8
+    (masks_of(depth) >> (8 * slot(depth, x)) & 255) as u8
 }
 
 // Inside the library: the bits of pixel x and of those after it in its byte.
@@ -54,7 +74,7 @@ pub fn field_of(v: u8, depth: u32, x: u32) -> u32
     requires { ⌜ Part depth x ⌝ }
     ensures { λ r. ⌜ r ≡ digit (2 ^ field depth) (slotOf depth x) v ⌝ }
 {
-    ((v & mask(depth, x)) as u32) >> shift(depth, x)
+    ((v as u32) >> shift(depth, x)) & ((1u32 << depth) - 1)
 }
 
 // Inside the library: a byte all of whose pixels have the colour, at depths up to 8.

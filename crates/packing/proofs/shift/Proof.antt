@@ -1,22 +1,20 @@
--- `packing::shift` is the bits of a byte without those of the pixel and those above it. Assumes nothing.
-use native.Mathlib.Nat.{mul-le-mul, le-of-lt}
+-- `packing::shift` is the bits of the fields below the pixel's. Assumes nothing.
 use native.Mathlib.Omega.{arith}
 use borrow.Author.Needs.{needs}
-use Rattle.packing.proofs.Masks.{shift-room, shift-is}
+use Rattle.packing.proofs.Masks.{shift-of, shift-small}
 use Rattle.packing.proofs.shift.Statement.{statement}
 use Rattle.packing.proofs.shift.Tie as tie
 
-sub-result : tie.Need-sub-result
-sub-result c = search needs
-
-mul-result : tie.Need-mul-result
-mul-result c = record { fits = omega (arith, mul-le-mul (c .pre .near) (le-of-lt (c .pre .small))) }
-
-sub-result-2 : tie.Need-sub-result-2
-sub-result-2 c = shift-room (c .args .depth) (c .args .x) (c .pre .good) (c .pre .small)
+slot-requires : tie.Need-slot-requires
+slot-requires c κs = search needs
 
 returns : tie.Need-returns
-returns c = shift-is (c .args .depth) (c .args .x) (c .pre .good) (c .pre .small)
+returns c = let s = c .before in shift-of (s .args .depth) (s .args .x) (s .pre .good) (s .pre .small) (c .slot .ensures)
+
+mul-result : tie.Need-mul-result
+mul-result c =
+    let s = c .before in
+    record { fits = omega (arith, shift-small (s .args .depth) (s .args .x) (s .pre .good) (s .pre .small) (returns c)) }
 
 pub shift-spec : {M : Type 1} → statement M
-shift-spec = tie.close (tie.spec sub-result mul-result sub-result-2 returns)
+shift-spec = tie.close (tie.spec slot-requires mul-result returns)

@@ -4,6 +4,8 @@ pub mod Walk
 pub mod Points
 pub mod Closed
 pub mod Apart
+pub mod Slope
+pub mod Straight
 pub mod Refusals
 pub mod Answer
 pub mod Determined

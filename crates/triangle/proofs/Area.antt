@@ -21,6 +21,11 @@ unfolding areaDoubled
 area-near p a b =
     ring (area 0 2 4) (((v 4 ⊟ v 2) ⊠ (v 1 ⊟ v 3)) ⊟ ((v 5 ⊟ v 3) ⊠ (v 0 ⊟ v 2))) (p .0 ∷ p .1 ∷ a .0 ∷ a .1 ∷ b .0 ∷ b .1 ∷ []) refl
 
+-- by the way from a to b and on to c
+pub area-legs : (a b c : Point) → areaDoubled a b c ≡ ((b .0 -ℤ a .0) *ℤ (c .1 -ℤ b .1)) -ℤ ((c .0 -ℤ b .0) *ℤ (b .1 -ℤ a .1))
+unfolding areaDoubled
+area-legs a b c = ring (area 0 2 4) (((v 2 ⊟ v 0) ⊠ (v 5 ⊟ v 3)) ⊟ ((v 4 ⊟ v 2) ⊠ (v 3 ⊟ v 1))) (a .0 ∷ a .1 ∷ b .0 ∷ b .1 ∷ c .0 ∷ c .1 ∷ []) refl
+
 -- ---- the vertices in another order
 pub area-swap : (a b c : Point) → areaDoubled b a c ≡ negℤ (areaDoubled a b c)
 unfolding areaDoubled

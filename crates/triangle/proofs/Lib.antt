@@ -8,6 +8,7 @@ pub mod Enclosed
 pub mod Agree
 pub mod Spans
 pub mod Triangle
+pub mod Flat
 pub mod AnyOrder
 pub mod Moved
 pub mod Box

@@ -2,4 +2,5 @@ pub mod Figures
 pub mod Rows
 pub mod Fill
 pub mod Circles
+pub mod Edge
 pub mod Determined

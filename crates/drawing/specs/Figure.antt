@@ -1,8 +1,9 @@
 -- The figures of the drawing calls: whether each contains a place, by its column and its row.
-use mathlib.Core.Bool.{Bool, _||_}
+use mathlib.Core.Bool.{Bool, cond, _||_}
 use Prim.Native.Nat.{ℕ}
 use lib.IntN.{ℤ}
 use Rattle.geometry.specs.declared.Point.{Point}
+use Rattle.geometry.specs.Place.{before}
 use Rattle.line.specs.Line.{hasPoint}
 use Rattle.triangle.specs.Triangle as triangle
 use Rattle.circle.specs.Circle as circle
@@ -10,6 +11,10 @@ use Rattle.circle.specs.Circle as circle
 -- 01, "Lines": the points of the line from s to e
 abbrev pub lineFigure : Point → Point → ℤ → ℤ → Bool
 lineFigure s e x y = hasPoint s e (x, y)
+
+-- 02, T-04: an edge is the line from its smaller end, by y then x, to its larger one, whichever is named first
+unfoldable pub edgeFigure : Point → Point → ℤ → ℤ → Bool
+edgeFigure a b x y = cond (before a b) (lineFigure a b x y) (lineFigure b a x y)
 
 -- 01, "Outline: the points of the lines v1 to v2, v2 to v3, v3 to v1, walked in the order in which the vertices were given"
 abbrev pub outlineFigure : Point → Point → Point → ℤ → ℤ → Bool

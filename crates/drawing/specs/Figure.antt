@@ -5,6 +5,8 @@ use lib.IntN.{ℤ}
 use Rattle.geometry.specs.declared.Point.{Point}
 use Rattle.geometry.specs.Place.{before}
 use Rattle.line.specs.Line.{hasPoint}
+use Rattle.triangle.specs.declared.Sorted.{Sorted}
+use Rattle.triangle.specs.Order.{sorted}
 use Rattle.triangle.specs.Triangle as triangle
 use Rattle.circle.specs.Circle as circle
 
@@ -16,9 +18,13 @@ lineFigure s e x y = hasPoint s e (x, y)
 unfoldable pub edgeFigure : Point → Point → ℤ → ℤ → Bool
 edgeFigure a b x y = cond (before a b) (lineFigure a b x y) (lineFigure b a x y)
 
--- 01, "Outline: the points of the lines v1 to v2, v2 to v3, v3 to v1, walked in the order in which the vertices were given"
-abbrev pub outlineFigure : Point → Point → Point → ℤ → ℤ → Bool
-outlineFigure v1 v2 v3 x y = (lineFigure v1 v2 x y || lineFigure v2 v3 x y) || lineFigure v3 v1 x y
+-- the three edges of sorted vertices
+abbrev pub sortedFigure : Sorted → ℤ → ℤ → Bool
+sortedFigure t x y = (lineFigure (t .p1) (t .p2) x y || lineFigure (t .p2) (t .p3) x y) || lineFigure (t .p1) (t .p3) x y
+
+-- 02, T-04, amends 01's "Outline": "an outline now walks the three sorted edges that the fill uses, also at zero area"
+unfoldable pub outlineFigure : Point → Point → Point → ℤ → ℤ → Bool
+outlineFigure v1 v2 v3 = sortedFigure (sorted v1 v2 v3)
 
 -- 01, "Triangles": containment, not the rows that drawing visits
 abbrev pub triangleFigure : Point → Point → Point → ℤ → ℤ → Bool

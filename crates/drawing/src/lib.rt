@@ -133,29 +133,34 @@ fn triangle_number(frame: Frame, len: usize, v1: Point, v2: Point, v3: Point, co
     triangle::refusal(v1, v2, v3)
 }
 
-// The three edges of an accepted outline, as far as the rectangle holds them; a pixel of two of them counts once.
+// The three sorted edges of an accepted outline, as far as the rectangle holds them; a pixel of two of them counts once.
 fn draw_edges(buf: &mut [u8], brush: Brush, v1: Point, v2: Point, v3: Point) -> u32
     requires { ⌜ Ready brush (length (now buf)) × (Bounded v1 × Bounded v2 × Bounded v3) ⌝ }
     ensures { λ r. ⌜ (r, now (buf .exit)) ≡ brushed brush (outlineFigure v1 v2 v3) (now (buf .entry)) ⌝ }
 {
+    let t = triangle::sorted_yx(v1, v2, v3);
+    let p1 = t.p1;
+    let p2 = t.p2;
+    let p3 = t.p3;
     let first = Earlier {
         edges: 1,
-        a: v1,
-        b: v2,
-        c: v3,
+        a: p1,
+        b: p2,
+        c: p3,
     };
     let both = Earlier {
         edges: 2,
-        a: v1,
-        b: v2,
-        c: v3,
+        a: p1,
+        b: p2,
+        c: p3,
     };
-    let of_first = draw_alone(buf, brush, v1, v2);
-    let of_second = draw_edge(buf, brush, first, v2, v3);
-    of_first + of_second + draw_edge(buf, brush, both, v3, v1)
+    let of_first = draw_alone(buf, brush, p1, p2);
+    let of_second = draw_edge(buf, brush, first, p2, p3);
+    of_first + of_second + draw_edge(buf, brush, both, p1, p3)
 }
 
-// Draws the outline of a triangle: its edges from each vertex to the next, in the order in which they are given.
+// Draws the outline of a triangle: the edges that its fill uses, so that any order of the vertices draws the same, and no pixel but those that the filled
+// triangle contains.
 pub fn draw_outline(
     buf: &mut [u8],
     frame: Frame,

@@ -3,4 +3,5 @@ pub mod Rows
 pub mod Fill
 pub mod Circles
 pub mod Edge
+pub mod Outline
 pub mod Determined

@@ -1,26 +1,38 @@
--- What is proved of an outline (02, T-04): any order of the vertices gives the same, it is contained in the filled triangle, and at zero
--- area it is the line p1 to p3. The figures are over ℤ, so for vertices out of bounds too. Assumes nothing.
+-- What is proved of an outline (02, T-04): any order of the vertices gives the same, it is contained in the filled triangle and changes no byte of one, and at
+-- zero area it is the line p1 to p3. The figures are over ℤ, so for vertices out of bounds too. Assumes nothing.
 use mathlib.Core.Path.{_≡_, refl, sym, ap, _∙_}
-use mathlib.Core.Bool.{Bool, true, false, _||_, or-assoc, or-comm}
-use mathlib.Core.List.{List}
-use Prim.Native.Nat.{ℕ}
+use mathlib.Core.Bool.{Bool, true, false, _&&_, _||_, or-assoc, or-comm}
+use mathlib.Core.List.{List, _++_}
+use Prim.Native.Nat.{ℕ, zero, suc}
+use native.Mathlib.Omega.{arith}
 use lib.IntN.{ℤ, pos}
+use lib.ListN.{length}
+use Rattle.refusals.specs.First.{Tests, first}
 use Rattle.geometry.specs.declared.Point.{Point}
 use Rattle.geometry.specs.Place.{before}
 use Rattle.geometry.proofs.Place.{before-trans}
 use Rattle.line.specs.Line.{wide, high, major, minor, moves, xMoves, yMoves, pointAt, hasPoint}
+use Rattle.triangle.specs.Answer.{vertexTests}
 use Rattle.triangle.specs.Order.{sorted}
 use Rattle.triangle.specs.Triangle.{areaDoubled, noneBelow, noneAbove, isFlat, isInside, onEdge, contained}
 use Rattle.triangle.proofs.AnyOrder.{Same}
 use Rattle.triangle.proofs.Order.{sorted-ordered, sorted-same}
 use Rattle.triangle.proofs.Triangle.{p1, p2, p3, flat}
 use Rattle.triangle.proofs.Flat.{flat-edges, edge-contained}
+use Rattle.layout.specs.Layout.{painted}
+use Rattle.layout.proofs.Painted.{painted-length, painted-painted, painted-cong}
+use Rattle.framebuffer.specs.declared.Drawn.{Drawn}
 use Rattle.framebuffer.specs.declared.Frame.{Frame}
 use Rattle.framebuffer.specs.declared.Window.{Window}
-use Rattle.framebuffer.specs.Drawing.{outcome}
-use Rattle.drawing.specs.Drawing.{outlineDrawing}
+use Rattle.framebuffer.specs.Description.{raster, drawTests}
+use Rattle.framebuffer.specs.Drawing.{Drawing, outcome}
+use Rattle.framebuffer.specs.Judged.{wholeBrush}
+use Rattle.framebuffer.specs.Window.{inWindow, heldBy}
+use Rattle.framebuffer.proofs.Calls.{ready-own, refused-outcome, accepted-outcome}
+use Rattle.drawing.specs.Drawing.{triangleDrawing, outlineDrawing}
 use Rattle.drawing.specs.Figure.{lineFigure, edgeFigure, sortedFigure, outlineFigure, triangleFigure}
 use Rattle.drawing.proofs.Edge.{edge-line, edge-swap}
+use Rattle.drawing.proofs.Figures.{within-both, brush-sound}
 
 -- ---- THE OUTLINE IS THREE EDGES, between the vertices as they are given
 abbrev threeEdges : Point → Point → Point → ℤ → ℤ → Bool
@@ -83,6 +95,40 @@ module _ (v1 v2 v3 : Point) where
       by true t h = refl
       by false true h = sym (h refl)
       by false false h = refl
+
+-- ---- a call after one whose figure contains its own, in the same colour and with the same tests: it changes no byte, accepted or refused
+module _ (f : Frame) (q : Window) (colour : ℕ) (own : Tests) (b : List ℕ) where
+  abbrev drawing : (ℤ → ℤ → Bool) → Drawing
+  drawing s = record { figure = s; colour = colour; own = own }
+
+  over-drawn : (s t : ℤ → ℤ → Bool) → ((x y : ℤ) → s x y || t x y ≡ s x y)
+      → outcome f q (drawing t) (outcome f q (drawing s) b .1) .1 ≡ outcome f q (drawing s) b .1
+  over-drawn s t part = by (first (drawTests f (length b) colour ++ own)) refl
+    where
+      left : (ℤ → ℤ → Bool) → List ℕ → List ℕ
+      left u c = outcome f q (drawing u) c .1
+
+      by : (n : ℕ) → n ≡ first (drawTests f (length b) colour ++ own) → left t (left s b) ≡ left s b
+      by zero e =
+          let P = brush-sound (ready-own f (length b) colour own {q = wholeBrush f colour} refl e refl) in
+          let under : left s b ≡ painted (raster f) (heldBy q s) colour b = sym (ap (λ (o : Drawn × List ℕ). o .1) (accepted-outcome f q (drawing s) b e refl refl)) in
+          let len : length (left s b) ≡ length b = ap length under ∙ painted-length (raster f) P (heldBy q s) colour b in
+          let again : 0 ≡ first (drawTests f (length (left s b)) colour ++ own) = e ∙ sym (ap (λ (n : ℕ). first (drawTests f n colour ++ own)) len) in
+          sym (ap (λ (o : Drawn × List ℕ). o .1) (accepted-outcome f q (drawing t) (left s b) again refl refl))
+          ∙ ap (painted (raster f) (heldBy q t) colour) under
+          ∙ painted-painted (raster f) P colour b (heldBy q t) (heldBy q s)
+          ∙ painted-cong (raster f) P colour b _ _ (λ x y w h.
+          within-both (inWindow q (pos x) (pos y)) (s (pos x) (pos y)) (t (pos x) (pos y)) ∙ ap (λ (r : Bool). inWindow q (pos x) (pos y) && r) (part (pos x) (pos y)))
+          ∙ sym under
+      by (suc n) e =
+          let kept : (u : ℤ → ℤ → Bool) → left u b ≡ b = λ u. sym (ap (λ (o : Drawn × List ℕ). o .1) (refused-outcome f q (drawing u) b e (λ z. omega arith))) in
+          ap (left t) (kept s) ∙ kept t ∙ sym (kept s)
+
+-- OVER THE FILL in its colour, the outline changes no byte
+pub outline-over-fill : (f : Frame) (q : Window) (v1 v2 v3 : Point) (colour : ℕ) (b : List ℕ)
+    → outcome f q (outlineDrawing v1 v2 v3 colour) (outcome f q (triangleDrawing v1 v2 v3 colour) b .1) .1 ≡ outcome f q (triangleDrawing v1 v2 v3 colour) b .1
+outline-over-fill f q v1 v2 v3 colour b =
+    over-drawn f q colour (vertexTests v1 v2 v3) b (triangleFigure v1 v2 v3) (outlineFigure v1 v2 v3) (fill-or-outline v1 v2 v3)
 
 -- ---- WORKED: of (2,1) (0,0) (2,0), 01's outline had (1,1), which the triangle does not contain; the outline has it no more
 abbrev pub asGiven : Point → Point → Point → ℤ → ℤ → Bool

@@ -223,7 +223,7 @@ def corners_twice(outline):
     def replacement(self, *given):
         *vertices, _ = given
         number, _ = outline(self, *given)
-        edges = Outline(*vertices).lines if number == 0 else []
+        edges = Outline(*vertices).edges if number == 0 else []
         return [number, sum(len(self.now.pixels(edge.contains)) for edge in edges)]
 
     return replacement

@@ -1,5 +1,5 @@
 """The known answers 1 to 14 of 01 (docs/RULES.md), the listing of `spans`, errors that look right, and what was worked out by hand from 02's words: image
-files, counts of pixels."""
+files, counts of pixels, outlines over their fills."""
 
 # Under each number the lines that ask for it and, behind ->, the answers.
 KNOWN = """
@@ -140,7 +140,7 @@ counted frame 8 4 1 0 4 -> 0 4
     outline 0 0 3 0 0 3 1 -> 0 9
     outline 5 0 8 0 5 3 1 -> 0 8
     outline 0 0 4 0 2 0 1 -> 0 5
-    outline 0 0 2 1 0 0 1 -> 0 4
+    outline 0 0 2 1 0 0 1 -> 0 3
     outline 1 1 1 1 1 1 1 -> 0 1
     outline 9 1 9 1 9 1 1 -> 0 0
     circle 0 0 4 1 -> 0 12
@@ -171,6 +171,36 @@ lights frame 10 3 1 0 8 -> 0 6
     lit -> 2 0
     frame 2049 1 3 0 0 -> 1 0
     lit -> 1 0
+designer online 2 1 0 0 1 1 -> 0 1
+    inside 2 1 0 0 2 0 1 1 -> 0 0
+    frame 3 2 1 0 2 -> 0 2
+    outline 2 1 0 0 2 0 1 -> 0 4
+    read 1 1 -> 0 0
+    dump 0 2 -> e020
+    outline 0 0 2 0 2 1 1 -> 0 4
+    outline 2 0 2 1 0 0 1 -> 0 4
+    dump 0 2 -> e020
+    triangle 2 1 0 0 2 0 1 -> 0 4
+    dump 0 2 -> e020
+outlined frame 8 4 1 0 4 -> 0 4
+    outline 6 0 0 0 0 3 1 -> 0 14
+    dump 0 4 -> fe98e080
+    outline 0 3 6 0 0 0 1 -> 0 14
+    dump 0 4 -> fe98e080
+    triangle 0 3 6 0 0 0 1 -> 0 16
+    dump 0 4 -> fef8e080
+    outline 0 0 0 3 6 0 0 -> 0 14
+    dump 0 4 -> 00600000
+flat frame 8 4 1 0 4 -> 0 4
+    outline 0 0 4 2 2 1 1 -> 0 5
+    dump 0 4 -> c0300800
+    outline 2 1 4 2 0 0 1 -> 0 5
+    dump 0 4 -> c0300800
+    triangle 4 2 2 1 0 0 1 -> 0 5
+    dump 0 4 -> c0300800
+    fill 0 -> 0 32
+    outline 5 1 4 3 6 -1 1 -> 0 4
+    dump 0 4 -> 02040408
 """
 
 

@@ -1,4 +1,4 @@
-"""01 (docs/RULES.md), "Triangles"."""
+"""01 and 02 (docs/RULES.md), "Triangles": what one contains, and its outline."""
 
 from .lines import Line
 
@@ -8,13 +8,20 @@ def doubled_area(a, b, c):
     return (b[0] - a[0]) * (c[1] - a[1]) - (b[1] - a[1]) * (c[0] - a[0])
 
 
+def sorted_yx(vertices):
+    return sorted(vertices, key=lambda p: (p[1], p[0]))
+
+
+def sorted_edges(p1, p2, p3):
+    return [Line(*start, *end) for start, end in [(p1, p2), (p1, p3), (p2, p3)]]
+
+
 class Triangle:
     def __init__(self, x1, y1, x2, y2, x3, y3):
         self.given = (x1, y1), (x2, y2), (x3, y3)
-        p1, p2, p3 = sorted(self.given, key=lambda p: (p[1], p[0]))
+        p1, p2, p3 = sorted_yx(self.given)
         self.area = doubled_area(*self.given)
-        sides = [(p1, p2), (p1, p3), (p2, p3)] if self.area != 0 else [(p1, p3)]
-        self.edges = [Line(*start, *end) for start, end in sides]
+        self.edges = sorted_edges(p1, p2, p3) if self.area != 0 else [Line(*p1, *p3)]
         self.top, self.bottom = p1[1], p3[1]
 
     def contains(self, x, y):
@@ -35,8 +42,10 @@ class Triangle:
 
 
 class Outline:
+    """02, T-04: the points of the three sorted edges, also at zero area."""
+
     def __init__(self, x1, y1, x2, y2, x3, y3):
-        self.lines = Line(x1, y1, x2, y2), Line(x2, y2, x3, y3), Line(x3, y3, x1, y1)
+        self.edges = sorted_edges(*sorted_yx([(x1, y1), (x2, y2), (x3, y3)]))
 
     def contains(self, x, y):
-        return any(line.contains(x, y) for line in self.lines)
+        return any(edge.contains(x, y) for edge in self.edges)

@@ -1,6 +1,7 @@
 //! The two differences in `Triangle::contains` that 01 (docs/RULES.md) names among the errors that look right, as rules:
 //! for which triangle and pixel each holds, what the Rust says there and what 01 says.
 
+use crate::figures::sorted_edges;
 use embedded_graphics::{
     geometry::{Dimensions, Point},
     primitives::{ContainsPoint, Line, PointsIter, Triangle},
@@ -50,10 +51,10 @@ impl Difference {
     /// What 01 says there. At zero area the points of the line p1 to p3 are contained. With s = 0, t above 0 and a negative
     /// area the three doubled areas have both signs, so the points of the three sorted edges are.
     pub fn by_01(self, triangle: &Triangle, p: Point) -> bool {
-        let [p1, p2, p3] = triangle.sorted_vertices();
+        let edges @ [_, p1_to_p3, _] = sorted_edges(triangle);
         match self {
-            Difference::ZeroArea => on_line(p1, p3, p),
-            Difference::SignTest => on_line(p1, p2, p) || on_line(p1, p3, p) || on_line(p2, p3, p),
+            Difference::ZeroArea => on_line(p1_to_p3, p),
+            Difference::SignTest => edges.into_iter().any(|edge| on_line(edge, p)),
         }
     }
 }
@@ -64,7 +65,7 @@ fn doubled_area(a: Point, b: Point, c: Point) -> i64 {
     across(a.x, b.x) * across(a.y, c.y) - across(a.y, b.y) * across(a.x, c.x)
 }
 
-/// Whether a pixel is one of the points that the Rust walks from `start` to `end`.
-pub fn on_line(start: Point, end: Point, p: Point) -> bool {
-    Line::new(start, end).points().any(|point| point == p)
+/// Whether a pixel is one of the points that the Rust walks from the line's start to its end.
+pub fn on_line(line: Line, p: Point) -> bool {
+    line.points().any(|point| point == p)
 }

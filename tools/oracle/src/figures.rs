@@ -48,10 +48,7 @@ impl Figures {
                 None => "7\t0\t0".into(),
             },
             // The crate has no such question: its points are looked through.
-            ("online", [line @ .., x, y]) => {
-                let Line { start, end } = self.line(line)?;
-                yes_or_no(on_line(start, end, self.point(*x, *y)?))
-            }
+            ("online", [line @ .., x, y]) => yes_or_no(on_line(self.line(line)?, self.point(*x, *y)?)),
             _ => return None,
         })
     }
@@ -135,6 +132,12 @@ impl Figures {
         }
         i32::try_from(c).ok()
     }
+}
+
+/// The edges p1 to p2, p1 to p3 and p2 to p3 of the vertices sorted by y, then x.
+pub fn sorted_edges(triangle: &Triangle) -> [Line; 3] {
+    let [p1, p2, p3] = triangle.sorted_vertices();
+    [Line::new(p1, p2), Line::new(p1, p3), Line::new(p2, p3)]
 }
 
 fn yes_or_no(yes: bool) -> String {

@@ -1,12 +1,15 @@
 //! How frames and drawing calls are put to the Rust, whose frame sizes are fixed when it is compiled.
 
-use crate::{figures::Figures, question::Question};
+use crate::{
+    figures::{sorted_edges, Figures},
+    question::Question,
+};
 use embedded_graphics::{
     framebuffer::{buffer_size_bpp, Framebuffer},
     geometry::{Dimensions, Point},
     image::GetPixel,
     pixelcolor::raw::{BigEndian, LittleEndian, RawData, RawU1, RawU16, RawU2, RawU24, RawU32, RawU4, RawU8},
-    primitives::{Line, PointsIter, Triangle},
+    primitives::{PointsIter, Triangle},
 };
 use std::{fmt::Write, ops::Range};
 
@@ -206,13 +209,13 @@ fn lit(frame: &dyn Frame, (width, height): (i32, i32)) -> usize {
 type Points = Box<dyn Iterator<Item = Point>>;
 
 /// The points of a figure in the order in which the Rust gives them. The crate draws styled figures, whose text is not given:
-/// a line is drawn by its points, an outline by the points of its three lines, a filled triangle and a circle by their spans,
-/// which are also what the points of a circle are made of.
+/// a line is drawn by its points, an outline by those of its three edges, each walked from its smaller end as the Rust's own
+/// rows have it, a filled triangle and a circle by their spans, which are also what the points of a circle are made of.
 fn points(word: &str, figure: &[i64], figures: &Figures, size: (i32, i32)) -> Option<Points> {
     Some(match (word, figure) {
         ("pixel", &[x, y]) => Box::new([pixel(x, y)?].into_iter()),
         ("line", line) => Box::new(figures.line(line)?.points()),
-        ("outline", triangle) => Box::new(outline(figures.triangle(triangle)?)),
+        ("outline", triangle) => Box::new(sorted_edges(&figures.triangle(triangle)?).into_iter().flat_map(|edge| edge.points())),
         ("triangle", triangle) => Box::new(near(triangle_spans(figures.triangle(triangle)?, size.1), size)),
         ("circle", circle) => {
             let spans: Vec<_> = figures.circle(circle)?.row_spans().take_while(|(y, _)| *y < size.1 + BESIDE).collect();
@@ -220,12 +223,6 @@ fn points(word: &str, figure: &[i64], figures: &Figures, size: (i32, i32)) -> Op
         }
         _ => return None,
     })
-}
-
-fn outline(triangle: Triangle) -> impl Iterator<Item = Point> {
-    let [v1, v2, v3] = triangle.vertices;
-    let edges = [Line::new(v1, v2), Line::new(v2, v3), Line::new(v3, v1)];
-    edges.into_iter().flat_map(|edge| edge.points())
 }
 
 /// The spans of the rows that the frame has, and of some beside it.

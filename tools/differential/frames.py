@@ -44,8 +44,8 @@ def one_by_one(random, width, height, depth, order):
 
 
 def every_figure(random):
-    """Every line, triangle and outline with its corners on a small frame and beside it, those that are flat or a dot too, and every circle about the frame, each
-    depth and order in turn: how many pixels of the frame each has."""
+    """Every line, triangle and outline with its corners on a small frame and beside it, those that are flat or a dot too, and every circle about the frame,
+    each depth and order in turn: how many pixels of the frame each has. An outline is drawn over its fill, and the bytes are shown."""
     lines = [[("line", *start, *end) for end in AROUND] for start in AROUND]
     triples = [[(*v1, *v2, *v3) for v3 in AROUND] for v1, v2 in product(AROUND, repeat=2)]
     triangles, outlines = ([[(word, *vertices) for vertices in some] for some in triples] for word in ("triangle", "outline"))
@@ -62,7 +62,15 @@ def about(diameter):
 
 def on_one_frame(random, depth, order, figures):
     frame = asked("frame", *COUNTED, depth, order, size_of(*COUNTED, depth))
-    return [frame, *(asked(*figure, random.randrange(2**depth)) for figure in figures)]
+    return [frame, *(line for figure in figures for line in lines_of(figure, depth, random.randrange(2**depth)))]
+
+
+def lines_of(figure, depth, colour):
+    word, *numbers = figure
+    if word != "outline":
+        return [asked(*figure, colour)]
+    # No bit of the fill's colour is the outline's, so that every pixel of the outline shows.
+    return [asked("triangle", *numbers, 2**depth - 1 - colour), asked(*figure, colour), *dumps(size_of(*COUNTED, depth))]
 
 
 def corners(random, sizes, low, high):

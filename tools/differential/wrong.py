@@ -1,5 +1,5 @@
-"""Models that are wrong in one way each: the errors that look right of 01 (docs/RULES.md) and others of their kind, in image files and counts too, which a run
-must find."""
+"""Models that are wrong in one way each: the errors that look right of 01 (docs/RULES.md) and others of their kind, in image files, counts and outlines too,
+which a run must find."""
 
 from contextlib import contextmanager
 from dataclasses import replace
@@ -76,6 +76,12 @@ def models():
         WrongModel("any depth has lit pixels", numbers, "lights", lambda frame: {}, "lit pixels"),
         WrongModel("10 before 3", Replay, "lit", format_first, "lit pixels"),
         WrongModel("no frame without pixels taken", numbers, "lights", numbers.image, "lit pixels"),
+        WrongModel("an outline in the order of its vertices", Outline, "__init__", in_given_order, "every figure on a small frame"),
+        WrongModel("an outline's p1 to p2 walked from p2", Outline, "__init__", with_edge_turned(Outline.__init__, 0), "every figure on a small frame"),
+        WrongModel("an outline's p1 to p3 walked from p3", Outline, "__init__", with_edge_turned(Outline.__init__, 1), "every figure on a small frame"),
+        WrongModel("an outline's p2 to p3 walked from p3", Outline, "__init__", with_edge_turned(Outline.__init__, 2), "every figure on a small frame"),
+        WrongModel("an outline without p2 to p3", Outline, "__init__", without_last_edge(Outline.__init__), "every figure on a small frame"),
+        WrongModel("p1 to p2 for p1 to p3 in a flat outline", Outline, "__init__", flat_to_p2(Outline.__init__), "every figure on a small frame"),
     ]
 
 
@@ -94,9 +100,13 @@ def moved_on_ties(self, k):
 def with_edges_turned(init):
     def replacement(self, *vertices):
         init(self, *vertices)
-        self.edges = [Line(*edge.point(edge.major), edge.x, edge.y) for edge in self.edges]
+        self.edges = [from_its_end(edge) for edge in self.edges]
 
     return replacement
+
+
+def from_its_end(line):
+    return Line(*line.point(line.major), line.x, line.y)
 
 
 def never_flat(contains):
@@ -274,3 +284,37 @@ def tail_lit(lit):
 def format_first(self):
     number = numbers.first(numbers.description(self.now), numbers.lights(self.now), numbers.buffer(self.now, self.lent_bytes))
     return [number, self.now.lit(self.buffer) if number == 0 else 0]
+
+
+def in_given_order(self, x1, y1, x2, y2, x3, y3):
+    """01's outline, before T-04."""
+    self.edges = Line(x1, y1, x2, y2), Line(x2, y2, x3, y3), Line(x3, y3, x1, y1)
+
+
+def with_edge_turned(init, place):
+    def replacement(self, *vertices):
+        init(self, *vertices)
+        self.edges[place] = from_its_end(self.edges[place])
+
+    return replacement
+
+
+def without_last_edge(init):
+    """The others of a flat outline have all of its pixels, so that only triangles with an area show it."""
+
+    def replacement(self, *vertices):
+        init(self, *vertices)
+        self.edges.pop()
+
+    return replacement
+
+
+def flat_to_p2(init):
+    """Walks one edge at zero area, as a fill does, and the wrong one."""
+
+    def replacement(self, *vertices):
+        init(self, *vertices)
+        if Triangle(*vertices).area == 0:
+            self.edges = self.edges[:1]
+
+    return replacement

@@ -25,9 +25,9 @@
 #include <stdint.h>
 
 /* The version of this header and of the library, as in CHANGELOG.md. */
-#define BEAMACORN_VERSION "0.2.0"
+#define BEAMACORN_VERSION "0.3.0"
 #define BEAMACORN_VERSION_MAJOR 0
-#define BEAMACORN_VERSION_MINOR 2
+#define BEAMACORN_VERSION_MINOR 3
 #define BEAMACORN_VERSION_PATCH 0
 
 #if defined BEAMACORN_STRICT && defined __GNUC__ && !defined __cplusplus
@@ -153,8 +153,8 @@ beamacorn_verdict beamacorn_line_has_point(int32_t x1, int32_t y1, int32_t x2, i
 
 /*
  * Whether the triangle of the vertices (x1, y1), (x2, y2), (x3, y3), which may come in any order, lie on one line or coincide, contains
- * the pixel (x, y). A point of an edge is contained, the edge walked from its upper end, or from the left one where it is level; an outline
- * walks its edges in the order given, and may have others. Its cost does not grow with the triangle.
+ * the pixel (x, y). A point of an edge is contained, the edge walked from its upper end, or from the left one where it is level: so every pixel
+ * of the triangle's outline is. Its cost does not grow with the triangle.
  * Refused with 5.
  *
  *     beamacorn_verdict inside = beamacorn_triangle_contains(0, 0, 86400, 0, 0, 40000, second, load);
@@ -313,8 +313,9 @@ beamacorn_drawn beamacorn_draw_triangle(uint8_t *buf, size_t len, uint32_t width
                                         int32_t x1, int32_t y1, int32_t x2, int32_t y2, int32_t x3, int32_t y3, uint32_t colour);
 
 /*
- * Draws the triangle's outline: the lines from the first vertex to the second, on to the third, and back to the first. Says how many pixels
- * of the frame they have; one that two of them have counts once.
+ * Draws the triangle's outline: its three edges, each from its upper end, or from the left one where it is level. So it is the same for any
+ * order of the vertices, and beamacorn_triangle_contains says yes to each pixel of it. Says how many pixels of the frame the edges have; one
+ * that two of them have counts once.
  * Refused with 1 to 5.
  *
  *     beamacorn_drawn call = beamacorn_draw_outline(buf, len, 320, 200, 1, 0, 0, 0, 9, 0, 0, 9, 1);

@@ -169,6 +169,16 @@ static void drawing(void)
     CHECK(is_drawn(beamacorn_draw_outline(buf, 9, 10, 4, 1, 0, 0, 0, 3, 0, 0, 3, 1), 0, 9));
     CHECK(buf[0] == 0xf0 && buf[2] == 0xa0 && buf[4] == 0xc0 && buf[6] == 0x80);
 
+    /* An outline stays on its fill, whatever the order of its vertices: (1, 1) is a point of the line from (2, 1) to (0, 0), and of neither. */
+    memset(buf, 0, sizeof buf);
+    CHECK(is_drawn(beamacorn_draw_outline(buf, 9, 10, 4, 1, 0, 2, 1, 0, 0, 2, 0, 1), 0, 4));
+    CHECK(buf[0] == 0xe0 && buf[2] == 0x20 && buf[4] == 0);
+    CHECK(is_drawn(beamacorn_draw_outline(buf, 9, 10, 4, 1, 0, 0, 0, 2, 0, 2, 1, 1), 0, 4));
+    CHECK(is_drawn(beamacorn_draw_triangle(buf, 9, 10, 4, 1, 0, 2, 1, 0, 0, 2, 0, 1), 0, 4));
+    CHECK(buf[0] == 0xe0 && buf[2] == 0x20 && buf[4] == 0);
+    CHECK(is_verdict(beamacorn_line_has_point(2, 1, 0, 0, 1, 1), 0, true));
+    CHECK(is_verdict(beamacorn_triangle_contains(2, 1, 0, 0, 2, 0, 1, 1), 0, false));
+
     memset(buf, 0, sizeof buf);
     CHECK(is_drawn(beamacorn_draw_circle(buf, 9, 10, 4, 1, 0, 0, 0, 4, 1), 0, 12));
     CHECK(buf[0] == 0x60 && buf[2] == 0xf0 && buf[4] == 0xf0 && buf[6] == 0x60);

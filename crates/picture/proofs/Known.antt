@@ -2,10 +2,10 @@
 use mathlib.Core.Path.{_≡_, refl}
 use mathlib.Core.Bool.{true}
 use Rattle.line.specs.Line.{moves, wide, high, major, minor, xMoves, yMoves, pointAt, hasPoint}
-use Rattle.geometry.specs.Place.{before}
+use Rattle.geometry.specs.Place.{before, areaDoubled}
 use Rattle.triangle.specs.Order.{sorted}
 use Rattle.triangle.specs.Row.{extended, hull, lineColumns, rowSpan, firstRow, rowCount}
-use Rattle.triangle.specs.Triangle.{areaDoubled, noneBelow, noneAbove, onEdge, isFlat, isInside, contained}
+use Rattle.triangle.specs.Triangle.{noneBelow, noneAbove, onEdge, isFlat, isInside, contained}
 use Rattle.layout.specs.Layout.{rendered}
 use Rattle.layout.specs.Packed.{rowBytes, field, parts, per, byteOf, slotOf}
 use Rattle.framebuffer.specs.Description.{size, descriptionTests, frameTests}

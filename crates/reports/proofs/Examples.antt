@@ -7,10 +7,10 @@ use Rattle.text.specs.Read.{readDigits, readSigned}
 use Rattle.text.specs.Fields.{readPlace, readVertices, badField}
 use Rattle.text.specs.Show.{shown}
 use Rattle.line.specs.Line.{moves, wide, high, major, minor, xMoves, yMoves, pointAt, hasPoint}
-use Rattle.geometry.specs.Place.{before}
+use Rattle.geometry.specs.Place.{before, areaDoubled}
 use Rattle.triangle.specs.Order.{sorted}
 use Rattle.triangle.specs.Row.{extended, hull, lineColumns, rowSpan, firstRow, rowCount}
-use Rattle.triangle.specs.Triangle.{areaDoubled, isFlat}
+use Rattle.triangle.specs.Triangle.{isFlat}
 use Rattle.reports.specs.Spans.{rowsOf, heading, rowOf, spans}
 use Rattle.reports.specs.Minutes.{badAt, withLine, minutes}
 

@@ -11,9 +11,10 @@ use Rattle.whole.proofs.Difference.{as-mk, mks, mk-eq, le-nat, lt-nat, nat-le, 
 use Rattle.whole.proofs.Machine.{le-yes, le-no, lt-yes, lt-no}
 use Rattle.whole.proofs.Order.{le-trans, le-antisym, lt-le, le-unless, lt-unless, le-sub, lt-sub-pos, neg-flip, flip-neg, nonneg-add, nonneg-mul, nonneg-cancel}
 use Rattle.geometry.specs.declared.Point.{Point}
+use Rattle.geometry.specs.Place.{areaDoubled}
 use Rattle.line.specs.Line.{HasPoint, hasPoint}
 use Rattle.line.proofs.Points.{has-start, has-end, has-decides}
-use Rattle.triangle.specs.Triangle.{areaDoubled, isInside, onEdge}
+use Rattle.triangle.specs.Triangle.{isInside, onEdge}
 use Rattle.triangle.specs.EdgePoint.{EdgePoint}
 use Rattle.triangle.proofs.Area.{area-from-first, area-from-last, area-level}
 use Rattle.triangle.proofs.Enclosed.{InRow}

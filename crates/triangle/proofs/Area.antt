@@ -8,8 +8,7 @@ use lib.IntN.{ℤ, pos, negℤ, _+ℤ_, _-ℤ_, _*ℤ_}
 use Rattle.whole.proofs.Difference.{as-mk, mks, mk-eq}
 use Rattle.whole.proofs.Ring.{E, v, neg, _⊞_, _⊟_, _⊠_, ring}
 use Rattle.geometry.specs.declared.Point.{Point}
-use Rattle.geometry.specs.Place.{moved}
-use Rattle.triangle.specs.Triangle.{areaDoubled}
+use Rattle.geometry.specs.Place.{moved, areaDoubled}
 
 -- the doubled area as an expression, over points whose columns are the variables i, j, k and whose rows are the next ones
 abbrev area : ℕ → ℕ → ℕ → E

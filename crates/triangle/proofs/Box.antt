@@ -14,12 +14,13 @@ use Rattle.whole.proofs.Order.{le-trans, le-unless, lt-le-lt, le-lt-lt, lt-more
 use Rattle.whole.proofs.Sizes.{Sz, sizes}
 use Rattle.whole.proofs.Tests.{fails, or-false}
 use Rattle.geometry.specs.declared.Point.{Point}
+use Rattle.geometry.specs.Place.{areaDoubled}
 use Rattle.geometry.specs.Bound.{Coord, Bounded}
 use Rattle.geometry.proofs.Bound.{sz-coord}
 use Rattle.line.specs.Line.{HasPoint}
 use Rattle.triangle.specs.declared.Sorted.{Sorted}
 use Rattle.triangle.specs.Order.{sorted}
-use Rattle.triangle.specs.Triangle.{areaDoubled, isFlat, contained}
+use Rattle.triangle.specs.Triangle.{isFlat, contained}
 use Rattle.triangle.specs.EdgePoint.{EdgePoint}
 use Rattle.triangle.specs.Box.{isBeyond, outsideBox}
 use Rattle.triangle.proofs.Enclosed.{InRow}

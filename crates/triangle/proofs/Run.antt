@@ -12,9 +12,9 @@ use Rattle.whole.proofs.Difference.{up, dn, mk, as-mk, mks, mk-eq, mk-lt, mk-po
 use Rattle.whole.proofs.Machine.{le-yes, le-no, size-pos, size-neg}
 use Rattle.whole.proofs.Order.{le-sub, lt-sub, neg-flip-lt}
 use Rattle.geometry.specs.declared.Point.{Point}
+use Rattle.geometry.specs.Place.{areaDoubled}
 use Rattle.line.specs.Line.{toward, wide, high, xMoves, HasPoint}
 use Rattle.line.proofs.Closed.{moves-off, off-moves, has-off, closed→, closed←}
-use Rattle.triangle.specs.Triangle.{areaDoubled}
 use Rattle.triangle.proofs.Area.{area-near}
 use Rattle.triangle.proofs.Offsets.{Offsets}
 

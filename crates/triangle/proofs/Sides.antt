@@ -14,7 +14,8 @@ use Rattle.whole.proofs.Decides.{Decides, decides-map, decides-and, decides-or,
 use Rattle.whole.proofs.Difference.{up, dn, le-nat, nat-lt, nat-eq}
 use Rattle.whole.proofs.Order.{neg-flip, flip-neg, le-trans, le-sub, sub-le, nonneg-add, nonneg-mul, nonneg-cancel}
 use Rattle.geometry.specs.declared.Point.{Point}
-use Rattle.triangle.specs.Triangle.{areaDoubled, noneBelow, noneAbove, isFlat, isInside}
+use Rattle.geometry.specs.Place.{areaDoubled}
+use Rattle.triangle.specs.Triangle.{noneBelow, noneAbove, isFlat, isInside}
 use Rattle.triangle.proofs.Area.{area-swap, area-turn, area-back, area-sum, weighed-below, weighed-above}
 
 -- ---- the statements

@@ -1,16 +1,13 @@
 -- Which pixels a triangle contains (01, "Triangles"): v1, v2, v3 are its vertices as given, p1, p2, p3 are they sorted.
 use mathlib.Core.Bool.{Bool, cond, _&&_, _||_}
-use lib.IntN.{ℤ, pos, _-ℤ_, _*ℤ_}
+use lib.IntN.{ℤ, pos}
 use lib.Signed.{leZ}
 use Rattle.whole.specs.Equal.{eqZ}
 use Rattle.geometry.specs.declared.Point.{Point}
+use Rattle.geometry.specs.Place.{areaDoubled}
 use Rattle.line.specs.Line.{hasPoint}
 use Rattle.triangle.specs.declared.Sorted.{Sorted}
 use Rattle.triangle.specs.Order.{sorted}
-
--- twice the signed area of a, b, c
-unfoldable pub areaDoubled : Point → Point → Point → ℤ
-areaDoubled a b c = ((b .0 -ℤ a .0) *ℤ (c .1 -ℤ a .1)) -ℤ ((c .0 -ℤ a .0) *ℤ (b .1 -ℤ a .1))
 
 -- a, b, c are all at least 0
 unfoldable pub noneBelow : ℤ → ℤ → ℤ → Bool

@@ -6,9 +6,9 @@ use mir.Syntax.{w32, w64}
 use mir.Val.{toZ, ofZ}
 use Rattle.whole.proofs.Difference.{as-mk, mks, mk-eq}
 use Rattle.whole.proofs.Machine.{Has, minus, times, fits, back}
+use Rattle.geometry.specs.Place.{areaDoubled}
 use Rattle.geometry.specs.Bound.{Coord}
 use Rattle.geometry.proofs.Bound.{coord-wide}
-use Rattle.triangle.specs.Triangle.{areaDoubled}
 use Rattle.triangle.proofs.area_doubled.Statement.{statement}
 use Rattle.triangle.proofs.area_doubled.Tie as tie
 

@@ -14,10 +14,11 @@ use Rattle.whole.proofs.Decides.{decides-yes, decides-no}
 use Rattle.whole.proofs.Machine.{Has, plus, fits, back, size-of, eq-bits}
 use Rattle.whole.proofs.Tests.{and-true}
 use Rattle.geometry.specs.declared.Point.{Point}
+use Rattle.geometry.specs.Place.{areaDoubled}
 use Rattle.geometry.specs.Bound.{Bounded}
 use Rattle.line.specs.Line.{hasPoint}
 use Rattle.triangle.specs.declared.Sorted.{Sorted}
-use Rattle.triangle.specs.Triangle.{areaDoubled, noneBelow, noneAbove, isFlat, isInside, onEdge}
+use Rattle.triangle.specs.Triangle.{noneBelow, noneAbove, isFlat, isInside, onEdge}
 use Rattle.triangle.proofs.Area.{area-sum}
 use Rattle.triangle.proofs.Order.{All}
 use Rattle.triangle.proofs.Sides.{flat-decides}

@@ -1,21 +1,28 @@
--- Laws of places: when two are the same, and their order by y, then x. Assumes nothing.
+-- Laws of places: when two are the same, moved too, and their order by y, then x. Assumes nothing.
 use mathlib.Core.Path.{_≡_, refl, sym, ap, _∙_}
 use mathlib.Core.Bool.{Bool, true, false, cond}
 use mathlib.Core.Logic.{_⊎_, inl, inr, ⊎-elim}
 use native.Mathlib.Omega.{arith}
 use lib.Signed.{_≤ℤ_, _<ℤ_, leZ, ltZ, ≤ℤ-refl}
 use Rattle.whole.specs.Equal.{eqZ}
-use Rattle.whole.proofs.Decides.{Decides, decides-map, decides-and, decides-eq, decides-le, decides-lt}
+use Rattle.whole.proofs.Decides.{Decides, decides-map, decides-one, decides-and, decides-eq, decides-le, decides-lt}
 use Rattle.whole.proofs.Difference.{le-nat, lt-nat, eq-nat, nat-le, nat-lt}
 use Rattle.whole.proofs.Machine.{lt-no, le-no}
-use Rattle.whole.proofs.Order.{le-antisym, lt-le, lt-unless}
+use Rattle.whole.proofs.Order.{le-antisym, lt-le, lt-unless, move-eq}
 use Rattle.geometry.specs.declared.Point.{Point}
-use Rattle.geometry.specs.Place.{samePlace, before}
+use Rattle.geometry.specs.Place.{samePlace, before, moved}
 
 pub same-decides : (p q : Point) → Decides (samePlace p q) (p ≡ q)
 same-decides p q =
     decides-map (decides-and (eqZ (p .0) (q .0)) (eqZ (p .1) (q .1)) (decides-eq (p .0) (q .0)) (decides-eq (p .1) (q .1)))
     (λ h i. (h .0 i, h .1 i)) (λ e. (ap (λ (r : Point). r .0) e, ap (λ (r : Point). r .1) e))
+
+-- moved together, places are the same exactly if they were
+pub same-moved : (v p q : Point) → samePlace (moved v p) (moved v q) ≡ samePlace p q
+same-moved v p q =
+    decides-one _ _ (same-decides (moved v p) (moved v q))
+    (decides-map (same-decides p q) (ap (moved v))
+    (λ e i. (move-eq (p .0) (q .0) (v .0) (ap (λ (r : Point). r .0) e) i, move-eq (p .1) (q .1) (v .1) (ap (λ (r : Point). r .1) e) i)))
 
 -- ---- the order by y, then x
 -- a on an earlier row, or on the same row and no further right

@@ -1,7 +1,7 @@
 -- Laws of a line's points: both ends are points, neighbours differ by one along the major axis and by at most one along the minor one, each lies
 -- within half a pixel of the ideal line, moving both ends moves every point; and the yes or no decides what it says. Assumes nothing.
 use mathlib.Core.Path.{_≡_, refl, sym, ap, ap₂, subst, _∙_}
-use mathlib.Core.Bool.{Bool, true, false, cond}
+use mathlib.Core.Bool.{Bool, true, false, cond, _||_}
 use mathlib.Core.Logic.{_⊎_, inl, inr, ⊎-elim}
 use Prim.Native.Nat.{ℕ, zero, suc, _+_, _*_, _-_, _≤_, _<_, max, min}
 use native.Mathlib.Decide.{decLt}
@@ -16,7 +16,7 @@ use Rattle.whole.proofs.Machine.{le-yes, le-no, neg-size, size-pos, size-neg}
 use Rattle.whole.proofs.Order.{le-sub, lt-sub, le-move, move-le}
 use Rattle.geometry.specs.declared.Point.{Point}
 use Rattle.geometry.specs.Place.{samePlace, moved}
-use Rattle.geometry.proofs.Place.{same-decides}
+use Rattle.geometry.proofs.Place.{same-decides, same-moved}
 use Rattle.line.specs.Line.{toward, wide, high, steep, major, minor, moves, xMoves, yMoves, pointAt, points, HasPoint, someStep, hasPoint}
 use Rattle.line.proofs.Moves.{moves-start, moves-end, moves-band, moves-one, moves-mono}
 use Rattle.line.proofs.Lengths.{narrow, major-by, minor-by, x-by, y-by}
@@ -42,6 +42,10 @@ stay a b = still a (toward a b)
   where
     still : (a d : ℤ) → a +ℤ d *ℤ pos 0 ≡ a
     still a d = rw (as-mk a, as-mk d) (simp mks (mk-eq _ _ _ _ (omega arith)))
+
+-- both axes: the place so many moves along x and along y from s towards e
+abbrev pub placeAt : Point → Point → ℕ → ℕ → Point
+placeAt s e x y = (s .0 +ℤ toward (s .0) (e .0) *ℤ pos x, s .1 +ℤ toward (s .1) (e .1) *ℤ pos y)
 
 -- ---- both ends are points
 module _ (s e : Point) where
@@ -97,7 +101,7 @@ module _ (s e : Point) where
 
 -- ---- neighbours
 -- d moves more or fewer
-gap : (a b : ℤ) (n d : ℕ) → natAbs ((a +ℤ toward a b *ℤ pos (n + d)) -ℤ (a +ℤ toward a b *ℤ pos n)) ≡ d
+pub gap : (a b : ℤ) (n d : ℕ) → natAbs ((a +ℤ toward a b *ℤ pos (n + d)) -ℤ (a +ℤ toward a b *ℤ pos n)) ≡ d
 gap a b n d = ap natAbs (apart a (toward a b) (pos n) (pos d)) ∙ by (leZ a b)
   where
     apart : (a c n d : ℤ) → (a +ℤ c *ℤ (n +ℤ d)) -ℤ (a +ℤ c *ℤ n) ≡ c *ℤ d
@@ -127,11 +131,8 @@ module _ (s e : Point) where
   neighbours k = by (steep s e)
     where
       by : (t : Bool)
-          → Neighbours t
-          (s .0 +ℤ toward (s .0) (e .0) *ℤ pos (cond t (moves (major s e) (minor s e) k) k), s .1 +ℤ toward (s .1) (e .1) *ℤ pos (cond t k (moves (major s e) (minor s e) k))) (
-            s .0 +ℤ toward (s .0) (e .0) *ℤ pos (cond t (moves (major s e) (minor s e) (k + 1)) (k + 1)),
-            s .1 +ℤ toward (s .1) (e .1) *ℤ pos (cond t (k + 1) (moves (major s e) (minor s e) (k + 1))),
-          )
+          → Neighbours t (placeAt s e (cond t (moves (major s e) (minor s e) k) k) (cond t k (moves (major s e) (minor s e) k)))
+          (placeAt s e (cond t (moves (major s e) (minor s e) (k + 1)) (k + 1)) (cond t (k + 1) (moves (major s e) (minor s e) (k + 1))))
       by true = record { major = gap (s .1) (e .1) k 1; minor = one-more (s .0) (e .0) k }
       by false = record { major = gap (s .0) (e .0) k 1; minor = one-more (s .1) (e .1) k }
 
@@ -142,15 +143,23 @@ module _ (s e : Point) where
       let b = moves-band (major s e) (minor s e) k (narrow s e) h in
       (omega (arith, b .low), b .high)
 
--- ---- along a line that runs down, rows never go up
+-- ---- the moves along either axis never fall
 module _ (s e : Point) where
-  more-down : (i j : ℕ) → i ≤ j → yMoves s e i ≤ yMoves s e j
-  more-down i j h = by (steep s e) refl
+  pub x-mono : (i j : ℕ) → i ≤ j → xMoves s e i ≤ xMoves s e j
+  x-mono i j h = by (steep s e) refl
+    where
+      by : (t : Bool) → steep s e ≡ t → xMoves s e i ≤ xMoves s e j
+      by true t = omega (arith, x-by s e true t i, x-by s e true t j, moves-mono (high s e) (wide s e) i j h)
+      by false t = omega (arith, x-by s e false t i, x-by s e false t j)
+
+  pub y-mono : (i j : ℕ) → i ≤ j → yMoves s e i ≤ yMoves s e j
+  y-mono i j h = by (steep s e) refl
     where
       by : (t : Bool) → steep s e ≡ t → yMoves s e i ≤ yMoves s e j
       by true t = omega (arith, y-by s e true t i, y-by s e true t j)
       by false t = omega (arith, y-by s e false t i, y-by s e false t j, moves-mono (wide s e) (high s e) i j h)
 
+  -- along a line that runs down, rows never go up
   pub rows-down : s .1 ≤ℤ e .1 → (i j : ℕ) → i ≤ j → pointAt s e i .1 ≤ℤ pointAt s e j .1
   unfolding pointAt
   rows-down d i j h = by (leZ (s .1) (e .1)) (d .le)
@@ -159,19 +168,24 @@ module _ (s e : Point) where
       down s a b h = rw (as-mk s) (simp mks (mk-le _ _ _ _ (omega arith)))
 
       by : (t : Bool) → T t → (s .1 +ℤ cond t (pos 1) (negsuc 0) *ℤ pos (yMoves s e i)) ≤ℤ (s .1 +ℤ cond t (pos 1) (negsuc 0) *ℤ pos (yMoves s e j))
-      by true t = down (s .1) (yMoves s e i) (yMoves s e j) (more-down i j h)
+      by true t = down (s .1) (yMoves s e i) (yMoves s e j) (y-mono i j h)
       by false t = absurd t
 
 -- ---- moving both ends moves every point
+same-apart : (a b v : ℤ) → (b +ℤ v) -ℤ (a +ℤ v) ≡ b -ℤ a
+same-apart a b v = rw (as-mk a, as-mk b, as-mk v) (simp mks (mk-eq _ _ _ _ (omega arith)))
+
+pub same-way : (a b v : ℤ) → toward (a +ℤ v) (b +ℤ v) ≡ toward a b
+same-way a b v =
+    ap (λ (t : Bool). cond t (pos 1) (negsuc 0))
+    (decides-one (leZ (a +ℤ v) (b +ℤ v)) (leZ a b) (decides-le (a +ℤ v) (b +ℤ v)) (decides-map (decides-le a b) (le-move a b v) (move-le a b v)))
+
+-- of any sequence of points, some step leads to a place exactly if, all moved, it leads to the place moved
+pub some-moved : (v : Point) (f g : ℕ → Point) (p : Point) (n : ℕ) → ((k : ℕ) → f k ≡ moved v (g k)) → someStep f (moved v p) n ≡ someStep g p n
+some-moved v f g p zero h = refl
+some-moved v f g p (suc n) h = ap₂ _||_ (ap (samePlace (moved v p)) (h n) ∙ same-moved v p (g n)) (some-moved v f g p n h)
+
 module _ (s e v : Point) where
-  same-apart : (a b v : ℤ) → (b +ℤ v) -ℤ (a +ℤ v) ≡ b -ℤ a
-  same-apart a b v = rw (as-mk a, as-mk b, as-mk v) (simp mks (mk-eq _ _ _ _ (omega arith)))
-
-  same-way : (a b v : ℤ) → toward (a +ℤ v) (b +ℤ v) ≡ toward a b
-  same-way a b v =
-      ap (λ (t : Bool). cond t (pos 1) (negsuc 0))
-      (decides-one (leZ (a +ℤ v) (b +ℤ v)) (leZ a b) (decides-le (a +ℤ v) (b +ℤ v)) (decides-map (decides-le a b) (le-move a b v) (move-le a b v)))
-
   wide-moved : wide (moved v s) (moved v e) ≡ wide s e
   unfolding wide
   wide-moved = ap natAbs (same-apart (s .0) (e .0) (v .0))
@@ -184,7 +198,7 @@ module _ (s e v : Point) where
   unfolding major
   major-moved = λ i. max (wide-moved i) (high-moved i)
 
-  minor-moved : minor (moved v s) (moved v e) ≡ minor s e
+  pub minor-moved : minor (moved v s) (moved v e) ≡ minor s e
   unfolding minor
   minor-moved = λ i. min (wide-moved i) (high-moved i)
 
@@ -209,18 +223,24 @@ module _ (s e v : Point) where
   pub has-moved : (p : Point) → HasPoint s e p → HasPoint (moved v s) (moved v e) (moved v p)
   has-moved p h = record { step = h .step; walked = subst (λ (n : ℕ). h .step ≤ n) (sym major-moved) (h .walked); here = ap (moved v) (h .here) ∙ sym (point-moved (h .step)) }
 
+  pub has-same : (p : Point) → hasPoint (moved v s) (moved v e) (moved v p) ≡ hasPoint s e p
+  unfolding hasPoint
+  has-same p =
+      ap (λ (n : ℕ). someStep (pointAt (moved v s) (moved v e)) (moved v p) (n + 1)) major-moved
+      ∙ some-moved v (pointAt (moved v s) (moved v e)) (pointAt s e) p (points s e) point-moved
+
 -- ---- the yes or no decides what it says
 -- one of the steps below n leads to p
-record Step (f : ℕ → Point) (p : Point) (n : ℕ) : Type 0 where
-  k : ℕ
-  below : k < n
-  here : p ≡ f k
+pub record Leads (f : ℕ → Point) (p : Point) (n : ℕ) : Type 0 where
+  pub k : ℕ
+  pub below : k < n
+  pub here : p ≡ f k
 
-last-or : (f : ℕ → Point) (p : Point) (n : ℕ) (h : Step f p (suc n)) → Dec (h .k < n) → (p ≡ f n) ⊎ Step f p n
+last-or : (f : ℕ → Point) (p : Point) (n : ℕ) (h : Leads f p (suc n)) → Dec (h .k < n) → (p ≡ f n) ⊎ Leads f p n
 last-or f p n h (yes l) = inr (record { k = h .k; below = l; here = h .here })
 last-or f p n h (no l) = inl (h .here ∙ ap f (omega (arith, h .below)))
 
-some-decides : (f : ℕ → Point) (p : Point) (n : ℕ) → Decides (someStep f p n) (Step f p n)
+pub some-decides : (f : ℕ → Point) (p : Point) (n : ℕ) → Decides (someStep f p n) (Leads f p n)
 some-decides f p zero = never (λ h. omega (arith, h .below))
 some-decides f p (suc n) =
     decides-map (decides-or (samePlace p (f n)) (someStep f p n) (same-decides p (f n)) (some-decides f p n))

@@ -1,26 +1,30 @@
 -- Laws of a walker: how large its numbers are, where it stands, and what a major and a minor move do. That its k-th point is the rule's
 -- rests on one thing: its error keeps m within the band that fixes it. Assumes nothing.
-use mathlib.Core.Path.{_≡_, sym, ap, ap₂, subst, _∙_}
+use mathlib.Core.Path.{_≡_, refl, sym, ap, ap₂, subst, _∙_}
 use mathlib.Core.Bool.{Bool, true, false, cond}
 use Prim.Native.Nat.{ℕ, zero, suc, _+_, _*_, _-_, _≤_, _<_}
 use native.Mathlib.Nat.{mul-le-mul-right, lt-of-mul-lt-mul-left}
 use native.Mathlib.Omega.{arith}
+use borrow.Author.Tests.{ltb-true, ltb-false}
 use lib.Dec.{T, ltb}
 use lib.IntN.{ℤ, pos, natAbs, _+ℤ_, _-ℤ_, _*ℤ_, zero-*ℤ, +ℤ-idr}
-use lib.Signed.{_≤ℤ_, _<ℤ_}
+use lib.Signed.{ltZ, _<ℤ_}
 use mir.Syntax.{w32}
 use mir.Val.{toZ, ofZ}
-use Rattle.whole.proofs.Difference.{as-mk, mks, mk-eq, mk-lt, mk-le, lt-mk, le-mk, lt-nat, le-nat}
+use Rattle.whole.proofs.Decides.{decides-one, decides-map, decides-lt, decides-ltb}
+use Rattle.whole.proofs.Difference.{as-mk, mks, mk-eq, lt-nat, nat-lt, restored}
 use Rattle.whole.proofs.Machine.{Has, read, add-size, mul-size, minus-within}
+use Rattle.whole.proofs.Order.{lt-move, move-lt}
 use Rattle.geometry.specs.declared.Point.{Point}
 use Rattle.geometry.specs.Bound.{Coord, Bounded}
 use Rattle.geometry.proofs.Bound.{coord-size}
 use Rattle.line.specs.declared.Course.{Course}
 use Rattle.line.specs.declared.Walker.{Walker}
 use Rattle.line.specs.Line.{toward, wide, high, steep, major, minor, moves, xMoves, yMoves, pointAt}
-use Rattle.line.specs.Walk.{CourseOf, Stands, DueAt, WalkerAt}
+use Rattle.line.specs.Walk.{CourseOf, Stands, isDue, DueAt, WalkerAt}
 use Rattle.line.proofs.Moves.{moves-is}
 use Rattle.line.proofs.Lengths.{narrow, major-by, minor-by, major-size, minor-size, toward-size}
+use Rattle.line.proofs.Points.{placeAt}
 
 -- ---- the parameters of a line, by its major axis
 module _ {s e : Point} {c : Course} (b : Bool) (axis : steep s e ≡ b) where
@@ -94,6 +98,15 @@ module _ {s e : Point} {k m : ℕ} {w : Walker} (h : Stands s e k m w) where
       (omega (arith, h .low, major-size (h .start) (h .end)))) tt
 
 -- ---- the point it stands at
+-- where k major and m minor moves lead
+abbrev pub standing : Point → Point → ℕ → ℕ → Point
+standing s e k m = placeAt s e (cond (steep s e) m k) (cond (steep s e) k m)
+
+-- with the rule's m: to the rule's point
+pub standing-point : (s e : Point) (k : ℕ) → standing s e k (moves (major s e) (minor s e) k) ≡ pointAt s e k
+unfolding xMoves yMoves pointAt
+standing-point s e k = refl
+
 axis-x : (b : Bool) (s d : ℤ) (k m : ℕ) → s +ℤ cond b (pos 0) d *ℤ pos k +ℤ cond b d (pos 0) *ℤ pos m ≡ s +ℤ d *ℤ pos (cond b m k)
 axis-x true s d k m = ap (λ (z : ℤ). s +ℤ z +ℤ d *ℤ pos m) (zero-*ℤ (pos k)) ∙ ap (λ (z : ℤ). z +ℤ d *ℤ pos m) (+ℤ-idr s)
 axis-x false s d k m = ap (λ (z : ℤ). s +ℤ d *ℤ pos k +ℤ z) (zero-*ℤ (pos m)) ∙ +ℤ-idr (s +ℤ d *ℤ pos k)
@@ -102,29 +115,33 @@ axis-y : (b : Bool) (s d : ℤ) (k m : ℕ) → s +ℤ cond b d (pos 0) *ℤ pos
 axis-y true s d k m = ap (λ (z : ℤ). s +ℤ d *ℤ pos k +ℤ z) (zero-*ℤ (pos m)) ∙ +ℤ-idr (s +ℤ d *ℤ pos k)
 axis-y false s d k m = ap (λ (z : ℤ). s +ℤ z +ℤ d *ℤ pos m) (zero-*ℤ (pos k)) ∙ ap (λ (z : ℤ). z +ℤ d *ℤ pos m) (+ℤ-idr s)
 
--- so many moves by the line's parameters lead to the rule's point
-module _ {s e : Point} {c : Course} (course : CourseOf s e c) (k : ℕ) where
-  pub course-x : s .0 +ℤ c .xmajor *ℤ pos k +ℤ c .xminor *ℤ pos (moves (major s e) (minor s e) k) ≡ pointAt s e k .0
-  unfolding xMoves pointAt
-  course-x =
-      ap₂ (λ (a b : ℤ). s .0 +ℤ a *ℤ pos k +ℤ b *ℤ pos (moves (major s e) (minor s e) k)) (course .major-x) (course .minor-x)
-      ∙ axis-x (steep s e) (s .0) (toward (s .0) (e .0)) k (moves (major s e) (minor s e) k)
+-- so many moves by the line's parameters
+module _ {s e : Point} {c : Course} (course : CourseOf s e c) (k m : ℕ) where
+  pub course-x : s .0 +ℤ c .xmajor *ℤ pos k +ℤ c .xminor *ℤ pos m ≡ standing s e k m .0
+  course-x = ap₂ (λ (a b : ℤ). s .0 +ℤ a *ℤ pos k +ℤ b *ℤ pos m) (course .major-x) (course .minor-x) ∙ axis-x (steep s e) (s .0) (toward (s .0) (e .0)) k m
 
-  pub course-y : s .1 +ℤ c .ymajor *ℤ pos k +ℤ c .yminor *ℤ pos (moves (major s e) (minor s e) k) ≡ pointAt s e k .1
-  unfolding yMoves pointAt
-  course-y =
-      ap₂ (λ (a b : ℤ). s .1 +ℤ a *ℤ pos k +ℤ b *ℤ pos (moves (major s e) (minor s e) k)) (course .major-y) (course .minor-y)
-      ∙ axis-y (steep s e) (s .1) (toward (s .1) (e .1)) k (moves (major s e) (minor s e) k)
+  pub course-y : s .1 +ℤ c .ymajor *ℤ pos k +ℤ c .yminor *ℤ pos m ≡ standing s e k m .1
+  course-y = ap₂ (λ (a b : ℤ). s .1 +ℤ a *ℤ pos k +ℤ b *ℤ pos m) (course .major-y) (course .minor-y) ∙ axis-y (steep s e) (s .1) (toward (s .1) (e .1)) k m
+
+module _ {s e : Point} {k m : ℕ} {w : Walker} (h : Stands s e k m w) where
+  pub standing-x : w .x ≡ standing s e k m .0
+  standing-x = h .x ∙ course-x (h .course) k m
+
+  pub standing-y : w .y ≡ standing s e k m .1
+  standing-y = h .y ∙ course-y (h .course) k m
 
 module _ {s e : Point} {k : ℕ} {w : Walker} (at : WalkerAt s e k w) (walked : k ≤ major s e) where
   m-is : at .m ≡ moves (major s e) (minor s e) k
   m-is = sym (moves-is (major s e) (minor s e) k (at .m) walked (at .stands .few) (record { low = at .stands .low; high = at .near }))
 
+  here : standing s e k (at .m) ≡ pointAt s e k
+  here = ap (standing s e k) m-is ∙ standing-point s e k
+
   pub stands-x : w .x ≡ pointAt s e k .0
-  stands-x = at .stands .x ∙ ap (λ (n : ℕ). s .0 +ℤ w .course .xmajor *ℤ pos k +ℤ w .course .xminor *ℤ pos n) m-is ∙ course-x (at .stands .course) k
+  stands-x = standing-x (at .stands) ∙ ap (λ (p : Point). p .0) here
 
   pub stands-y : w .y ≡ pointAt s e k .1
-  stands-y = at .stands .y ∙ ap (λ (n : ℕ). s .1 +ℤ w .course .ymajor *ℤ pos k +ℤ w .course .yminor *ℤ pos n) m-is ∙ course-y (at .stands .course) k
+  stands-y = standing-y (at .stands) ∙ ap (λ (p : Point). p .1) here
 
 -- ---- moves over ℤ
 module _ {u v : ℤ} (s a b : ℤ) (k m : ℕ) where
@@ -146,27 +163,17 @@ less x y z = rw (as-mk x, as-mk y, as-mk z) (simp mks (mk-eq _ _ _ _ (omega arit
 more : (x y z : ℤ) → (x -ℤ y) +ℤ z ≡ (x +ℤ z) -ℤ y
 more x y z = rw (as-mk x, as-mk y, as-mk z) (simp mks (mk-eq _ _ _ _ (omega arith)))
 
-over : (t x y : ℤ) → t <ℤ (x -ℤ y) → (t +ℤ y) <ℤ x
-over t x y h =
-    let g = lt-mk _ _ _ _ (simp mks at (rw (as-mk t, as-mk x, as-mk y) at h)) in
-    rw (as-mk t, as-mk x, as-mk y) (simp mks (mk-lt _ _ _ _ (omega arith)))
-
-under : (t x y : ℤ) → (x -ℤ y) ≤ℤ t → x ≤ℤ (t +ℤ y)
-under t x y h =
-    let g = le-mk _ _ _ _ (simp mks at (rw (as-mk t, as-mk x, as-mk y) at h)) in
-    rw (as-mk t, as-mk x, as-mk y) (simp mks (mk-le _ _ _ _ (omega arith)))
-
 -- ---- moves over ℕ: M major, n minor, k steps, m minor moves
 twice-more : (n k : ℕ) → 2 * n * k + 2 * n ≡ 2 * n * (k + 1)
 twice-more n k = omega arith
 
-positive : (M n k m : ℕ) → n ≤ M → M + 2 * M * m < 2 * n * k → 0 < M
+positive : (M n k m : ℕ) → n ≤ M → 2 * M * m + M < 2 * n * k → 0 < M
 positive zero zero k m h t = absurd (omega arith)
 positive zero (suc n) k m h t = absurd (omega arith)
 positive (suc M) n k m h t = omega arith
 
 -- a minor move that is due: there are still no more minor moves than steps
-still-few : (M n k m : ℕ) → n ≤ M → M + 2 * M * m < 2 * n * k → m + 1 ≤ k
+still-few : (M n k m : ℕ) → n ≤ M → 2 * M * m + M < 2 * n * k → m + 1 ≤ k
 still-few M n k m h t =
     let a : n * k ≤ M * k = mul-le-mul-right k h in
     let p : 0 < M = positive M n k m h t in
@@ -174,7 +181,7 @@ still-few M n k m h t =
     let d : m < k = lt-of-mul-lt-mul-left M b in
     omega arith
 
-still-low : (M n k m : ℕ) → M + 2 * M * m < 2 * n * k → 2 * M * (m + 1) ≤ 2 * n * k + (M - 1)
+still-low : (M n k m : ℕ) → 2 * M * m + M < 2 * n * k → 2 * M * (m + 1) ≤ 2 * n * k + (M - 1)
 still-low M n k m h = omega arith
 
 then-near : (M n k m : ℕ) → n ≤ M → 2 * n * k ≤ 2 * M * m + M + 2 * n → 2 * n * k ≤ 2 * M * (m + 1) + M
@@ -187,21 +194,32 @@ later-low M n k m h = omega arith
 then-due : (M n k m : ℕ) → 2 * n * k ≤ 2 * M * m + M → 2 * n * (k + 1) ≤ 2 * M * m + M + 2 * n
 then-due M n k m h = omega arith
 
--- ---- the walker's moves, to a walker r of the same course
-module _ {s e : Point} {k : ℕ} {w r : Walker} (same : r .course ≡ w .course) where
-  -- the minor move, where it is due
-  pub settles : DueAt s e k w → w .course .threshold <ℤ w .error
-      → r .x ≡ w .x +ℤ w .course .xminor → r .y ≡ w .y +ℤ w .course .yminor → r .error ≡ w .error -ℤ w .course .down → WalkerAt s e k r
-  settles h t rx ry re =
-      let st = h .stands in
+-- ---- the walker's test and its moves
+module _ {s e : Point} {k m : ℕ} {w : Walker} (st : Stands s e k m w) where
+  -- its error is above the threshold exactly if a minor move is due
+  pub due-test : ltZ (w .course .threshold) (w .error) ≡ isDue (major s e) (minor s e) k m
+  due-test =
       let M = major s e in
-      let n = minor s e in
-      let m = h .m in
-      let above : pos M <ℤ (pos (2 * n * k) -ℤ pos (2 * M * m)) = subst (λ (z : ℤ). pos M <ℤ z) (st .error) (subst (λ (z : ℤ). z <ℤ w .error) (st .course .threshold) t) in
-      let due : M + 2 * M * m < 2 * n * k = omega (arith, lt-nat (over (pos M) (pos (2 * n * k)) (pos (2 * M * m)) above)) in
-      record {
-        m = m + 1;
-        stands = record {
+      let x = 2 * minor s e * k in
+      let y = 2 * M * m in
+      let same : pos x ≡ (pos x -ℤ pos y) +ℤ pos y = restored (pos x) (pos y) in
+      ap₂ ltZ (st .course .threshold) (st .error)
+      ∙ decides-one _ (isDue M (minor s e) k m)
+      (decides-map (decides-lt (pos M) (pos x -ℤ pos y))
+      (λ h. omega (arith, lt-nat (subst (λ (z : ℤ). (pos M +ℤ pos y) <ℤ z) (sym same) (lt-move (pos M) (pos x -ℤ pos y) (pos y) h))))
+      (λ h. move-lt (pos M) (pos x -ℤ pos y) (pos y) (subst (λ (z : ℤ). (pos M +ℤ pos y) <ℤ z) same (nat-lt (omega arith)))))
+      (decides-ltb (y + M) x)
+
+  -- to a walker r of the same course
+  module _ {r : Walker} (same : r .course ≡ w .course) where
+    -- the minor move, where it is due
+    pub settles : isDue (major s e) (minor s e) k m ≡ true
+        → r .x ≡ w .x +ℤ w .course .xminor → r .y ≡ w .y +ℤ w .course .yminor → r .error ≡ w .error -ℤ w .course .down → Stands s e k (m + 1) r
+    settles t rx ry re =
+        let M = major s e in
+        let n = minor s e in
+        let due : 2 * M * m + M < 2 * n * k = ltb-true _ _ t in
+        record {
           start = st .start;
           end = st .end;
           course = subst (CourseOf s e) (sym same) (st .course);
@@ -210,20 +228,14 @@ module _ {s e : Point} {k : ℕ} {w r : Walker} (same : r .course ≡ w .course)
           error = re ∙ ap₂ _-ℤ_ (st .error) (st .course .down) ∙ less (pos (2 * n * k)) (pos (2 * M * m)) (pos (2 * M)) ∙ ap (λ (a : ℕ). pos (2 * n * k) -ℤ pos a) (twice-more M m);
           few = still-few M n k m (narrow s e) due;
           low = still-low M n k m due;
-        };
-        near = then-near M n k m (narrow s e) (h .due);
-      }
+        }
 
-  -- the major move
-  pub advances : WalkerAt s e k w → r .x ≡ w .x +ℤ w .course .xmajor → r .y ≡ w .y +ℤ w .course .ymajor → r .error ≡ w .error +ℤ w .course .up → DueAt s e (k + 1) r
-  advances h rx ry re =
-      let st = h .stands in
-      let M = major s e in
-      let n = minor s e in
-      let m = h .m in
-      record {
-        m = m;
-        stands = record {
+    -- the major move
+    pub advances : r .x ≡ w .x +ℤ w .course .xmajor → r .y ≡ w .y +ℤ w .course .ymajor → r .error ≡ w .error +ℤ w .course .up → Stands s e (k + 1) m r
+    advances rx ry re =
+        let M = major s e in
+        let n = minor s e in
+        record {
           start = st .start;
           end = st .end;
           course = subst (CourseOf s e) (sym same) (st .course);
@@ -232,19 +244,21 @@ module _ {s e : Point} {k : ℕ} {w r : Walker} (same : r .course ≡ w .course)
           error = re ∙ ap₂ _+ℤ_ (st .error) (st .course .up) ∙ more (pos (2 * n * k)) (pos (2 * M * m)) (pos (2 * n)) ∙ ap (λ (a : ℕ). pos a -ℤ pos (2 * M * m)) (twice-more n k);
           few = omega (arith, st .few);
           low = later-low M n k m (st .low);
-        };
-        due = then-due M n k m (h .near);
-      }
+        }
 
--- no minor move is due
-pub settles-not : {s e : Point} {k : ℕ} {w : Walker} → DueAt s e k w → w .error ≤ℤ w .course .threshold → WalkerAt s e k w
-settles-not {s} {e} {k} {w} h t =
-    let st = h .stands in
-    let M = major s e in
-    let n = minor s e in
-    let m = h .m in
-    let within : (pos (2 * n * k) -ℤ pos (2 * M * m)) ≤ℤ pos M = subst (λ (z : ℤ). z ≤ℤ pos M) (st .error) (subst (λ (z : ℤ). w .error ≤ℤ z) (st .course .threshold) t) in
-    record { m = m; stands = st; near = omega (arith, le-nat (under (pos M) (pos (2 * n * k)) (pos (2 * M * m)) within)) }
+-- ---- where that leaves it
+module _ {s e : Point} {k : ℕ} {w : Walker} where
+  -- after the minor move that was due
+  pub settled-due : {r : Walker} (at : DueAt s e k w) → Stands s e k (at .m + 1) r → WalkerAt s e k r
+  settled-due at st = record { m = at .m + 1; stands = st; near = then-near (major s e) (minor s e) k (at .m) (narrow s e) (at .due) }
+
+  -- no minor move is due
+  pub settled-not : (at : DueAt s e k w) → isDue (major s e) (minor s e) k (at .m) ≡ false → WalkerAt s e k w
+  settled-not at f = record { m = at .m; stands = at .stands; near = ltb-false _ _ f }
+
+  -- after the major move
+  pub advanced : {r : Walker} (at : WalkerAt s e k w) → Stands s e (k + 1) (at .m) r → DueAt s e (k + 1) r
+  advanced at st = record { m = at .m; stands = st; due = then-due (major s e) (minor s e) k (at .m) (at .near) }
 
 -- a walker that has not moved
 pub begins : (s e : Point) (w : Walker) → Bounded s → Bounded e → CourseOf s e (w .course) → w .x ≡ s .0 → w .y ≡ s .1 → w .error ≡ pos 0 → WalkerAt s e 0 w

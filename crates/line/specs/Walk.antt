@@ -1,7 +1,8 @@
 -- Where a walker stands: the state of `Bresenham::next`, kept at the point that is handed out next.
 use mathlib.Core.Path.{_≡_}
-use mathlib.Core.Bool.{cond}
+use mathlib.Core.Bool.{Bool, cond}
 use Prim.Native.Nat.{ℕ, _+_, _*_, _-_, _≤_}
+use lib.Dec.{ltb}
 use lib.IntN.{ℤ, pos, natAbs, _+ℤ_, _-ℤ_, _*ℤ_}
 use Rattle.geometry.specs.declared.Point.{Point}
 use Rattle.geometry.specs.Bound.{Coord, Bounded}
@@ -37,6 +38,10 @@ pub record Stands (s e : Point) (k m : ℕ) (w : Walker) : Type 0 where
   pub error : w .error ≡ pos (2 * minor s e * k) -ℤ pos (2 * major s e * m)
   pub few : m ≤ k
   pub low : 2 * major s e * m ≤ 2 * minor s e * k + (major s e - 1)
+
+-- a minor move is due: the error is above the threshold
+abbrev pub isDue : ℕ → ℕ → ℕ → ℕ → Bool
+isDue major minor k m = ltb (2 * major * m + major) (2 * minor * k)
 
 -- the walker that has handed out the points of the steps below k: it stands at the point of step k
 pub record WalkerAt (s e : Point) (k : ℕ) (w : Walker) : Type 0 where

@@ -1,5 +1,6 @@
 // Lines: the walker over a line's points, and the questions on a line. A line's points depend on the end that it starts from.
 ghost use mathlib.Core.Path.{_≡_};
+ghost use mathlib.Core.Bool.{true};
 ghost use Prim.Native.Nat.{ℕ, _+_, _*_, _≤_};
 ghost use lib.Dec.{eqb};
 ghost use lib.IntN.{ℤ, pos, natAbs, _+ℤ_, _-ℤ_, _*ℤ_};
@@ -7,8 +8,8 @@ ghost use Rattle.refusals.specs.First.{first};
 ghost use Rattle.geometry.specs.declared.Point.{Point as Place};
 ghost use Rattle.geometry.specs.Bound.{Coord, Bounded};
 ghost use Rattle.geometry.specs.Answer.{verdict};
-ghost use Rattle.line.specs.Line.{toward, moves, major, points, pointAt, onLine, hasPoint};
-ghost use Rattle.line.specs.Walk.{CourseOf, Reachable, Moving, Walking, DueAt, WalkerAt};
+ghost use Rattle.line.specs.Line.{toward, moves, major, minor, points, pointAt, onLine, hasPoint};
+ghost use Rattle.line.specs.Walk.{CourseOf, Reachable, isDue, Stands, Moving, Walking, DueAt, WalkerAt};
 ghost use Rattle.line.specs.Answer.{endTests, stepTests, lengthAnswer, stepAnswer};
 use geometry::Point;
 use geometry::Verdict;
@@ -113,16 +114,8 @@ fn settled(w: Walker) -> Walker
     requires { ⌜ Moving w ⌝ }
     ensures { λ r. ⌜ ((s e : Place) (k : ℕ) → DueAt s e k w → WalkerAt s e k r) ⌝ }
 {
-    let c = w.course;
-    let error = w.error;
-    let threshold = c.threshold;
-    if threshold < error {
-        return Walker {
-            x: w.x + c.xminor,
-            y: w.y + c.yminor,
-            error: error - c.down,
-            course: c,
-        };
+    if w.is_due() {
+        return w.minor_move();
     }
     w
 }
@@ -144,20 +137,53 @@ impl Walker {
         }
     }
 
+    // Inside the library: whether the walker's minor move is due.
+    pub fn is_due(self) -> bool
+        requires { ⌜ Moving self ⌝ }
+        ensures { λ r. ⌜ ((s e : Place) (k m : ℕ) → Stands s e k m self → r ≡ isDue (major s e) (minor s e) k m) ⌝ }
+    {
+        let c = self.course;
+        let error = self.error;
+        let threshold = c.threshold;
+        threshold < error
+    }
+
+    // Inside the library: the walker after the minor move, which is due.
+    pub fn minor_move(self) -> Self
+        requires { ⌜ Moving self ⌝ }
+        ensures { λ r. ⌜ ((s e : Place) (k m : ℕ) → Stands s e k m self → isDue (major s e) (minor s e) k m ≡ true → Stands s e k (m + 1) r) ⌝ }
+    {
+        let c = self.course;
+        Walker {
+            x: self.x + c.xminor,
+            y: self.y + c.yminor,
+            error: self.error - c.down,
+            course: c,
+        }
+    }
+
+    // Inside the library: the walker after the major move.
+    pub fn major_move(self) -> Self
+        requires { ⌜ Walking self ⌝ }
+        ensures { λ r. ⌜ ((s e : Place) (k m : ℕ) → Stands s e k m self → Stands s e (k + 1) m r) ⌝ }
+    {
+        let c = self.course;
+        Walker {
+            x: self.x + c.xmajor,
+            y: self.y + c.ymajor,
+            error: self.error + c.up,
+            course: c,
+        }
+    }
+
     // Inside the library: the point that the walker stands at, and the walker at the next.
     pub fn step(self) -> Stepped
         requires { ⌜ Walking self ⌝ }
         ensures { λ r. ⌜ ((s e : Place) (k : ℕ) → k ≤ major s e → WalkerAt s e k self → (r .point ≡ pointAt s e k) × WalkerAt s e (k + 1) (r .walker)) ⌝ }
     {
-        let c = self.course;
         let x = self.x;
         let y = self.y;
-        let moved = Walker {
-            x: x + c.xmajor,
-            y: y + c.ymajor,
-            error: self.error + c.up,
-            course: c,
-        };
+        let moved = self.major_move();
         let point = Point(x, y);
         let next = settled(moved);
         Stepped {
@@ -187,8 +213,8 @@ fn coordinate(a: i32, major: i32, along: i32, minor: i32, across: i32) -> i32
     a + major * along + minor * across
 }
 
-// The point at a step, without walking there.
-fn point_at(start: Point, end: Point, step: u32) -> Point
+// Inside the library: the point at a step of an accepted line, without walking there.
+pub fn point_at(start: Point, end: Point, step: u32) -> Point
     requires { ⌜ (Bounded start × Bounded end) × (step ≤ major start end) ⌝ }
     ensures { λ r. ⌜ r ≡ pointAt start end step ⌝ }
 {

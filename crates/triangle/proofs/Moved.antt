@@ -2,18 +2,17 @@
 use mathlib.Core.Path.{_≡_, refl, sym, ap, subst, _∙_}
 use mathlib.Core.Bool.{Bool, true, false, cond, _||_}
 use mathlib.Core.Logic.{inl, inr}
-use Prim.Native.Nat.{ℕ, _≤_}
 use native.Mathlib.Omega.{arith}
 use lib.IntN.{ℤ, pos, _+ℤ_, _-ℤ_}
 use lib.Signed.{_≤ℤ_}
 use Rattle.whole.specs.Equal.{eqZ}
-use Rattle.whole.proofs.Decides.{decides-map, decides-one}
+use Rattle.whole.proofs.Decides.{decides-map, decides-one, decides-yes}
 use Rattle.whole.proofs.Difference.{as-mk, mks, mk-eq, restored}
 use Rattle.whole.proofs.Order.{le-move, move-le, lt-move, move-lt, move-eq}
 use Rattle.geometry.specs.declared.Point.{Point}
 use Rattle.geometry.specs.Place.{before, moved}
 use Rattle.line.specs.Line.{HasPoint, hasPoint}
-use Rattle.line.proofs.Points.{major-moved, point-moved, has-moved, has-decides}
+use Rattle.line.proofs.Points.{has-moved, has-same, has-decides}
 use Rattle.triangle.specs.declared.Sorted.{Sorted}
 use Rattle.triangle.specs.declared.Columns.{Columns}
 use Rattle.geometry.proofs.Place.{Before, before-decides}
@@ -27,18 +26,8 @@ use Rattle.triangle.proofs.Triangle.{row-spans, row-bounds}
 
 module _ (d : Point) where
   -- ---- a line's points
-  moved-one : (p q : Point) → moved d p ≡ moved d q → p ≡ q
-  moved-one p q e =
-      let x = move-eq (p .0) (q .0) (d .0) (ap (λ (r : Point). r .0) e) in
-      let y = move-eq (p .1) (q .1) (d .1) (ap (λ (r : Point). r .1) e) in
-      λ i. (x i, y i)
-
   unmoved : (s e p : Point) → HasPoint (moved d s) (moved d e) (moved d p) → HasPoint s e p
-  unmoved s e p h =
-      record { step = h .step; walked = subst (λ (n : ℕ). h .step ≤ n) (major-moved s e d) (h .walked); here = moved-one p _ (h .here ∙ point-moved s e d (h .step)) }
-
-  has-same : (s e p : Point) → hasPoint (moved d s) (moved d e) (moved d p) ≡ hasPoint s e p
-  has-same s e p = decides-one _ _ (has-decides _ _ _) (decides-map (has-decides s e p) (has-moved s e d p) (unmoved s e p))
+  unmoved s e p h = has-decides s e p .yes (sym (has-same s e d p) ∙ decides-yes (has-decides _ _ _) h)
 
   -- ---- the sorted vertices
   before-same : (a b : Point) → before (moved d a) (moved d b) ≡ before a b
@@ -121,8 +110,8 @@ module _ (d : Point) where
         let s = sorted-moved v1 v2 v3 in
         (λ i. cond (flat-same i) (hasPoint (s i .p1) (s i .p3) (moved d p)) (inside-same p i || onEdge (s i .p1) (s i .p2) (s i .p3) (moved d p)))
         ∙ (λ i.
-        cond (isFlat v1 v2 v3) (has-same (t .p1) (t .p3) p i)
-        (isInside v1 v2 v3 p || (has-same (t .p1) (t .p2) p i || (has-same (t .p1) (t .p3) p i || has-same (t .p2) (t .p3) p i))))
+        cond (isFlat v1 v2 v3) (has-same (t .p1) (t .p3) d p i)
+        (isInside v1 v2 v3 p || (has-same (t .p1) (t .p2) d p i || (has-same (t .p1) (t .p3) d p i || has-same (t .p2) (t .p3) d p i))))
 
     -- ---- THE SPAN of a row that the triangle has moves along
     edge-moved : (b : Bool) (p : Point) → EdgePoint b (t .p1) (t .p2) (t .p3) p → EdgePoint b (moved d (t .p1)) (moved d (t .p2)) (moved d (t .p3)) (moved d p)

@@ -13,7 +13,7 @@ use Rattle.line.specs.Line.{major, minor, moves}
 use Rattle.line.specs.Walk.{Reachable}
 use Rattle.line.proofs.Lengths.{narrow, major-size, minor-size}
 use Rattle.line.proofs.Moves.{moves-minor}
-use Rattle.line.proofs.Walk.{xmajor-read, xminor-read, ymajor-read, yminor-read, course-x, course-y}
+use Rattle.line.proofs.Walk.{xmajor-read, xminor-read, ymajor-read, yminor-read, course-x, course-y, standing-point}
 use Rattle.line.proofs.point_at.Statement.{statement}
 use Rattle.line.proofs.point_at.Tie as tie
 
@@ -100,9 +100,10 @@ returns c =
     let h = course b .course-of .ensures in
     let x-back : toZ w32 (ofZ w32 (p .coordinate .result)) ≡ p .coordinate .result = search needs in
     let y-back : toZ w32 (ofZ w32 (c .coordinate2 .result)) ≡ c .coordinate2 .result = search needs in
-    let x = x-back ∙ p .coordinate .ensures ∙ given b (entry b .pre .0 .0 .x) (xmajor-read h) (xminor-read h) ∙ course-x h (entry b .args .step) in
-    let y = y-back ∙ c .coordinate2 .ensures ∙ given b (entry b .pre .0 .0 .y) (ymajor-read h) (yminor-read h) ∙ course-y h (entry b .args .step) in
-    λ i. (x i, y i)
+    let m = moves (major (entry b .args .start) (entry b .args .end)) (minor (entry b .args .start) (entry b .args .end)) (entry b .args .step) in
+    let x = x-back ∙ p .coordinate .ensures ∙ given b (entry b .pre .0 .0 .x) (xmajor-read h) (xminor-read h) ∙ course-x h (entry b .args .step) m in
+    let y = y-back ∙ c .coordinate2 .ensures ∙ given b (entry b .pre .0 .0 .y) (ymajor-read h) (yminor-read h) ∙ course-y h (entry b .args .step) m in
+    (λ i. (x i, y i)) ∙ standing-point (entry b .args .start) (entry b .args .end) (entry b .args .step)
 
 pub point-at-spec : {M : Type 1} → statement M
 point-at-spec =

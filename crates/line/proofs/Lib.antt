@@ -1,7 +1,7 @@
 pub mod Moves
 pub mod Lengths
-pub mod Points
 pub mod Walk
+pub mod Points
 pub mod Closed
 pub mod Apart
 pub mod Slope

@@ -18,6 +18,7 @@ use Rattle.geometry.specs.declared.Point.{Point}
 use Rattle.geometry.specs.Place.{samePlace, moved}
 use Rattle.geometry.proofs.Place.{same-decides, same-moved}
 use Rattle.line.specs.Line.{toward, wide, high, steep, major, minor, moves, xMoves, yMoves, pointAt, points, HasPoint, someStep, hasPoint}
+use Rattle.line.specs.Walk.{placeAt}
 use Rattle.line.proofs.Moves.{moves-start, moves-end, moves-band, moves-one, moves-mono}
 use Rattle.line.proofs.Lengths.{narrow, major-by, minor-by, x-by, y-by}
 
@@ -42,10 +43,6 @@ stay a b = still a (toward a b)
   where
     still : (a d : ℤ) → a +ℤ d *ℤ pos 0 ≡ a
     still a d = rw (as-mk a, as-mk d) (simp mks (mk-eq _ _ _ _ (omega arith)))
-
--- both axes: the place so many moves along x and along y from s towards e
-abbrev pub placeAt : Point → Point → ℕ → ℕ → Point
-placeAt s e x y = (s .0 +ℤ toward (s .0) (e .0) *ℤ pos x, s .1 +ℤ toward (s .1) (e .1) *ℤ pos y)
 
 -- ---- both ends are points
 module _ (s e : Point) where

@@ -21,10 +21,9 @@ use Rattle.geometry.proofs.Bound.{coord-size}
 use Rattle.line.specs.declared.Course.{Course}
 use Rattle.line.specs.declared.Walker.{Walker}
 use Rattle.line.specs.Line.{toward, wide, high, steep, major, minor, moves, xMoves, yMoves, pointAt}
-use Rattle.line.specs.Walk.{CourseOf, Stands, isDue, DueAt, WalkerAt}
+use Rattle.line.specs.Walk.{CourseOf, standing, Stands, isDue, DueAt, WalkerAt}
 use Rattle.line.proofs.Moves.{moves-is}
 use Rattle.line.proofs.Lengths.{narrow, major-by, minor-by, major-size, minor-size, toward-size}
-use Rattle.line.proofs.Points.{placeAt}
 
 -- ---- the parameters of a line, by its major axis
 module _ {s e : Point} {c : Course} (b : Bool) (axis : steep s e ≡ b) where
@@ -98,11 +97,7 @@ module _ {s e : Point} {k m : ℕ} {w : Walker} (h : Stands s e k m w) where
       (omega (arith, h .low, major-size (h .start) (h .end)))) tt
 
 -- ---- the point it stands at
--- where k major and m minor moves lead
-abbrev pub standing : Point → Point → ℕ → ℕ → Point
-standing s e k m = placeAt s e (cond (steep s e) m k) (cond (steep s e) k m)
-
--- with the rule's m: to the rule's point
+-- the rule's m leads to the rule's point
 pub standing-point : (s e : Point) (k : ℕ) → standing s e k (moves (major s e) (minor s e) k) ≡ pointAt s e k
 unfolding xMoves yMoves pointAt
 standing-point s e k = refl

@@ -20,6 +20,12 @@ pub record CourseOf (s e : Point) (c : Course) : Type 0 where
   pub minor-x : c .xminor ≡ cond (steep s e) (toward (s .0) (e .0)) (pos 0)
   pub minor-y : c .yminor ≡ cond (steep s e) (pos 0) (toward (s .1) (e .1))
 
+-- the parameters of some line
+pub record SomeCourse (c : Course) : Type 0 where
+  pub s : Point
+  pub e : Point
+  pub here : CourseOf s e c
+
 -- a coordinate, and moves from it of at most one place each
 pub record Reachable (a major along minor across : ℤ) : Type 0 where
   pub from : Coord a
@@ -27,6 +33,14 @@ pub record Reachable (a major along minor across : ℤ) : Type 0 where
   pub other : natAbs minor ≤ 1
   pub many : natAbs along ≤ 262144
   pub few : natAbs across ≤ 262144
+
+-- the place so many moves along x and along y from s towards e
+abbrev pub placeAt : Point → Point → ℕ → ℕ → Point
+placeAt s e x y = (s .0 +ℤ toward (s .0) (e .0) *ℤ pos x, s .1 +ℤ toward (s .1) (e .1) *ℤ pos y)
+
+-- where k major and m minor moves lead
+abbrev pub standing : Point → Point → ℕ → ℕ → Point
+standing s e k m = placeAt s e (cond (steep s e) m k) (cond (steep s e) k m)
 
 -- w has made k moves along the major axis and m along the minor axis from s, and its error says by how much it is off
 pub record Stands (s e : Point) (k m : ℕ) (w : Walker) : Type 0 where

@@ -9,7 +9,7 @@ ghost use Rattle.geometry.specs.declared.Point.{Point as Place};
 ghost use Rattle.geometry.specs.Bound.{Coord, Bounded};
 ghost use Rattle.geometry.specs.Answer.{verdict};
 ghost use Rattle.line.specs.Line.{toward, moves, major, minor, points, pointAt, onLine, hasPoint};
-ghost use Rattle.line.specs.Walk.{CourseOf, Reachable, isDue, Stands, Moving, Walking, DueAt, WalkerAt};
+ghost use Rattle.line.specs.Walk.{CourseOf, SomeCourse, Reachable, standing, isDue, Stands, Moving, Walking, DueAt, WalkerAt};
 ghost use Rattle.line.specs.Answer.{endTests, stepTests, lengthAnswer, stepAnswer};
 use geometry::Point;
 use geometry::Verdict;
@@ -74,8 +74,8 @@ fn direction(a: i32, b: i32) -> i32
     -1
 }
 
-// The parameters of the line from start to end.
-fn course_of(start: Point, end: Point) -> Course
+// Inside the library: the parameters of the accepted line from start to end.
+pub fn course_of(start: Point, end: Point) -> Course
     requires { ⌜ Bounded start × Bounded end ⌝ }
     ensures { λ r. ⌜ CourseOf start end r ⌝ }
 {
@@ -213,17 +213,26 @@ fn coordinate(a: i32, major: i32, along: i32, minor: i32, across: i32) -> i32
     a + major * along + minor * across
 }
 
-// Inside the library: the point at a step of an accepted line, without walking there.
-pub fn point_at(start: Point, end: Point, step: u32) -> Point
+// Inside the library: where k major and m minor moves lead from start.
+pub fn place_after(start: Point, c: Course, k: u32, m: u32) -> Point
+    requires { ⌜ Bounded start × SomeCourse c × (k ≤ 262144) × (m ≤ 262144) ⌝ }
+    ensures { λ r. ⌜ ((e : Place) → CourseOf start e c → r ≡ standing start e k m) ⌝ }
+{
+    let along = k as i32;
+    let across = m as i32;
+    let x = coordinate(start.0, c.xmajor, along, c.xminor, across);
+    let y = coordinate(start.1, c.ymajor, along, c.yminor, across);
+    Point(x, y)
+}
+
+// The point at a step, without walking there.
+fn point_at(start: Point, end: Point, step: u32) -> Point
     requires { ⌜ (Bounded start × Bounded end) × (step ≤ major start end) ⌝ }
     ensures { λ r. ⌜ r ≡ pointAt start end step ⌝ }
 {
     let c = course_of(start, end);
-    let m = moves_at(c.threshold as u32, c.up as u32, step) as i32;
-    let k = step as i32;
-    let x = coordinate(start.0, c.xmajor, k, c.xminor, m);
-    let y = coordinate(start.1, c.ymajor, k, c.yminor, m);
-    Point(x, y)
+    let m = moves_at(c.threshold as u32, c.up as u32, step);
+    place_after(start, c, step, m)
 }
 
 // Inside the library: 5 where a line end is out of bounds, else 0.

@@ -1,19 +1,16 @@
--- `line::point_at` makes the moves of the rule from the start, by the line's parameters. Assumes nothing.
-use mathlib.Core.Path.{_≡_, sym, ap, subst, _∙_}
+-- `line::point_at` asks where the moves of the rule lead. Assumes nothing.
+use mathlib.Core.Path.{_≡_, ap, _∙_}
 use Prim.Native.Nat.{ℕ, _*_}
 use native.Mathlib.Omega.{arith}
-use lib.IntN.{ℤ, pos, _+ℤ_, _*ℤ_}
+use lib.IntN.{pos}
 use mir.Syntax.{w32}
-use mir.Val.{SFits, toZ, ofZ}
 use borrow.Author.Needs.{needs}
-use Rattle.whole.proofs.Machine.{Has, fits, back, size-of, same-bits, to-nat, nat-is}
-use Rattle.geometry.specs.Bound.{Coord}
-use Rattle.geometry.proofs.Bound.{coord}
+use Rattle.whole.proofs.Machine.{Has, to-nat, nat-is}
 use Rattle.line.specs.Line.{major, minor, moves}
-use Rattle.line.specs.Walk.{Reachable}
+use Rattle.line.specs.Walk.{standing}
 use Rattle.line.proofs.Lengths.{narrow, major-size, minor-size}
 use Rattle.line.proofs.Moves.{moves-minor}
-use Rattle.line.proofs.Walk.{xmajor-read, xminor-read, ymajor-read, yminor-read, course-x, course-y, standing-point}
+use Rattle.line.proofs.Walk.{standing-point}
 use Rattle.line.proofs.point_at.Statement.{statement}
 use Rattle.line.proofs.point_at.Tie as tie
 
@@ -53,68 +50,23 @@ module _ (c : tie.After-moves-at) where
       c .moves-at .ensures (minor (entry .args .start) (entry .args .end)) (nat-is (rise course))
       ∙ ap (λ (M : ℕ). moves M (minor (entry .args .start) (entry .args .end)) (entry .args .step)) (nat-is (last course))
 
-  k-read : Has w32 (toZ w32 (entry .args .step)) (pos (entry .args .step)) 262144
-  k-read = same-bits (omega (arith, entry .pre .1, major-size (entry .pre .0 .0) (entry .pre .0 .1))) tt
-
-  m-read : Has w32 (toZ w32 (c .moves-at .result)) (pos (c .moves-at .result)) 262144
-  m-read =
-      same-bits
-      (omega (
-        arith,
-        m-is,
-        moves-minor (major (entry .args .start) (entry .args .end)) (minor (entry .args .start) (entry .args .end)) (entry .args .step) (entry .pre .1),
-        minor-size (entry .pre .0 .0) (entry .pre .0 .1),
-      )) tt
-
-  -- what `coordinate` asks and gives, along x and along y
-  module _ {a d e : ℤ} (from : Coord a) (one : Has w32 (toZ w32 (ofZ w32 d)) d 1) (other : Has w32 (toZ w32 (ofZ w32 e)) e 1) where
-    asked : Reachable (toZ w32 (ofZ w32 a)) (toZ w32 (ofZ w32 d)) (toZ w32 (entry .args .step)) (toZ w32 (ofZ w32 e)) (toZ w32 (c .moves-at .result))
-    asked = record { from = subst Coord (sym (back (coord from) .is)) from; one = size-of one; other = size-of other; many = size-of k-read; few = size-of m-read }
-
-    given : toZ w32 (ofZ w32 a) +ℤ toZ w32 (ofZ w32 d) *ℤ toZ w32 (entry .args .step) +ℤ toZ w32 (ofZ w32 e) *ℤ toZ w32 (c .moves-at .result)
-        ≡ a +ℤ d *ℤ pos (entry .args .step) +ℤ e *ℤ pos (moves (major (entry .args .start) (entry .args .end)) (minor (entry .args .start) (entry .args .end)) (entry .args .step))
-    given = λ i. back (coord from) .is i +ℤ one .is i *ℤ k-read .is i +ℤ other .is i *ℤ (m-read .is ∙ ap pos m-is) i
-
-cast-m : tie.Need-cast-m
-cast-m c = subst (SFits w32) (m-read c .is) (fits (m-read c))
-
-cast-k : tie.Need-cast-k
-cast-k c = subst (SFits w32) (k-read c .is) (fits (k-read c))
-
-coordinate-requires : tie.Need-coordinate-requires
-coordinate-requires c κs =
-    let b = c .before .before .before in
-    let h = course b .course-of .ensures in
-    asked b (entry b .pre .0 .0 .x) (xmajor-read h) (xminor-read h)
-
-coordinate-requires-2 : tie.Need-coordinate-requires-2
-coordinate-requires-2 c κs =
-    let b = c .before .before .before .before .before .before .before in
-    let h = course b .course-of .ensures in
-    asked b (entry b .pre .0 .0 .y) (ymajor-read h) (yminor-read h)
+place-after-requires : tie.Need-place-after-requires
+place-after-requires c κs =
+    let s = entry c in
+    let M = major (s .args .start) (s .args .end) in
+    let n = minor (s .args .start) (s .args .end) in (
+      s .pre .0 .0,
+      record { s = s .args .start; e = s .args .end; here = course c .course-of .ensures },
+      omega (arith, s .pre .1, major-size (s .pre .0 .0) (s .pre .0 .1)),
+      omega (arith, m-is c, moves-minor M n (s .args .step) (s .pre .1), minor-size (s .pre .0 .0) (s .pre .0 .1)),
+    )
 
 returns : tie.Need-returns
 returns c =
-    let p = c .before .before .before .before in
-    let b = p .before .before .before .before in
-    let h = course b .course-of .ensures in
-    let x-back : toZ w32 (ofZ w32 (p .coordinate .result)) ≡ p .coordinate .result = search needs in
-    let y-back : toZ w32 (ofZ w32 (c .coordinate2 .result)) ≡ c .coordinate2 .result = search needs in
-    let m = moves (major (entry b .args .start) (entry b .args .end)) (minor (entry b .args .start) (entry b .args .end)) (entry b .args .step) in
-    let x = x-back ∙ p .coordinate .ensures ∙ given b (entry b .pre .0 .0 .x) (xmajor-read h) (xminor-read h) ∙ course-x h (entry b .args .step) m in
-    let y = y-back ∙ c .coordinate2 .ensures ∙ given b (entry b .pre .0 .0 .y) (ymajor-read h) (yminor-read h) ∙ course-y h (entry b .args .step) m in
-    (λ i. (x i, y i)) ∙ standing-point (entry b .args .start) (entry b .args .end) (entry b .args .step)
+    let b = c .before in
+    let s = entry b in
+    c .place-after .ensures (s .args .end) (course b .course-of .ensures) ∙ ap (standing (s .args .start) (s .args .end) (s .args .step)) (m-is b)
+    ∙ standing-point (s .args .start) (s .args .end) (s .args .step)
 
 pub point-at-spec : {M : Type 1} → statement M
-point-at-spec =
-    tie.close
-    (tie.spec
-    course-of-requires
-    cast-moves-at
-    cast-moves-at-2
-    moves-at-requires
-    cast-m
-    cast-k
-    coordinate-requires
-    coordinate-requires-2
-    returns)
+point-at-spec = tie.close (tie.spec course-of-requires cast-moves-at cast-moves-at-2 moves-at-requires place-after-requires returns)

@@ -1,7 +1,7 @@
 // Places of pixels and of half pixels, which look alike and are kept apart by their types; the bound on coordinates; the order of places and of
 // columns; and the answers that questions on every figure share.
 ghost use mathlib.Core.Path.{_≡_};
-ghost use Rattle.geometry.specs.Place.{before};
+ghost use Rattle.geometry.specs.Place.{samePlace, before};
 ghost use Rattle.geometry.specs.Extreme.{lesser, greater};
 ghost use Rattle.geometry.specs.Bound.{isCoord, inBounds};
 
@@ -40,6 +40,13 @@ pub fn in_bounds(p: Point) -> bool
     let x = p.0;
     let y = p.1;
     is_coord(x) && is_coord(y)
+}
+
+// Inside the library: whether two places are the same.
+pub fn same_place(p: Point, q: Point) -> bool
+    ensures { λ r. ⌜ r ≡ samePlace p q ⌝ }
+{
+    p.0 == q.0 && p.1 == q.1
 }
 
 // Inside the library: whether a stands before b by y, then x, or in the same place.

@@ -1,7 +1,7 @@
 -- Laws of a line's lengths: which is the major one, and how large they are. Assumes nothing.
 use mathlib.Core.Path.{_≡_, ap}
 use mathlib.Core.Bool.{Bool, true, false, cond}
-use Prim.Native.Nat.{ℕ, _≤_}
+use Prim.Native.Nat.{ℕ, _+_, _≤_}
 use native.Mathlib.Omega.{arith}
 use borrow.Author.Tests.{leb-true, leb-false}
 use lib.IntN.{ℤ, pos, negsuc, negℤ, natAbs, _-ℤ_}
@@ -19,6 +19,10 @@ module _ (s e : Point) where
   pub narrow : minor s e ≤ major s e
   unfolding major minor
   narrow = omega arith
+
+  pub lengths-sum : wide s e + high s e ≡ major s e + minor s e
+  unfolding major minor
+  lengths-sum = omega arith
 
   -- ---- by the axis
   pub major-by : (b : Bool) → steep s e ≡ b → major s e ≡ cond b (high s e) (wide s e)

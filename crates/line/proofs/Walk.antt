@@ -68,6 +68,13 @@ module _ {s e : Point} {c : Course} (h : CourseOf s e c) where
   yminor-read = read-as (h .minor-y) (cond-size (steep s e) (pos 0) (toward (s .1) (e .1)) (omega arith) (toward-size (s .1) (e .1))) tt
 
   module _ (start : Bounded s) (end : Bounded e) where
+    -- the lengths, as a course has them
+    pub threshold-of : Has w32 (c .threshold) (pos (major s e)) 262144
+    threshold-of = record { is = h .threshold; size = major-size start end; room = omega arith }
+
+    pub up-of : Has w32 (c .up) (pos (2 * minor s e)) 524288
+    up-of = record { is = h .up; size = omega (arith, minor-size start end); room = omega arith }
+
     pub threshold-read : Has w32 (toZ w32 (ofZ w32 (c .threshold))) (c .threshold) 262144
     threshold-read = read-as (h .threshold) (major-size start end) tt
 
@@ -162,16 +169,17 @@ more x y z = rw (as-mk x, as-mk y, as-mk z) (simp mks (mk-eq _ _ _ _ (omega arit
 twice-more : (n k : ℕ) → 2 * n * k + 2 * n ≡ 2 * n * (k + 1)
 twice-more n k = omega arith
 
-positive : (M n k m : ℕ) → n ≤ M → 2 * M * m + M < 2 * n * k → 0 < M
-positive zero zero k m h t = absurd (omega arith)
-positive zero (suc n) k m h t = absurd (omega arith)
-positive (suc M) n k m h t = omega arith
+-- a minor move is due on a line of some length alone
+pub due-some : (M n k m : ℕ) → n ≤ M → 2 * M * m + M < 2 * n * k → 0 < M
+due-some zero zero k m h t = absurd (omega arith)
+due-some zero (suc n) k m h t = absurd (omega arith)
+due-some (suc M) n k m h t = omega arith
 
 -- a minor move that is due: there are still no more minor moves than steps
 still-few : (M n k m : ℕ) → n ≤ M → 2 * M * m + M < 2 * n * k → m + 1 ≤ k
 still-few M n k m h t =
     let a : n * k ≤ M * k = mul-le-mul-right k h in
-    let p : 0 < M = positive M n k m h t in
+    let p : 0 < M = due-some M n k m h t in
     let b : M * m < M * k = omega arith in
     let d : m < k = lt-of-mul-lt-mul-left M b in
     omega arith

@@ -10,7 +10,7 @@ use lib.IntN.{ℤ, pos, negsuc, negℤ, natAbs, subℕ, _+ℤ_, _-ℤ_, _*ℤ_, 
 use lib.Signed.{leZ, ltZ, _≤ℤ_, _<ℤ_, mag, nonNeg, ltZ-yes, ltZ-no, leZ-yes, yes-nonNeg, natAbs-le}
 use mir.Syntax.{Width, w32, w64}
 use mir.Val.{SFits, Fits, toZ, ofZ, hbits, bits}
-use mir.Facts.{toZ-ofZ, toZ-pos, fits-natAbs}
+use mir.Facts.{toZ-ofZ, toZ-pos, fits-natAbs, sfits-lit}
 use Rattle.whole.specs.Equal.{eqZ}
 use Rattle.whole.proofs.Decides.{decides-map, decides-one, decides-eqb, decides-eq}
 use Rattle.whole.proofs.Difference.{mk, up, dn, as-mk, eq-mk, lt-nat, nat-lt}
@@ -131,6 +131,11 @@ module _ {w : Width} {e f y z : ℤ} {b d : ℕ} (h : Has w e y b) (k : Has w f 
   pub times : T (ltb (b * d) (2 ^ hbits w)) → Has w (e *ℤ f) (y *ℤ z) (b * d)
   times t = record { is = ap₂ _*ℤ_ (h .is) (k .is); size = rw mul-size (mul-le-mul (h .size) (k .size)); room = ltb→lt (b * d) (2 ^ hbits w) t }
 
+-- the difference of any two `i32` in `i64`
+pub wide-minus : {x y : ℤ} → SFits w32 x → SFits w32 y
+    → Has w64 (toZ w64 (ofZ w64 (toZ w32 (ofZ w32 x))) -ℤ toZ w64 (ofZ w64 (toZ w32 (ofZ w32 y)))) (x -ℤ y) 4294967296
+wide-minus f g = minus (back (wide f)) (back (wide g)) tt
+
 -- `-x` is 0 - x in the machine
 pub minus-of : {w : Width} {e z : ℤ} {b : ℕ} → Has w e z b → Has w (pos 0 -ℤ e) (negℤ z) b
 minus-of {w} {e} {z} {b} h = record { is = +ℤ-idl _ ∙ ap negℤ (h .is); size = omega (arith, neg-size z, h .size); room = h .room }
@@ -164,10 +169,6 @@ tests-lt h k = ap₂ ltZ (h .is) (k .is)
 pub tests-le : {w : Width} {e f y z : ℤ} {b d : ℕ} → Has w e y b → Has w f z d → leZ e f ≡ leZ y z
 tests-le h k = ap₂ leZ (h .is) (k .is)
 
--- the test for 0, by the bits
-pub zero-test : {z : ℤ} → SFits w64 z → eqb (ofZ w64 z) 0 ≡ eqZ z (pos 0)
-zero-test {z} f = decides-one _ _ (decides-map (decides-eqb (ofZ w64 z) 0) (λ e. sym (toZ-ofZ f) ∙ ap (toZ w64) e) (ap (ofZ w64))) (decides-eq z (pos 0))
-
 -- two values of a width that are read back: parameters, fields
 module _ {w : Width} {x y : ℤ} (fx : SFits w x) (fy : SFits w y) where
   -- the test, at the numbers
@@ -188,9 +189,16 @@ module _ {w : Width} {x y : ℤ} (fx : SFits w x) (fy : SFits w y) where
   pub eq-bits : ofZ w x ≡ ofZ w y → x ≡ y
   eq-bits e = sym (toZ-ofZ fx) ∙ ap (toZ w) e ∙ toZ-ofZ fy
 
+  pub eq-test : eqb (ofZ w x) (ofZ w y) ≡ eqZ x y
+  eq-test = decides-one _ _ (decides-map (decides-eqb (ofZ w x) (ofZ w y)) eq-bits (ap (ofZ w))) (decides-eq x y)
+
   -- what a callee ensures of two arguments, at the numbers
   pub at₂ : (P : ℤ → ℤ → Type 0) → P (toZ w (ofZ w x)) (toZ w (ofZ w y)) → P x y
   at₂ P h = subst (P x) (toZ-ofZ fy) (subst (λ (v : ℤ). P v (toZ w (ofZ w y))) (toZ-ofZ fx) h)
+
+-- the test for 0
+pub zero-test : {z : ℤ} → SFits w64 z → eqb (ofZ w64 z) 0 ≡ eqZ z (pos 0)
+zero-test f = eq-test f (sfits-lit {z = pos 0} tt)
 
 -- ---- a cast to an unsigned type, of a number that is not negative
 pub to-nat : {w : Width} (w′ : Width) {e : ℤ} {n b : ℕ} → Has w e (pos n) b → T (ltb b (2 ^ bits w′)) → T (nonNeg (toZ w (ofZ w e))) × Fits w′ (natAbs (toZ w (ofZ w e)))

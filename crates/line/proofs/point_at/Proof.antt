@@ -10,7 +10,7 @@ use Rattle.line.specs.Line.{major, minor, moves}
 use Rattle.line.specs.Walk.{standing}
 use Rattle.line.proofs.Lengths.{narrow, major-size, minor-size}
 use Rattle.line.proofs.Moves.{moves-minor}
-use Rattle.line.proofs.Walk.{standing-point}
+use Rattle.line.proofs.Walk.{threshold-of, up-of, standing-point}
 use Rattle.line.proofs.point_at.Statement.{statement}
 use Rattle.line.proofs.point_at.Tie as tie
 
@@ -20,10 +20,10 @@ course-of-requires c κs = search needs
 -- the lengths, as the course has them
 module _ (c : tie.After-course-of) where
   last : Has w32 (c .course-of .result .threshold) (pos (major (c .before .args .start) (c .before .args .end))) 262144
-  last = record { is = c .course-of .ensures .threshold; size = major-size (c .before .pre .0 .0) (c .before .pre .0 .1); room = omega arith }
+  last = threshold-of (c .course-of .ensures) (c .before .pre .0 .0) (c .before .pre .0 .1)
 
   rise : Has w32 (c .course-of .result .up) (pos (2 * minor (c .before .args .start) (c .before .args .end))) 524288
-  rise = record { is = c .course-of .ensures .up; size = omega (arith, minor-size (c .before .pre .0 .0) (c .before .pre .0 .1)); room = omega arith }
+  rise = up-of (c .course-of .ensures) (c .before .pre .0 .0) (c .before .pre .0 .1)
 
 cast-moves-at : tie.Need-cast-moves-at
 cast-moves-at c = to-nat w32 (last (c .before .before)) tt

@@ -4,15 +4,10 @@ use mathlib.Core.Bool.{true, false}
 use native.Mathlib.Omega.{arith}
 use lib.IntN.{ℤ, pos, negsuc, _-ℤ_, _*ℤ_}
 use lib.Signed.{leZ}
-use mir.Syntax.{w32, w64}
-use mir.Val.{SFits, toZ, ofZ}
 use Rattle.whole.proofs.Difference.{as-mk, mks, mk-eq}
-use Rattle.whole.proofs.Machine.{Has, wide, minus, fits, back, le-test}
+use Rattle.whole.proofs.Machine.{wide, wide-minus, fits, back, le-test}
 use Rattle.line.proofs.progress.Statement.{statement}
 use Rattle.line.proofs.progress.Tie as tie
-
-apart : {x y : ℤ} → SFits w32 x → SFits w32 y → Has w64 (toZ w64 (ofZ w64 (toZ w32 (ofZ w32 x))) -ℤ toZ w64 (ofZ w64 (toZ w32 (ofZ w32 y)))) (x -ℤ y) 4294967296
-apart f g = minus (back (wide f)) (back (wide g)) tt
 
 up : (a p : ℤ) → p -ℤ a ≡ pos 1 *ℤ (p -ℤ a)
 up a p = rw (as-mk a, as-mk p) (simp mks (mk-eq _ _ _ _ (omega arith)))
@@ -27,13 +22,13 @@ cast-result-2 : tie.Need-cast-result-2
 cast-result-2 c = fits (wide (c .before .fits .a))
 
 sub-result : tie.Need-sub-result
-sub-result c = fits (apart (c .before .fits .p) (c .before .fits .a))
+sub-result c = fits (wide-minus (c .before .fits .p) (c .before .fits .a))
 
 returns : tie.Need-returns
 returns c =
     let s = c .before in
     let t : leZ (s .args .a) (s .args .b) ≡ true = sym (le-test (s .fits .a) (s .fits .b)) ∙ c .if1 .taken in
-    rw t (back (apart (s .fits .p) (s .fits .a)) .is ∙ up (s .args .a) (s .args .p))
+    rw t (back (wide-minus (s .fits .p) (s .fits .a)) .is ∙ up (s .args .a) (s .args .p))
 
 cast-result-3 : tie.Need-cast-result-3
 cast-result-3 c = fits (wide (c .before .fits .a))
@@ -42,13 +37,13 @@ cast-result-4 : tie.Need-cast-result-4
 cast-result-4 c = fits (wide (c .before .fits .p))
 
 sub-result-2 : tie.Need-sub-result-2
-sub-result-2 c = fits (apart (c .before .fits .a) (c .before .fits .p))
+sub-result-2 c = fits (wide-minus (c .before .fits .a) (c .before .fits .p))
 
 returns-2 : tie.Need-returns-2
 returns-2 c =
     let s = c .before in
     let t : leZ (s .args .a) (s .args .b) ≡ false = sym (le-test (s .fits .a) (s .fits .b)) ∙ c .if1 .left in
-    rw t (back (apart (s .fits .a) (s .fits .p)) .is ∙ down (s .args .a) (s .args .p))
+    rw t (back (wide-minus (s .fits .a) (s .fits .p)) .is ∙ down (s .args .a) (s .args .p))
 
 pub progress-spec : {M : Type 1} → statement M
 progress-spec =

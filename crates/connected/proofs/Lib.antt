@@ -1,0 +1,10 @@
+pub mod Indices
+pub mod Points
+pub mod Made
+pub mod Walk
+pub mod Members
+pub mod Connected
+pub mod Right
+pub mod Moved
+pub mod Refusals
+pub mod Determined

@@ -8,3 +8,4 @@ pub mod Right
 pub mod Moved
 pub mod Refusals
 pub mod Determined
+pub mod Known

@@ -1,3 +1,4 @@
 pub mod Connected
 pub mod Walk
 pub mod Answer
+pub mod Known

@@ -1,11 +1,12 @@
 -- 01's known small answers 1 to 12, as a table: each case is a question and the answer that 01 gives, and `holds` asks the definitions.
 use mathlib.Core.Bool.{Bool, true, false, _&&_}
 use mathlib.Core.List.{List, [], _∷_, _++_}
-use Prim.Native.Nat.{ℕ, zero, suc, _+_}
+use Prim.Native.Nat.{ℕ, suc, _+_}
 use lib.Dec.{eqb}
 use lib.IntN.{ℤ, pos, _+ℤ_, _-ℤ_}
 use lib.ListN.{replicate}
 use Rattle.whole.specs.Equal.{eqZ}
+use Rattle.whole.specs.Listed.{upFrom}
 use Rattle.geometry.specs.declared.Point.{Point}
 use Rattle.geometry.specs.Place.{samePlace}
 use Rattle.line.specs.Line.{pointAt, points}
@@ -48,11 +49,6 @@ sameBytes [] [] = true
 sameBytes [] (q ∷ qs) = false
 sameBytes (p ∷ ps) [] = false
 sameBytes (p ∷ ps) (q ∷ qs) = eqb p q && sameBytes ps qs
-
--- f k, f (k + 1), .., n of them
-abbrev pub upFrom : {A : Type 0} → (ℕ → A) → ℕ → ℕ → List A
-upFrom f k zero = []
-upFrom f k (suc n) = f k ∷ upFrom f (k + 1) n
 
 abbrev pub long : List ℕ → ℕ
 long [] = 0

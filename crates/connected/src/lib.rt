@@ -52,26 +52,26 @@ pub fn next_all(w: Walker) -> SteppedAll
     requires { ⌜ Connecting w ⌝ }
     ensures { λ r. ⌜ ((s e : Place) (i : ℕ) → i ≤ lastIndex s e → NextAt s e i w → HandedOut s e i r) ⌝ }
 {
-    let x = w.x;
-    let y = w.y;
+    let here = Point(w.x, w.y);
     if w.is_due() {
         let moved = w.minor_move();
+        let next = Point(moved.x, moved.y);
         let c = moved.course;
         if mirrors(c) {
             return SteppedAll {
-                point: Point(moved.x - c.xmajor, moved.y - c.ymajor),
+                point: Point(next.0 - c.xmajor, next.1 - c.ymajor),
                 extra: true,
                 walker: moved,
             };
         }
         return SteppedAll {
-            point: Point(x, y),
+            point: here,
             extra: true,
             walker: moved,
         };
     }
     SteppedAll {
-        point: Point(x, y),
+        point: here,
         extra: false,
         walker: w.major_move(),
     }

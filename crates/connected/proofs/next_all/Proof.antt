@@ -3,7 +3,7 @@ use mathlib.Core.Path.{_≡_, sym, _∙_}
 use mathlib.Core.Bool.{true}
 use Prim.Native.Nat.{ℕ, _+_, _≤_}
 use native.Mathlib.Omega.{arith}
-use lib.IntN.{_-ℤ_}
+use lib.IntN.{ℤ, _-ℤ_}
 use mir.Syntax.{w32}
 use mir.Val.{toZ, ofZ}
 use Rattle.whole.proofs.Machine.{Has, minus, fits, back}
@@ -20,14 +20,17 @@ use Rattle.connected.proofs.next_all.Statement.{statement}
 use Rattle.connected.proofs.next_all.Tie as tie
 
 is-due-requires : tie.Need-is-due-requires
-is-due-requires c κs = moving (c .before .before .pre)
+is-due-requires c κs = moving (c .before .pre)
 
 minor-move-requires : tie.Need-minor-move-requires
-minor-move-requires c κs = moving (c .before .before .before .before .pre)
+minor-move-requires c κs = moving (c .before .before .before .pre)
 
--- where the walker stands, as it is read
+abbrev read : ℤ → ℤ
+read z = toZ w32 (ofZ w32 z)
+
+-- where the walker stands
 here : {s e : Point} {i : ℕ} {w : Walker} (at : NextAt s e i w) → i ≤ lastIndex s e
-    → _≡_ {A = Point} (toZ w32 (ofZ w32 (w .x)), toZ w32 (ofZ w32 (w .y))) (standing s e (at .k) (at .here .m))
+    → _≡_ {A = Point} (read (w .x), read (w .y)) (standing s e (at .k) (at .here .m))
 here {s} {e} at l =
     let st = at .here .stands in
     let h : at .k ≤ major s e + 1 = omega (arith, next-within at l) in
@@ -36,7 +39,7 @@ here {s} {e} at l =
 -- after the minor move that is due
 module _ (c : tie.After-minor-move) where
   abbrev entry : tie.Start
-  entry = c .before .before .before .before .before
+  entry = c .before .before .before .before
 
   module _ {s e : Point} {i : ℕ} (at : NextAt s e i (entry .args .w)) where
     due : isDue (major s e) (minor s e) (at .k) (at .here .m) ≡ true
@@ -45,38 +48,38 @@ module _ (c : tie.After-minor-move) where
     moved : Stands s e (at .k) (at .here .m + 1) (c .minor-move .result)
     moved = c .minor-move .ensures s e (at .k) (at .here .m) (at .here .stands) due
 
-    -- one major move back from there
+    -- one major move back from there, as the code works it out
     module _ (l : i ≤ lastIndex s e) where
-      X : Has w32 (toZ w32 (ofZ w32 (c .minor-move .result .x)) -ℤ toZ w32 (ofZ w32 (c .minor-move .result .course .xmajor)))
-          (c .minor-move .result .x -ℤ c .minor-move .result .course .xmajor) 655363
-      X = minus (x-read moved (omega (arith, next-within at l))) (xmajor-read (moved .course)) tt
+      X : Has w32 (read (read (c .minor-move .result .x)) -ℤ read (c .minor-move .result .course .xmajor)) (c .minor-move .result .x -ℤ c .minor-move .result .course .xmajor)
+          655363
+      X = minus (back (x-read moved (omega (arith, next-within at l)))) (xmajor-read (moved .course)) tt
 
-      Y : Has w32 (toZ w32 (ofZ w32 (c .minor-move .result .y)) -ℤ toZ w32 (ofZ w32 (c .minor-move .result .course .ymajor)))
-          (c .minor-move .result .y -ℤ c .minor-move .result .course .ymajor) 655363
-      Y = minus (y-read moved (omega (arith, next-within at l))) (ymajor-read (moved .course)) tt
+      Y : Has w32 (read (read (c .minor-move .result .y)) -ℤ read (c .minor-move .result .course .ymajor)) (c .minor-move .result .y -ℤ c .minor-move .result .course .ymajor)
+          655363
+      Y = minus (back (y-read moved (omega (arith, next-within at l)))) (ymajor-read (moved .course)) tt
 
 mirrors-requires : tie.Need-mirrors-requires
 mirrors-requires c κs =
-    let b = c .before in
+    let b = c .before .before in
     let h = entry b .pre in
     record { s = h .s; e = h .e; here = moved b (h .here) .course }
 
 sub-t8 : tie.Need-sub-t8
 sub-t8 c =
-    let b = c .before .before .before .before .before .before .before in
+    let b = c .before .before .before .before .before .before .before .before in
     let h = entry b .pre in
     fits (X b (h .here) (h .more))
 
 sub-t9 : tie.Need-sub-t9
 sub-t9 c =
-    let b = c .before .before .before .before .before .before .before .before .before .before .before in
+    let b = c .before .before .before .before .before .before .before .before .before .before .before .before in
     let h = entry b .pre in
     fits (Y b (h .here) (h .more))
 
 returns : tie.Need-returns
 returns c =
     let f = c .before .before .before .before .before .before .before .before in
-    let b = f .before .before .before in
+    let b = f .before .before .before .before in
     λ s e i l at.
     let some = made-some s e i (at .k) (at .here .m) l (at .sum) (next-made at) (due b at) in
     record {
@@ -88,7 +91,7 @@ returns c =
 
 returns-2 : tie.Need-returns-2
 returns-2 c =
-    let b = c .before .before .before in
+    let b = c .before .before .before .before in
     λ s e i l at.
     record {
       point = here at l
@@ -100,7 +103,7 @@ returns-2 c =
 major-move-requires : tie.Need-major-move-requires
 major-move-requires c κs =
     let b = c .before in
-    let h = b .before .before .before .pre in
+    let h = b .before .before .pre in
     walking h (sym (b .is-due .ensures (h .s) (h .e) (h .here .k) (h .here .here .m) (h .here .here .stands)) ∙ c .if1 .left)
 
 returns-3 : tie.Need-returns-3

@@ -7,10 +7,15 @@ use native.Mathlib.Decide.{decLt}
 use native.Mathlib.Omega.{arith}
 use borrow.Author.Tests.{le-leb, lt-leb, eq-eqb, ne-eqb}
 use Rattle.geometry.specs.declared.Point.{Point}
+use Rattle.geometry.specs.Bound.{Bounded}
 use Rattle.line.specs.Line.{major, minor, moves, pointAt}
 use Rattle.line.proofs.Moves.{moves-start, moves-end, moves-mono, moves-one}
-use Rattle.line.proofs.Lengths.{narrow}
+use Rattle.line.proofs.Lengths.{narrow, major-size, minor-size}
 use Rattle.connected.specs.Connected.{lastUpTo, indexOf, lastIndex, stepOf, isExtra, extraAt, connectedAt}
+
+-- the last index of an accepted line
+pub last-size : {s e : Point} → Bounded s → Bounded e → lastIndex s e ≤ 524288
+last-size hs he = omega (arith, major-size hs he, minor-size hs he)
 
 -- ---- the last step whose index is at most i
 module _ (f : ℕ → ℕ) (i : ℕ) where

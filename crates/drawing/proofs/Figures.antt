@@ -1,5 +1,5 @@
 -- Laws of painting figures by a brush, and counting their pixels: one after the other, and point by point along a walk. Assumes nothing.
-use mathlib.Core.Path.{_≡_, refl, sym, ap, _∙_}
+use mathlib.Core.Path.{_≡_, refl, sym, ap, ap₂, _∙_}
 use mathlib.Core.Bool.{Bool, true, false, not, _&&_, _||_}
 use mathlib.Core.List.{List}
 use Prim.Native.Nat.{ℕ, zero, suc, _+_, _*_, _≤_, _<_}
@@ -12,6 +12,7 @@ use Rattle.geometry.specs.declared.Point.{Point}
 use Rattle.geometry.specs.Place.{samePlace}
 use Rattle.geometry.proofs.Place.{same-decides}
 use Rattle.line.specs.Line.{pointAt, points, hasPoint, someStep}
+use Rattle.connected.specs.Connected.{connectedAt, connectedPoints, hasConnected}
 use Rattle.layout.specs.Count.{oneIf, pixelsIn}
 use Rattle.layout.specs.Figure.{single}
 use Rattle.layout.proofs.Placing.{Placing, Everywhere}
@@ -24,7 +25,7 @@ use Rattle.framebuffer.specs.Window.{inWindow, heldBy}
 use Rattle.framebuffer.proofs.Refusals.{sound}
 use Rattle.framebuffer.proofs.Windows.{point-count}
 use Rattle.drawing.specs.Earlier.{newIn}
-use Rattle.drawing.specs.Figure.{lineFigure}
+use Rattle.drawing.specs.Figure.{lineFigure, connectedFigure}
 
 -- the rectangle is asked once for both
 pub within-both : (p a b : Bool) → (p && a) || (p && b) ≡ p && (a || b)
@@ -74,6 +75,10 @@ pub line-walked : (s e : Point) → walked (pointAt s e) (points s e) ≡ lineFi
 unfolding hasPoint
 line-walked s e = refl
 
+pub connected-walked : (s e : Point) → walked (connectedAt s e) (connectedPoints s e) ≡ connectedFigure s e
+unfolding hasConnected
+connected-walked s e = refl
+
 -- no step below k leads to p
 none-leads : (path : ℕ → Point) (p : Point) (k : ℕ) → ((j : ℕ) → j < k → p ≡ path j → ⊥) → someStep path p k ≡ false
 none-leads path p zero h = refl
@@ -97,10 +102,10 @@ module _ (q : Brush) (P : Placing (raster (q .frame))) (b : List ℕ) where
       ∙ marked-then (raster (q .frame)) P (q .colour) b (heldBy (q .window) s) (heldBy (q .window) t) (heldBy (q .window) u) apart joined
 
   -- ---- a walk, point by point
-  pub walked-start : (path : ℕ → Point) → brushed q (walked path 0) b .1 ≡ b
+  walked-start : (path : ℕ → Point) → brushed q (walked path 0) b .1 ≡ b
   walked-start path = painted-none (raster (q .frame)) P (q .colour) b _ (λ x y w h. within-none (inWindow (q .window) (pos x) (pos y)))
 
-  pub walked-more : (path : ℕ → Point) (k : ℕ) → brushed q (single (path k .0) (path k .1)) (brushed q (walked path k) b .1) .1 ≡ brushed q (walked path (k + 1)) b .1
+  walked-more : (path : ℕ → Point) (k : ℕ) → brushed q (single (path k .0) (path k .1)) (brushed q (walked path k) b .1) .1 ≡ brushed q (walked path (k + 1)) b .1
   walked-more path k =
       painted-painted (raster (q .frame)) P (q .colour) b (heldBy (q .window) (single (path k .0) (path k .1))) (heldBy (q .window) (walked path k))
       ∙ painted-cong (raster (q .frame)) P (q .colour) b _ _
@@ -109,9 +114,12 @@ module _ (q : Brush) (P : Placing (raster (q .frame))) (b : List ℕ) where
 
 -- ---- what a figure has that an earlier one has not
 -- all of it, if there is none
-pub all-new : (q : Brush) (figure : ℤ → ℤ → Bool) (b : List ℕ) → brushed q (newIn (λ x y. false) figure) b .0 ≡ brushed q figure b .0
-all-new q figure b =
-    pixels-cong (raster (q .frame)) _ _ (λ x y hx hy. ap (λ (t : Bool). inWindow (q .window) (pos x) (pos y) && t) (and-true (figure (pos x) (pos y))))
+pub none-before : (q : Brush) (figure : ℤ → ℤ → Bool) (b : List ℕ) {n : ℕ} {next : List ℕ}
+    → n ≡ brushed q (newIn (λ x y. false) figure) b .0 → next ≡ brushed q figure b .1 → (n, next) ≡ brushed q figure b
+none-before q figure b e f = λ i. ((e ∙ all) i, f i)
+  where
+    all : brushed q (newIn (λ x y. false) figure) b .0 ≡ brushed q figure b .0
+    all = pixels-cong (raster (q .frame)) _ _ (λ x y hx hy. ap (λ (t : Bool). inWindow (q .window) (pos x) (pos y) && t) (and-true (figure (pos x) (pos y))))
 
 -- a figure drawn after an earlier one, of which only what is new was counted: both together
 pub after-earlier : (q : Brush) → Placing (raster (q .frame)) → (s t before : ℤ → ℤ → Bool) (b : List ℕ) {m n : ℕ} {now next : List ℕ} → ((x y : ℤ) → before x y ≡ s x y)
@@ -143,11 +151,11 @@ module _ {q : Brush} {len : ℕ} (R : Ready q len) (before : ℤ → ℤ → Boo
   abbrev new : ℕ → ℤ → ℤ → Bool
   new k = heldBy (q .window) (newIn before (walked path k))
 
-  pub new-start : 0 ≡ brushed q (newIn before (walked path 0)) b .0
+  new-start : 0 ≡ brushed q (newIn before (walked path 0)) b .0
   new-start = sym (pixels-none (raster (q .frame)) _ (λ x y hx hy. within-none (inWindow (q .window) (pos x) (pos y))))
 
   -- a step more, to a place where none before it led: its point is one more pixel where the rectangle holds it and the earlier figure has it not
-  pub new-more : (k : ℕ) → ((j : ℕ) → j < k → path k ≡ path j → ⊥)
+  new-more : (k : ℕ) → ((j : ℕ) → j < k → path k ≡ path j → ⊥)
       → brushed q (newIn before (walked path k)) b .0 + oneIf (inWindow (q .window) (path k .0) (path k .1) && not (before (path k .0) (path k .1)))
       ≡ brushed q (newIn before (walked path (k + 1))) b .0
   new-more k apart = by (before (path k .0) (path k .1)) refl ∙ ap (λ (n : ℕ). brushed q (newIn before (walked path n)) b .0) (sym (add-one k))
@@ -194,3 +202,34 @@ module _ {q : Brush} {len : ℕ} (R : Ready q len) (before : ℤ → ℤ → Boo
           ∙ pixels-cong (raster (q .frame)) _ (new (suc k)) (λ x y hx hy.
           came (inWindow (q .window) (pos x) (pos y)) (samePlace (pos x, pos y) (path k)) (walked path k (pos x) (pos y)) (before (pos x) (pos y))
           (λ h. there (pos x) (pos y) before h ∙ e))
+
+-- ---- a loop that sets the points of a walk, one a turn
+-- after k turns: those of the steps below k are set, and counted where the rectangle holds them and the earlier figure has them not
+pub record Along (q : Brush) (before : ℤ → ℤ → Bool) (path : ℕ → Point) (b : List ℕ) (k seen : ℕ) (now : List ℕ) : Type 0 where
+  pub count : seen ≡ brushed q (newIn before (walked path k)) b .0
+  pub bytes : now ≡ brushed q (walked path k) b .1
+
+module _ {q : Brush} {len : ℕ} (R : Ready q len) (before : ℤ → ℤ → Bool) (path : ℕ → Point) (b : List ℕ) where
+  pub along-start : Along q before path b 0 0 b
+  along-start = record { count = new-start R before path b; bytes = sym (walked-start q (brush-sound R) b path) }
+
+  -- a turn, whose point no turn before it had
+  pub along-turn : {k seen more : ℕ} {now next : List ℕ} {p : Point} {inside : Bool} → Along q before path b k seen now
+      → p ≡ path k → ((j : ℕ) → j < k → path k ≡ path j → ⊥)
+      → inside ≡ inWindow (q .window) (p .0) (p .1) → more ≡ oneIf (inside && not (before (p .0) (p .1))) → next ≡ brushed q (single (p .0) (p .1)) now .1
+      → Along q before path b (k + 1) (seen + more) next
+  along-turn {k} {p = p} a here apart held adds put =
+      record {
+        count =
+            ap₂ _+_ (a .count)
+            (adds ∙ (λ i. oneIf (held i && not (before (p .0) (p .1)))) ∙ ap (λ (p : Point). oneIf (inWindow (q .window) (p .0) (p .1) && not (before (p .0) (p .1)))) here)
+            ∙ new-more R before path b k apart;
+        bytes = put ∙ ap₂ (λ (p : Point) (b : List ℕ). brushed q (single (p .0) (p .1)) b .1) here (a .bytes) ∙ walked-more q (brush-sound R) b path k;
+      }
+
+  -- after all its turns: the figure that the walk is
+  pub along-end : {k n seen : ℕ} {now : List ℕ} {figure : ℤ → ℤ → Bool} → Along q before path b k seen now → k ≡ n → walked path n ≡ figure
+      → (seen ≡ brushed q (newIn before figure) b .0) × (now ≡ brushed q figure b .1)
+  along-end a all e =
+      let f = ap (walked path) all ∙ e in
+      (a .count ∙ ap (λ (s : ℤ → ℤ → Bool). brushed q (newIn before s) b .0) f, a .bytes ∙ ap (λ (s : ℤ → ℤ → Bool). brushed q s b .1) f)

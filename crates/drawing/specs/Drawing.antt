@@ -5,7 +5,7 @@ use Rattle.line.specs.Answer.{endTests}
 use Rattle.triangle.specs.Answer.{vertexTests}
 use Rattle.circle.specs.Refusal.{circleTests}
 use Rattle.framebuffer.specs.Drawing.{Drawing}
-use Rattle.drawing.specs.Figure.{lineFigure, triangleFigure, outlineFigure, circleFigure}
+use Rattle.drawing.specs.Figure.{lineFigure, connectedFigure, triangleFigure, outlineFigure, circleFigure}
 
 -- "Drawing a line, a triangle, an outline: 1 to 5"
 abbrev pub lineDrawing : Point → Point → ℕ → Drawing
@@ -20,3 +20,7 @@ outlineDrawing v1 v2 v3 colour = record { figure = outlineFigure v1 v2 v3; colou
 -- "a circle: 1 to 6"
 abbrev pub circleDrawing : Point → ℕ → ℕ → Drawing
 circleDrawing c d colour = record { figure = circleFigure c d; colour = colour; own = circleTests c d }
+
+-- 02, T-05, a connected line: "Refusals as for a line"
+abbrev pub connectedDrawing : Point → Point → ℕ → Drawing
+connectedDrawing s e colour = record { figure = connectedFigure s e; colour = colour; own = endTests s e }

@@ -5,6 +5,7 @@ use lib.IntN.{ℤ}
 use Rattle.geometry.specs.declared.Point.{Point}
 use Rattle.geometry.specs.Place.{before}
 use Rattle.line.specs.Line.{hasPoint}
+use Rattle.connected.specs.Connected.{hasConnected}
 use Rattle.triangle.specs.declared.Sorted.{Sorted}
 use Rattle.triangle.specs.Order.{sorted}
 use Rattle.triangle.specs.Triangle as triangle
@@ -13,6 +14,10 @@ use Rattle.circle.specs.Circle as circle
 -- 01, "Lines": the points of the line from s to e
 abbrev pub lineFigure : Point → Point → ℤ → ℤ → Bool
 lineFigure s e x y = hasPoint s e (x, y)
+
+-- 02, T-05: the points of the connected line from s to e, the normal ones and the extra ones
+abbrev pub connectedFigure : Point → Point → ℤ → ℤ → Bool
+connectedFigure s e x y = hasConnected s e (x, y)
 
 -- 02, T-04: an edge is the line from its smaller end, by y then x, to its larger one, whichever is named first
 unfoldable pub edgeFigure : Point → Point → ℤ → ℤ → Bool

@@ -15,8 +15,8 @@ ghost use Rattle.framebuffer.specs.Drawing.{outcome};
 ghost use Rattle.framebuffer.specs.Judged.{Ready, brushed};
 ghost use Rattle.framebuffer.specs.Window.{wholeWindow};
 ghost use Rattle.drawing.specs.Earlier.{Ends, earlierFigure, newIn};
-ghost use Rattle.drawing.specs.Figure.{lineFigure, outlineFigure, triangleFigure, circleFigure};
-ghost use Rattle.drawing.specs.Drawing.{lineDrawing, outlineDrawing, triangleDrawing, circleDrawing};
+ghost use Rattle.drawing.specs.Figure.{lineFigure, connectedFigure, outlineFigure, triangleFigure, circleFigure};
+ghost use Rattle.drawing.specs.Drawing.{lineDrawing, connectedDrawing, outlineDrawing, triangleDrawing, circleDrawing};
 use framebuffer::Brush;
 use framebuffer::Drawn;
 use framebuffer::Frame;
@@ -97,7 +97,7 @@ fn draw_alone(buf: &mut [u8], brush: Brush, start: Point, end: Point) -> u32
     draw_edge(buf, brush, none, start, end)
 }
 
-// The number that drawing a line answers.
+// The number that drawing a line answers, connected or not.
 fn line_number(frame: Frame, len: usize, start: Point, end: Point, colour: u32) -> u32
     ensures { λ r. ⌜ r ≡ first (drawTests frame len colour ++ endTests start end) ⌝ }
 {
@@ -119,6 +119,44 @@ pub fn draw_line(buf: &mut [u8], frame: Frame, start: Point, end: Point, colour:
     Drawn {
         number: 0,
         count: draw_alone(buf, frame.brush(colour), start, end),
+    }
+}
+
+// The points of an accepted connected line, as far as the rectangle holds them; and how many these are. No two are the same.
+fn draw_connected(buf: &mut [u8], brush: Brush, start: Point, end: Point) -> u32
+    requires { ⌜ Ready brush (length (now buf)) × (Bounded start × Bounded end) ⌝ }
+    ensures { λ r. ⌜ (r, now (buf .exit)) ≡ brushed brush (connectedFigure start end) (now (buf .entry)) ⌝ }
+{
+    let mut walker = connected::walker(start, end);
+    let count = connected::last_index(start, end) + 1;
+    let mut seen = 0u32;
+    let mut i = 0u32;
+    while i < count {
+        let next = connected::next_all(walker);
+        seen += framebuffer::put_point(buf, brush, next.point) as u32;
+        walker = next.walker;
+        i += 1;
+    }
+    seen
+}
+
+// Draws the connected line from start to end.
+pub fn draw_connected_line(
+    buf: &mut [u8],
+    frame: Frame,
+    start: Point,
+    end: Point,
+    colour: u32,
+) -> Drawn
+    ensures { λ r. ⌜ (r, now (buf .exit)) ≡ outcome frame (wholeWindow frame) (connectedDrawing start end colour) (now (buf .entry)) ⌝ }
+{
+    let number = line_number(frame, buf.len(), start, end, colour);
+    if number != 0 {
+        return Drawn { number, count: 0 };
+    }
+    Drawn {
+        number: 0,
+        count: draw_connected(buf, frame.brush(colour), start, end),
     }
 }
 

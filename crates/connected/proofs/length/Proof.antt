@@ -6,9 +6,9 @@ use borrow.Author.Needs.{needs}
 use Rattle.geometry.specs.Bound.{Bounded}
 use Rattle.line.specs.Answer.{lengthAnswer}
 use Rattle.line.proofs.Answer.{length-refused}
-use Rattle.line.proofs.Lengths.{major-size, minor-size}
 use Rattle.line.proofs.Refusals.{is-accepted}
 use Rattle.connected.specs.Connected.{connectedPoints}
+use Rattle.connected.proofs.Indices.{last-size}
 use Rattle.connected.proofs.length.Statement.{statement}
 use Rattle.connected.proofs.length.Tie as tie
 
@@ -29,7 +29,7 @@ last-index-requires : tie.Need-last-index-requires
 last-index-requires c κs = ends c
 
 add-t6 : tie.Need-add-t6
-add-t6 c = omega (arith, c .last-index .ensures, major-size (ends (c .before) .0) (ends (c .before) .1), minor-size (ends (c .before) .0) (ends (c .before) .1))
+add-t6 c = omega (arith, c .last-index .ensures, last-size (ends (c .before) .0) (ends (c .before) .1))
 
 returns-2 : tie.Need-returns-2
 returns-2 c =

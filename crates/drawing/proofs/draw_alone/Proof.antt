@@ -1,8 +1,7 @@
 -- `drawing::draw_alone` draws an edge before which there is none, so that all its points are new. Assumes nothing.
-use mathlib.Core.Path.{_∙_}
 use borrow.Author.Needs.{needs}
 use Rattle.drawing.specs.Figure.{lineFigure}
-use Rattle.drawing.proofs.Figures.{all-new}
+use Rattle.drawing.proofs.Figures.{none-before}
 use Rattle.drawing.proofs.draw_alone.Statement.{statement}
 use Rattle.drawing.proofs.draw_alone.Tie as tie
 
@@ -16,7 +15,7 @@ returns : tie.Need-returns
 returns c =
     let edge = c .before .before in
     let a = edge .before .before .before .args in
-    λ i. ((edge .draw-edge .ensures .0 ∙ all-new (a .brush) (lineFigure (a .start) (a .end)) (a .buf .now)) i, edge .draw-edge .ensures .1 i)
+    none-before (a .brush) (lineFigure (a .start) (a .end)) (a .buf .now) (edge .draw-edge .ensures .0) (edge .draw-edge .ensures .1)
 
 pub draw-alone-spec : {M : Type 1} → statement M
 draw-alone-spec = tie.close (tie.spec draw-edge-requires same-length returns)

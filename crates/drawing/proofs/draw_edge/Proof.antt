@@ -1,11 +1,9 @@
 -- `drawing::draw_edge` sets the points that the walker hands out, one a turn: before turn k those of the steps below k are set, and those that no earlier
 -- edge has are counted. No step leads where one before it led. Assumes nothing.
-use mathlib.Core.Path.{_≡_, refl, sym, ap, ap₂, subst, _∙_}
-use mathlib.Core.Bool.{Bool, not, _&&_}
-use mathlib.Core.List.{List}
+use mathlib.Core.Path.{_≡_, refl, sym, ap, subst, _∙_}
+use mathlib.Core.Bool.{not, _&&_}
 use Prim.Native.Nat.{ℕ, _+_, _-_, _≤_}
 use native.Mathlib.Omega.{arith}
-use lib.IntN.{ℤ}
 use lib.ListN.{length}
 use borrow.Author.Needs.{needs}
 use Rattle.geometry.specs.declared.Point.{Point}
@@ -13,14 +11,10 @@ use Rattle.line.specs.Line.{points, pointAt}
 use Rattle.line.specs.Walk.{WalkerAt, Walking}
 use Rattle.line.proofs.Apart.{steps-apart}
 use Rattle.line.proofs.Lengths.{major-size}
-use Rattle.layout.specs.Count.{oneIf}
-use Rattle.layout.specs.Figure.{single}
 use Rattle.layout.proofs.Counts.{one-small}
-use Rattle.framebuffer.specs.Judged.{Ready, brushed}
-use Rattle.framebuffer.specs.Window.{inWindow}
-use Rattle.drawing.specs.Earlier.{earlierFigure, newIn}
-use Rattle.drawing.specs.Figure.{lineFigure}
-use Rattle.drawing.proofs.Figures.{brush-sound, walked, line-walked, walked-start, walked-more, new-start, new-more}
+use Rattle.framebuffer.specs.Judged.{Ready}
+use Rattle.drawing.specs.Earlier.{earlierFigure}
+use Rattle.drawing.proofs.Figures.{line-walked, Along, along-start, along-turn, along-end}
 use Rattle.drawing.proofs.draw_edge.Statement.{statement}
 use Rattle.drawing.proofs.draw_edge.Tie as tie
 
@@ -28,9 +22,7 @@ abbrev Inv-loop : tie.InvT-loop
 Inv-loop buf₀ brush earlier walker₀ count seen₀ k₀ buf walker seen k =
     (length buf ≡ length buf₀) × (k ≤ count) × (seen ≤ k)
     × ((s e : Point) → count ≡ points s e → Ready brush (length buf₀) → WalkerAt s e 0 walker₀
-    → WalkerAt s e k walker
-    × (seen ≡ brushed brush (newIn (earlierFigure earlier) (walked (pointAt s e) k)) buf₀ .0)
-    × (buf ≡ brushed brush (walked (pointAt s e) k) buf₀ .1))
+    → WalkerAt s e k walker × Along brush (earlierFigure earlier) (pointAt s e) buf₀ k seen buf)
 
 abbrev μ-loop : tie.MeasureT-loop
 μ-loop buf₀ brush earlier walker₀ count seen₀ k₀ buf walker seen k = count - k
@@ -50,7 +42,7 @@ loop-holds c =
       refl,
       omega arith,
       omega arith,
-      λ s e n ok at. (at, new-start ok (earlierFigure (a .earlier)) (pointAt s e) (a .buf .now), sym (walked-start (a .brush) (brush-sound ok) (a .buf .now) (pointAt s e))),
+      λ s e n ok at. (at, along-start ok (earlierFigure (a .earlier)) (pointAt s e) (a .buf .now)),
     )
 
 -- at the loop's head the walker stands at step k, and the steps below it are set and counted
@@ -62,8 +54,7 @@ module _ (c : tie.At-loop Inv-loop μ-loop) where
   path = pointAt (entry .args .start) (entry .args .end)
 
   head : WalkerAt (entry .args .start) (entry .args .end) (c .loop .k) (c .loop .walker)
-      × (c .loop .seen ≡ brushed (entry .args .brush) (newIn (earlierFigure (entry .args .earlier)) (walked path (c .loop .k))) (entry .args .buf .now) .0)
-      × (c .loop .buf ≡ brushed (entry .args .brush) (walked path (c .loop .k)) (entry .args .buf .now) .1)
+      × Along (entry .args .brush) (earlierFigure (entry .args .earlier)) path (entry .args .buf .now) (c .loop .k) (c .loop .seen) (c .loop .buf)
   head = c .loop .inv .3 (entry .args .start) (entry .args .end) (ap (λ (n : ℕ). n + 1) (c .before .last-step .ensures)) (entry .pre .0) (c .before .before .new .ensures)
 
   few-steps : c .loop .k ≤ 262145
@@ -119,13 +110,9 @@ loop-again c =
           let i = h .loop .inv .3 s e n ok at in
           let g = step .step .ensures s e (h .loop .k) (omega arith) (i .0) in (
             g .1,
-            (λ j.
-                i .1 j + (adds .adds .ensures
-                ∙ (λ j. oneIf (put .put-point .ensures .0 j && not (earlierFigure (a .earlier) (step .step .result .point .0) (step .step .result .point .1))))
-                ∙ ap (λ (p : Point). oneIf (inWindow (a .brush .window) (p .0) (p .1) && not (earlierFigure (a .earlier) (p .0) (p .1)))) (g .0)) j)
-                ∙ new-more ok (earlierFigure (a .earlier)) (pointAt s e) (a .buf .now) (h .loop .k) (λ j l e′. let z = steps-apart s e (h .loop .k) j e′ in omega arith),
-            put .put-point .ensures .1 ∙ ap₂ (λ (p : Point) (b : List ℕ). brushed (a .brush) (single (p .0) (p .1)) b .1) (g .0) (i .2)
-                ∙ walked-more (a .brush) (brush-sound ok) (a .buf .now) (pointAt s e) (h .loop .k),
+            along-turn ok (earlierFigure (a .earlier)) (pointAt s e) (a .buf .now) (i .1) (g .0)
+                (λ j l e′. let z = steps-apart s e (h .loop .k) j e′ in omega arith)
+                (put .put-point .ensures .0) (adds .adds .ensures) (put .put-point .ensures .1),
           ),
     )
 
@@ -134,12 +121,10 @@ same-length c = c .before .loop .inv .0
 
 returns : tie.Need-returns Inv-loop μ-loop
 returns c =
-    let a = entry (c .before) .args in
+    let s = entry (c .before) in
+    let a = s .args in
     let all : c .before .loop .k ≡ points (a .start) (a .end) = omega (arith, c .before .before .last-step .ensures) in
-    let figure : walked (path (c .before)) (c .before .loop .k) ≡ lineFigure (a .start) (a .end) = ap (walked (path (c .before))) all ∙ line-walked (a .start) (a .end) in (
-      head (c .before) .1 ∙ ap (λ (f : ℤ → ℤ → Bool). brushed (a .brush) (newIn (earlierFigure (a .earlier)) f) (a .buf .now) .0) figure,
-      head (c .before) .2 ∙ ap (λ (f : ℤ → ℤ → Bool). brushed (a .brush) f (a .buf .now) .1) figure,
-    )
+    along-end (s .pre .0) (earlierFigure (a .earlier)) (path (c .before)) (a .buf .now) (head (c .before) .1) all (line-walked (a .start) (a .end))
 
 pub draw-edge-spec : {M : Type 1} → statement M
 draw-edge-spec =

@@ -26,8 +26,8 @@ use Rattle.framebuffer.specs.Description.{raster, size, noColour, frameTests}
 use Rattle.framebuffer.specs.Drawing.{Drawing, pixelDrawing, fillDrawing}
 use Rattle.framebuffer.specs.Judged.{Described, Accepted}
 use Rattle.framebuffer.proofs.Refusals.{is-accepted, frame-numbered, sound}
-use Rattle.drawing.specs.Drawing.{lineDrawing, triangleDrawing, outlineDrawing, circleDrawing}
-use Rattle.picture.specs.Calls.{Call, setPixel, fillFrame, drawLine, drawTriangle, drawOutline, drawCircle, Change}
+use Rattle.drawing.specs.Drawing.{lineDrawing, triangleDrawing, outlineDrawing, circleDrawing, connectedDrawing}
+use Rattle.picture.specs.Calls.{Call, setPixel, fillFrame, drawLine, drawTriangle, drawOutline, drawCircle, drawConnectedLine, Change}
 use Rattle.picture.specs.Calls.{draws, changeOf, numberOf, blank, shownAfter, pictureAfter, afterCall, afterCalls}
 
 -- a zero-filled buffer of n bytes
@@ -69,6 +69,7 @@ lawful f (drawLine s e c) = draws-lawful f (lineDrawing s e c)
 lawful f (drawTriangle v1 v2 v3 c) = draws-lawful f (triangleDrawing v1 v2 v3 c)
 lawful f (drawOutline v1 v2 v3 c) = draws-lawful f (outlineDrawing v1 v2 v3 c)
 lawful f (drawCircle l d c) = draws-lawful f (circleDrawing l d c)
+lawful f (drawConnectedLine s e c) = draws-lawful f (connectedDrawing s e c)
 
 module _ (f : Frame) (n : ℕ) where
   -- ---- an accepted description with room in the buffer

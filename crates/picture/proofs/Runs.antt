@@ -13,9 +13,11 @@ use Rattle.drawing.proofs.draw_line.Reads as draw-line
 use Rattle.drawing.proofs.draw_triangle.Reads as draw-triangle
 use Rattle.drawing.proofs.draw_outline.Reads as draw-outline
 use Rattle.drawing.proofs.draw_circle.Reads as draw-circle
-use Rattle.picture.specs.Calls.{Call, setPixel, fillFrame, drawLine, drawTriangle, drawOutline, drawCircle, blank, pictureAfter, afterCalls}
+use Rattle.drawing.proofs.draw_connected_line.Reads as draw-connected-line
+use Rattle.picture.specs.Calls.{Call, setPixel, fillFrame, drawLine, drawTriangle, drawOutline, drawCircle, drawConnectedLine}
+use Rattle.picture.specs.Calls.{blank, pictureAfter, afterCalls}
 use Rattle.picture.proofs.Picture.{zeros, one-picture-one-frame}
-use Rattle.picture.proofs.Ties.{Does, set-pixel-does, fill-does, draw-line-does, draw-triangle-does, draw-outline-does, draw-circle-does}
+use Rattle.picture.proofs.Ties.{Does, set-pixel-does, fill-does, draw-line-does, draw-triangle-does, draw-outline-does, draw-circle-does, draw-connected-line-does}
 
 -- a call made by its function: the arguments, the answer, whose number is kept, and the bytes afterwards are as the function's contract says
 pub data Made : Frame → Call → List ℕ → ℕ → List ℕ → Type 0 where
@@ -29,6 +31,8 @@ pub data Made : Frame → Call → List ℕ → ℕ → List ℕ → Type 0 wher
       → Made (a .1 .0) (drawOutline (a .1 .1 .0) (a .1 .1 .1 .0) (a .1 .1 .1 .1 .0) (a .1 .1 .1 .1 .1 .0)) (now (a .0)) (r .number) (now (s .0))
   by-draw-circle : (κs : _) (a : _) (r : _) (s : _) → draw-circle.Post κs a r s
       → Made (a .1 .0) (drawCircle (a .1 .1 .0) (a .1 .1 .1 .0) (a .1 .1 .1 .1 .0)) (now (a .0)) (r .number) (now (s .0))
+  by-draw-connected-line : (κs : _) (a : _) (r : _) (s : _) → draw-connected-line.Post κs a r s
+      → Made (a .1 .0) (drawConnectedLine (a .1 .1 .0) (a .1 .1 .1 .0) (a .1 .1 .1 .1 .0)) (now (a .0)) (r .number) (now (s .0))
 
 -- calls made one after the other on one frame, from the bytes at the start to those at the end
 pub data Run (f : Frame) : List Call → List ℕ → List ℕ → Type 0 where
@@ -42,6 +46,7 @@ made-does (by-draw-line κs a r s h) = draw-line-does κs a r s h
 made-does (by-draw-triangle κs a r s h) = draw-triangle-does κs a r s h
 made-does (by-draw-outline κs a r s h) = draw-outline-does κs a r s h
 made-does (by-draw-circle κs a r s h) = draw-circle-does κs a r s h
+made-does (by-draw-connected-line κs a r s h) = draw-connected-line-does κs a r s h
 
 -- a run leaves what its list of calls leaves
 pub run-leaves : {f : Frame} {os : List Call} {b c : List ℕ} → Run f os b c → c ≡ afterCalls f os b

@@ -10,7 +10,7 @@ use Rattle.circle.specs.Refusal.{circleTests}
 use Rattle.framebuffer.specs.declared.Frame.{Frame}
 use Rattle.framebuffer.specs.Description.{descriptionTests, frameTests, drawTests, readTests}
 use Rattle.framebuffer.specs.Drawing.{pixelDrawing, fillDrawing, callTests}
-use Rattle.drawing.specs.Drawing.{lineDrawing, triangleDrawing, outlineDrawing, circleDrawing}
+use Rattle.drawing.specs.Drawing.{lineDrawing, triangleDrawing, outlineDrawing, circleDrawing, connectedDrawing}
 
 -- "Size of a frame: 1, 2"
 pub size : (f : Frame) → Lowest (descriptionTests f)
@@ -49,6 +49,11 @@ module _ (f : Frame) (len : ℕ) where
   pub circle : (l : Point) (d c : ℕ) → Lowest (callTests f len (circleDrawing l d c))
   unfolding descriptionTests frameTests drawTests circleTests
   circle l d c = lowest-wins _ refl
+
+  -- 02, T-05, a connected line: "Refusals as for a line"
+  pub connected-line : (s e : Point) (c : ℕ) → Lowest (callTests f len (connectedDrawing s e c))
+  unfolding descriptionTests frameTests drawTests endTests
+  connected-line s e c = lowest-wins _ refl
 
 -- "A point of a line: 5, 7"
 pub point : (s e : Point) (k : ℕ) → Lowest (stepTests s e k)

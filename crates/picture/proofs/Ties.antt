@@ -28,7 +28,9 @@ use Rattle.drawing.proofs.draw_line.Reads as draw-line
 use Rattle.drawing.proofs.draw_triangle.Reads as draw-triangle
 use Rattle.drawing.proofs.draw_outline.Reads as draw-outline
 use Rattle.drawing.proofs.draw_circle.Reads as draw-circle
-use Rattle.picture.specs.Calls.{Call, setPixel, fillFrame, drawLine, drawTriangle, drawOutline, drawCircle, Change, draws, changeOf, numberOf, afterCall}
+use Rattle.drawing.proofs.draw_connected_line.Reads as draw-connected-line
+use Rattle.picture.specs.Calls.{Call, setPixel, fillFrame, drawLine, drawTriangle, drawOutline, drawCircle, drawConnectedLine}
+use Rattle.picture.specs.Calls.{Change, draws, changeOf, numberOf, afterCall}
 
 -- what a call o on the frame f is to do: its answer's number, and the bytes afterwards
 pub record Does (f : Frame) (o : Call) (before : List ℕ) (n : ℕ) (after : List ℕ) : Type 0 where
@@ -105,3 +107,7 @@ draw-outline-does κs a r s h = counts-does _ _ _ _ refl h
 pub draw-circle-does : (κs : _) (a : _) (r : _) (s : _) → draw-circle.Post κs a r s
     → Does (a .1 .0) (drawCircle (a .1 .1 .0) (a .1 .1 .1 .0) (a .1 .1 .1 .1 .0)) (now (a .0)) (r .number) (now (s .0))
 draw-circle-does κs a r s h = counts-does _ _ _ _ refl h
+
+pub draw-connected-line-does : (κs : _) (a : _) (r : _) (s : _) → draw-connected-line.Post κs a r s
+    → Does (a .1 .0) (drawConnectedLine (a .1 .1 .0) (a .1 .1 .1 .0) (a .1 .1 .1 .1 .0)) (now (a .0)) (r .number) (now (s .0))
+draw-connected-line-does κs a r s h = counts-does _ _ _ _ refl h

@@ -10,7 +10,7 @@ use Rattle.layout.specs.Layout.{Picture, shown, coloured, rendered}
 use Rattle.framebuffer.specs.declared.Frame.{Frame}
 use Rattle.framebuffer.specs.Description.{raster, noColour, frameTests}
 use Rattle.framebuffer.specs.Drawing.{Drawing, pixelDrawing, fillDrawing}
-use Rattle.drawing.specs.Drawing.{lineDrawing, triangleDrawing, outlineDrawing, circleDrawing}
+use Rattle.drawing.specs.Drawing.{lineDrawing, triangleDrawing, outlineDrawing, circleDrawing, connectedDrawing}
 
 -- a call, by its arguments; the colour comes last
 pub data Call : Type 0 where
@@ -20,6 +20,7 @@ pub data Call : Type 0 where
   drawTriangle : Point → Point → Point → ℕ → Call
   drawOutline : Point → Point → Point → ℕ → Call
   drawCircle : Point → ℕ → ℕ → Call
+  drawConnectedLine : Point → Point → ℕ → Call
 
 -- what a call is on a frame: its own tests, which come behind those of the frame, and what it changes of a picture where no test holds
 pub record Change : Type 0 where
@@ -37,6 +38,7 @@ changeOf (drawLine s e c) = draws (lineDrawing s e c)
 changeOf (drawTriangle v1 v2 v3 c) = draws (triangleDrawing v1 v2 v3 c)
 changeOf (drawOutline v1 v2 v3 c) = draws (outlineDrawing v1 v2 v3 c)
 changeOf (drawCircle l d c) = draws (circleDrawing l d c)
+changeOf (drawConnectedLine s e c) = draws (connectedDrawing s e c)
 
 -- the number that it answers on a frame over n bytes
 abbrev pub numberOf : Frame → ℕ → Call → ℕ

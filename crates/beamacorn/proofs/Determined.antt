@@ -9,6 +9,9 @@ use Rattle.whole.proofs.Determined.{One, OneBuffer, same}
 use Rattle.beamacorn.proofs.beamacorn_line_length.Reads as line-length
 use Rattle.beamacorn.proofs.beamacorn_line_point.Reads as line-point
 use Rattle.beamacorn.proofs.beamacorn_line_has_point.Reads as line-has-point
+use Rattle.beamacorn.proofs.beamacorn_connected_length.Reads as connected-length
+use Rattle.beamacorn.proofs.beamacorn_connected_point.Reads as connected-point
+use Rattle.beamacorn.proofs.beamacorn_connected_has_point.Reads as connected-has-point
 use Rattle.beamacorn.proofs.beamacorn_triangle_contains.Reads as triangle-contains
 use Rattle.beamacorn.proofs.beamacorn_triangle_rows.Reads as triangle-rows
 use Rattle.beamacorn.proofs.beamacorn_triangle_row_span.Reads as triangle-row-span
@@ -19,6 +22,7 @@ use Rattle.beamacorn.proofs.beamacorn_pixel.Reads as pixel
 use Rattle.beamacorn.proofs.beamacorn_set_pixel.Reads as set-pixel
 use Rattle.beamacorn.proofs.beamacorn_fill.Reads as fill
 use Rattle.beamacorn.proofs.beamacorn_draw_line.Reads as draw-line
+use Rattle.beamacorn.proofs.beamacorn_draw_connected_line.Reads as draw-connected-line
 use Rattle.beamacorn.proofs.beamacorn_draw_triangle.Reads as draw-triangle
 use Rattle.beamacorn.proofs.beamacorn_draw_outline.Reads as draw-outline
 use Rattle.beamacorn.proofs.beamacorn_draw_circle.Reads as draw-circle
@@ -35,6 +39,15 @@ line-point-one κs args r q s t = same
 
 pub line-has-point-one : One line-has-point.Post
 line-has-point-one κs args r q s t = same
+
+pub connected-length-one : One connected-length.Post
+connected-length-one κs args r q s t = same
+
+pub connected-point-one : One connected-point.Post
+connected-point-one κs args r q s t = same
+
+pub connected-has-point-one : One connected-has-point.Post
+connected-has-point-one κs args r q s t = same
 
 pub triangle-contains-one : One triangle-contains.Post
 triangle-contains-one κs args r q s t = same
@@ -69,6 +82,9 @@ fill-one κs args r q s t = same
 
 pub draw-line-one : OneBuffer draw-line.Post
 draw-line-one κs args r q s t = same
+
+pub draw-connected-line-one : OneBuffer draw-connected-line.Post
+draw-connected-line-one κs args r q s t = same
 
 pub draw-triangle-one : OneBuffer draw-triangle.Post
 draw-triangle-one κs args r q s t = same

@@ -9,3 +9,13 @@ use Rattle.geometry.specs.declared.Point.{Point}
 -- a point holds its coordinates' bits, from which they are read back
 pub place : {x y : ℤ} → SFits w32 x → SFits w32 y → _≡_ {A = Point} (toZ w32 (ofZ w32 x), toZ w32 (ofZ w32 y)) (x, y)
 place h k i = (toZ-ofZ h i, toZ-ofZ k i)
+
+-- what is said of the points that two or three places are put into is said of the places
+pub two-places : {A : Type 0} (F : Point → Point → A) {x1 y1 x2 y2 : ℤ} → SFits w32 x1 → SFits w32 y1 → SFits w32 x2 → SFits w32 y2
+    → F (toZ w32 (ofZ w32 x1), toZ w32 (ofZ w32 y1)) (toZ w32 (ofZ w32 x2), toZ w32 (ofZ w32 y2)) ≡ F (x1, y1) (x2, y2)
+two-places F h1 k1 h2 k2 i = F (place h1 k1 i) (place h2 k2 i)
+
+pub three-places : {A : Type 0} (F : Point → Point → Point → A) {x1 y1 x2 y2 x3 y3 : ℤ}
+    → SFits w32 x1 → SFits w32 y1 → SFits w32 x2 → SFits w32 y2 → SFits w32 x3 → SFits w32 y3
+    → F (toZ w32 (ofZ w32 x1), toZ w32 (ofZ w32 y1)) (toZ w32 (ofZ w32 x2), toZ w32 (ofZ w32 y2)) (toZ w32 (ofZ w32 x3), toZ w32 (ofZ w32 y3)) ≡ F (x1, y1) (x2, y2) (x3, y3)
+three-places F h1 k1 h2 k2 h3 k3 i = F (place h1 k1 i) (place h2 k2 i) (place h3 k3 i)

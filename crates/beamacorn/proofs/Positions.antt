@@ -7,6 +7,8 @@ use Rattle.refusals.specs.First.{first}
 use Rattle.geometry.specs.Answer.{verdict, span}
 use Rattle.line.specs.Line.{points, pointAt, hasPoint}
 use Rattle.line.specs.Answer.{endTests, stepTests, lengthAnswer, stepAnswer}
+use Rattle.connected.specs.Connected.{connectedPoints, connectedAt, hasConnected}
+use Rattle.connected.specs.Answer.{indexTests}
 use Rattle.triangle.specs.Triangle as triangle
 use Rattle.triangle.specs.Row.{rowSpan, firstRow, rowCount}
 use Rattle.triangle.specs.Answer.{vertexTests, rowsAnswer}
@@ -18,13 +20,16 @@ use Rattle.framebuffer.specs.declared.Size.{Size}
 use Rattle.framebuffer.specs.Answer.{sized}
 use Rattle.framebuffer.specs.Description.{size, descriptionTests}
 use Rattle.framebuffer.specs.Drawing.{fillDrawing}
-use Rattle.drawing.specs.Drawing.{lineDrawing, outlineDrawing, triangleDrawing, circleDrawing}
+use Rattle.drawing.specs.Drawing.{lineDrawing, connectedDrawing, outlineDrawing, triangleDrawing, circleDrawing}
 use Rattle.netpbm.specs.Image.{imageLength}
 use Rattle.netpbm.specs.Written.{imageSizeTests, written}
 use Rattle.beamacorn.specs.Plain.{frameOf, plainStep, outcomeOn, placedOn, pixelOn, litOn}
 use Rattle.beamacorn.proofs.beamacorn_line_length.Reads as line-length
 use Rattle.beamacorn.proofs.beamacorn_line_point.Reads as line-point
 use Rattle.beamacorn.proofs.beamacorn_line_has_point.Reads as line-has-point
+use Rattle.beamacorn.proofs.beamacorn_connected_length.Reads as connected-length
+use Rattle.beamacorn.proofs.beamacorn_connected_point.Reads as connected-point
+use Rattle.beamacorn.proofs.beamacorn_connected_has_point.Reads as connected-has-point
 use Rattle.beamacorn.proofs.beamacorn_triangle_contains.Reads as triangle-contains
 use Rattle.beamacorn.proofs.beamacorn_triangle_rows.Reads as triangle-rows
 use Rattle.beamacorn.proofs.beamacorn_triangle_row_span.Reads as triangle-row-span
@@ -35,6 +40,7 @@ use Rattle.beamacorn.proofs.beamacorn_pixel.Reads as pixel
 use Rattle.beamacorn.proofs.beamacorn_set_pixel.Reads as set-pixel
 use Rattle.beamacorn.proofs.beamacorn_fill.Reads as fill
 use Rattle.beamacorn.proofs.beamacorn_draw_line.Reads as draw-line
+use Rattle.beamacorn.proofs.beamacorn_draw_connected_line.Reads as draw-connected-line
 use Rattle.beamacorn.proofs.beamacorn_draw_triangle.Reads as draw-triangle
 use Rattle.beamacorn.proofs.beamacorn_draw_outline.Reads as draw-outline
 use Rattle.beamacorn.proofs.beamacorn_draw_circle.Reads as draw-circle
@@ -56,6 +62,20 @@ line-point-at κs a r s h = h
 pub line-has-point-at : (κs : _) (a : _) (r : _) (s : _) → line-has-point.Post κs a r s
     → r ≡ verdict (first (endTests (a .0, a .1 .0) (a .1 .1 .0, a .1 .1 .1 .0))) (hasPoint (a .0, a .1 .0) (a .1 .1 .0, a .1 .1 .1 .0) (a .1 .1 .1 .1 .0, a .1 .1 .1 .1 .1 .0))
 line-has-point-at κs a r s h = h
+
+pub connected-length-at : (κs : _) (a : _) (r : _) (s : _) → connected-length.Post κs a r s
+    → r ≡ lengthAnswer (first (endTests (a .0, a .1 .0) (a .1 .1 .0, a .1 .1 .1 .0))) (connectedPoints (a .0, a .1 .0) (a .1 .1 .0, a .1 .1 .1 .0))
+connected-length-at κs a r s h = h
+
+pub connected-point-at : (κs : _) (a : _) (r : _) (s : _) → connected-point.Post κs a r s
+    → r
+    ≡ plainStep
+    (stepAnswer (first (indexTests (a .0, a .1 .0) (a .1 .1 .0, a .1 .1 .1 .0) (a .1 .1 .1 .1 .0))) (connectedAt (a .0, a .1 .0) (a .1 .1 .0, a .1 .1 .1 .0) (a .1 .1 .1 .1 .0)))
+connected-point-at κs a r s h = h
+
+pub connected-has-point-at : (κs : _) (a : _) (r : _) (s : _) → connected-has-point.Post κs a r s
+    → r ≡ verdict (first (endTests (a .0, a .1 .0) (a .1 .1 .0, a .1 .1 .1 .0))) (hasConnected (a .0, a .1 .0) (a .1 .1 .0, a .1 .1 .1 .0) (a .1 .1 .1 .1 .0, a .1 .1 .1 .1 .1 .0))
+connected-has-point-at κs a r s h = h
 
 pub triangle-contains-at : (κs : _) (a : _) (r : _) (s : _) → triangle-contains.Post κs a r s
     → r
@@ -112,6 +132,11 @@ pub draw-line-at : (κs : _) (a : _) (r : _) (s : _) → draw-line.Post κs a r 
     → _≡_ {A = Drawn × List ℕ} (r, s .0 .now) (outcomeOn (a .1 .0) (a .1 .1 .0) (a .1 .1 .1 .0) (a .1 .1 .1 .1 .0)
     (lineDrawing (a .1 .1 .1 .1 .1 .0, a .1 .1 .1 .1 .1 .1 .0) (a .1 .1 .1 .1 .1 .1 .1 .0, a .1 .1 .1 .1 .1 .1 .1 .1 .0) (a .1 .1 .1 .1 .1 .1 .1 .1 .1 .0)) (a .0 .now))
 draw-line-at κs a r s h = h
+
+pub draw-connected-line-at : (κs : _) (a : _) (r : _) (s : _) → draw-connected-line.Post κs a r s
+    → _≡_ {A = Drawn × List ℕ} (r, s .0 .now) (outcomeOn (a .1 .0) (a .1 .1 .0) (a .1 .1 .1 .0) (a .1 .1 .1 .1 .0)
+    (connectedDrawing (a .1 .1 .1 .1 .1 .0, a .1 .1 .1 .1 .1 .1 .0) (a .1 .1 .1 .1 .1 .1 .1 .0, a .1 .1 .1 .1 .1 .1 .1 .1 .0) (a .1 .1 .1 .1 .1 .1 .1 .1 .1 .0)) (a .0 .now))
+draw-connected-line-at κs a r s h = h
 
 pub draw-triangle-at : (κs : _) (a : _) (r : _) (s : _) → draw-triangle.Post κs a r s
     → _≡_ {A = Drawn × List ℕ} (r, s .0 .now) (outcomeOn (a .1 .0) (a .1 .1 .0) (a .1 .1 .1 .0) (a .1 .1 .1 .1 .0)

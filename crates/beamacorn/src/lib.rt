@@ -5,6 +5,8 @@ ghost use Rattle.refusals.specs.First.{first};
 ghost use Rattle.geometry.specs.Answer.{verdict, span};
 ghost use Rattle.line.specs.Line.{points, pointAt, hasPoint};
 ghost use Rattle.line.specs.Answer.{endTests, stepTests, lengthAnswer, stepAnswer};
+ghost use Rattle.connected.specs.Connected.{connectedPoints, connectedAt, hasConnected};
+ghost use Rattle.connected.specs.Answer.{indexTests};
 ghost use Rattle.triangle.specs.Triangle as triangle;
 ghost use Rattle.triangle.specs.Row.{rowSpan, firstRow, rowCount};
 ghost use Rattle.triangle.specs.Answer.{vertexTests, rowsAnswer};
@@ -13,7 +15,7 @@ ghost use Rattle.circle.specs.Refusal.{circleTests};
 ghost use Rattle.framebuffer.specs.Answer.{sized};
 ghost use Rattle.framebuffer.specs.Description.{size, descriptionTests};
 ghost use Rattle.framebuffer.specs.Drawing.{fillDrawing};
-ghost use Rattle.drawing.specs.Drawing.{lineDrawing, outlineDrawing, triangleDrawing, circleDrawing};
+ghost use Rattle.drawing.specs.Drawing.{lineDrawing, connectedDrawing, outlineDrawing, triangleDrawing, circleDrawing};
 ghost use Rattle.netpbm.specs.Image.{imageLength};
 ghost use Rattle.netpbm.specs.Written.{imageSizeTests, written};
 ghost use Rattle.beamacorn.specs.Plain.{frameOf, plainStep, outcomeOn, placedOn, pixelOn, litOn};
@@ -21,12 +23,24 @@ use framebuffer::Drawn;
 use framebuffer::Frame;
 use geometry::Point;
 
-// A line's point at a step. With a refusal its number, and 0 and 0.
+// A line's point at a step, or a connected line's at an index. With a refusal its number, and 0 and 0.
 #[repr(C)]
 pub struct Step {
     pub number: u32,
     pub x: i32,
     pub y: i32,
+}
+
+// The point's coordinates beside its number.
+fn plain_step(answer: line::Step) -> Step
+    ensures { λ r. ⌜ r ≡ plainStep answer ⌝ }
+{
+    let point = answer.point;
+    Step {
+        number: answer.number,
+        x: point.0,
+        y: point.1,
+    }
 }
 
 // ---- questions
@@ -44,13 +58,7 @@ pub extern "C" fn beamacorn_line_length(x1: i32, y1: i32, x2: i32, y2: i32) -> l
 pub extern "C" fn beamacorn_line_point(x1: i32, y1: i32, x2: i32, y2: i32, step: u32) -> Step
     ensures { λ r. ⌜ r ≡ plainStep (stepAnswer (first (stepTests (x1, y1) (x2, y2) step)) (pointAt (x1, y1) (x2, y2) step)) ⌝ }
 {
-    let answer = line::point(Point(x1, y1), Point(x2, y2), step);
-    let point = answer.point;
-    Step {
-        number: answer.number,
-        x: point.0,
-        y: point.1,
-    }
+    plain_step(line::point(Point(x1, y1), Point(x2, y2), step))
 }
 
 // Whether (x, y) is a point of the line.
@@ -66,6 +74,37 @@ pub extern "C" fn beamacorn_line_has_point(
     ensures { λ r. ⌜ r ≡ verdict (first (endTests (x1, y1) (x2, y2))) (hasPoint (x1, y1) (x2, y2) (x, y)) ⌝ }
 {
     line::has_point(Point(x1, y1), Point(x2, y2), Point(x, y))
+}
+
+// The number of points of the connected line from (x1, y1) to (x2, y2).
+#[no_mangle]
+pub extern "C" fn beamacorn_connected_length(x1: i32, y1: i32, x2: i32, y2: i32) -> line::Length
+    ensures { λ r. ⌜ r ≡ lengthAnswer (first (endTests (x1, y1) (x2, y2))) (connectedPoints (x1, y1) (x2, y2)) ⌝ }
+{
+    connected::length(Point(x1, y1), Point(x2, y2))
+}
+
+// The point of the connected line at an index, the start having index 0.
+#[no_mangle]
+pub extern "C" fn beamacorn_connected_point(x1: i32, y1: i32, x2: i32, y2: i32, index: u32) -> Step
+    ensures { λ r. ⌜ r ≡ plainStep (stepAnswer (first (indexTests (x1, y1) (x2, y2) index)) (connectedAt (x1, y1) (x2, y2) index)) ⌝ }
+{
+    plain_step(connected::point(Point(x1, y1), Point(x2, y2), index))
+}
+
+// Whether (x, y) is a point of the connected line.
+#[no_mangle]
+pub extern "C" fn beamacorn_connected_has_point(
+    x1: i32,
+    y1: i32,
+    x2: i32,
+    y2: i32,
+    x: i32,
+    y: i32,
+) -> geometry::Verdict
+    ensures { λ r. ⌜ r ≡ verdict (first (endTests (x1, y1) (x2, y2))) (hasConnected (x1, y1) (x2, y2) (x, y)) ⌝ }
+{
+    connected::has_point(Point(x1, y1), Point(x2, y2), Point(x, y))
 }
 
 // Whether the triangle contains (x, y).
@@ -225,6 +264,31 @@ pub extern "C" fn beamacorn_draw_line(
     ensures { λ r. ⌜ (r, now (buf .exit)) ≡ outcomeOn width height depth order (lineDrawing (x1, y1) (x2, y2) colour) (now (buf .entry)) ⌝ }
 {
     drawing::draw_line(
+        buf,
+        frame(width, height, depth, order),
+        Point(x1, y1),
+        Point(x2, y2),
+        colour,
+    )
+}
+
+// Draws the connected line from (x1, y1) to (x2, y2).
+#[no_mangle]
+pub extern "C" fn beamacorn_draw_connected_line(
+    buf: &mut [u8],
+    width: u32,
+    height: u32,
+    depth: u32,
+    order: u32,
+    x1: i32,
+    y1: i32,
+    x2: i32,
+    y2: i32,
+    colour: u32,
+) -> Drawn
+    ensures { λ r. ⌜ (r, now (buf .exit)) ≡ outcomeOn width height depth order (connectedDrawing (x1, y1) (x2, y2) colour) (now (buf .entry)) ⌝ }
+{
+    drawing::draw_connected_line(
         buf,
         frame(width, height, depth, order),
         Point(x1, y1),

@@ -1,8 +1,7 @@
 -- `beamacorn_draw_line` hands on to `drawing::draw_line`. Assumes nothing.
 use borrow.Author.Needs.{needs}
 use Rattle.drawing.specs.Drawing.{lineDrawing}
-use Rattle.beamacorn.proofs.Places.{place}
-use Rattle.beamacorn.proofs.Calls.{handed-on}
+use Rattle.beamacorn.proofs.Calls.{handed-on-two}
 use Rattle.beamacorn.proofs.beamacorn_draw_line.Statement.{statement}
 use Rattle.beamacorn.proofs.beamacorn_draw_line.Tie as tie
 
@@ -17,12 +16,9 @@ same-length c = search needs
 
 returns : tie.Need-returns
 returns c =
-    let g = c .before .before .before .before .before .before .args in
-    let f = c .before .before .before .before .before .before .fits in
-    let s = place (f .x1) (f .y1) in
-    let e = place (f .x2) (f .y2) in
-    let frame = c .before .before .before .frame .ensures in
-    handed-on (g .buf .now) frame (λ i. lineDrawing (s i) (e i) (g .colour)) (c .before .before .draw-line .ensures)
+    let s = c .before .before .before .before .before .before in
+    handed-on-two lineDrawing (s .args .colour) (s .args .buf .now) (c .before .before .before .frame .ensures)
+    (s .fits .x1) (s .fits .y1) (s .fits .x2) (s .fits .y2) (c .before .before .draw-line .ensures)
 
 pub beamacorn-draw-line-spec : {M : Type 1} → statement M
 beamacorn-draw-line-spec = tie.close (tie.spec frame-requires draw-line-requires same-length returns)

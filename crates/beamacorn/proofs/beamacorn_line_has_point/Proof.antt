@@ -5,7 +5,7 @@ use Rattle.geometry.specs.Answer.{verdict}
 use Rattle.line.specs.Line.{hasPoint}
 use Rattle.line.specs.Answer.{endTests}
 use Rattle.refusals.specs.First.{first}
-use Rattle.beamacorn.proofs.Places.{place}
+use Rattle.beamacorn.proofs.Places.{three-places}
 use Rattle.beamacorn.proofs.beamacorn_line_has_point.Statement.{statement}
 use Rattle.beamacorn.proofs.beamacorn_line_has_point.Tie as tie
 
@@ -15,10 +15,7 @@ has-point-requires c κs = search needs
 returns : tie.Need-returns
 returns c =
     let f = c .before .fits in
-    let s = place (f .x1) (f .y1) in
-    let e = place (f .x2) (f .y2) in
-    let p = place (f .x) (f .y) in
-    c .has-point .ensures ∙ (λ i. verdict (first (endTests (s i) (e i))) (hasPoint (s i) (e i) (p i)))
+    c .has-point .ensures ∙ three-places (λ s e p. verdict (first (endTests s e)) (hasPoint s e p)) (f .x1) (f .y1) (f .x2) (f .y2) (f .x) (f .y)
 
 pub beamacorn-line-has-point-spec : {M : Type 1} → statement M
 beamacorn-line-has-point-spec = tie.close (tie.spec has-point-requires returns)

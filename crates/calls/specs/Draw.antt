@@ -7,7 +7,7 @@ use Rattle.framebuffer.specs.declared.Frame.{Frame}
 use Rattle.framebuffer.specs.declared.Placed.{Placed}
 use Rattle.framebuffer.specs.Drawing.{Drawing, fillDrawing, outcome, pixelOutcome}
 use Rattle.framebuffer.specs.Window.{wholeWindow}
-use Rattle.drawing.specs.Drawing.{lineDrawing, triangleDrawing, outlineDrawing, circleDrawing}
+use Rattle.drawing.specs.Drawing.{lineDrawing, triangleDrawing, outlineDrawing, circleDrawing, connectedDrawing}
 use Rattle.text.specs.Fields.{nextU32}
 use Rattle.protocol.specs.declared.reply.Reply.{Reply}
 use Rattle.protocol.specs.declared.reply.Reply.the-variants.{Bad, One}
@@ -16,7 +16,7 @@ use Rattle.protocol.specs.Fields.{isLast, ofOne, ofTwo, nextPoint, nextEnds, ne
 use Rattle.protocol.specs.Reply.{verdictReply}
 use Rattle.protocol.specs.Words.{meant}
 use Rattle.questions.specs.Ask.{askReply}
-use Rattle.calls.specs.Words.{pixelWord, fillWord, lineWord, triangleWord, outlineWord, circleWord}
+use Rattle.calls.specs.Words.{pixelWord, fillWord, lineWord, triangleWord, outlineWord, circleWord, traceWord}
 
 -- a call, if the line ends there; else `bad line`, and the bytes as they were
 abbrev pub callIfLast : List ℕ → ℕ → Reply × List ℕ → List ℕ → Reply × List ℕ
@@ -60,6 +60,10 @@ unfoldable pub circleCall : List ℕ → ℕ → Frame → List ℕ → Reply ×
 circleCall said at f b =
     ofTwo (λ o c. called said (c .next) f (circleDrawing (o .topleft) (o .diameter) (c .value)) b) (nextCircle said at) (λ o. nextU32 said (o .next))
 
+-- `trace X1 Y1 X2 Y2 C`: a connected line (02, T-05)
+unfoldable pub traceCall : List ℕ → ℕ → Frame → List ℕ → Reply × List ℕ
+traceCall said at f b = ofTwo (λ l c. called said (c .next) f (connectedDrawing (l .start) (l .end) (c .value)) b) (nextEnds said at) (λ l. nextU32 said (l .next))
+
 -- ---- a call by its word; a line that starts with another word may be a question, and leaves the bytes as they were
 abbrev pub callTable : List ℕ → ℕ → Frame → List ℕ → List (List ℕ × (Reply × List ℕ))
 callTable said at f b =
@@ -69,6 +73,7 @@ callTable said at f b =
     ∷ (triangleWord, triangleCall said at f b)
     ∷ (outlineWord, outlineCall said at f b)
     ∷ (circleWord, circleCall said at f b)
+    ∷ (traceWord, traceCall said at f b)
     ∷ []
 
 abbrev pub drawCall : List ℕ → List ℕ → ℕ → Frame → List ℕ → Reply × List ℕ

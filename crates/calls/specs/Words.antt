@@ -25,3 +25,7 @@ outlineWord = 111 ∷ 117 ∷ 116 ∷ 108 ∷ 105 ∷ 110 ∷ 101 ∷ []
 -- `circle`
 abbrev pub circleWord : List ℕ
 circleWord = 99 ∷ 105 ∷ 114 ∷ 99 ∷ 108 ∷ 101 ∷ []
+
+-- `trace`
+abbrev pub traceWord : List ℕ
+traceWord = 116 ∷ 114 ∷ 97 ∷ 99 ∷ 101 ∷ []

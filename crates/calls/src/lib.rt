@@ -1,6 +1,6 @@
 // The drawing calls on the lent bytes. The numbers of a line start at `at`.
 ghost use mathlib.Core.Path.{_≡_};
-ghost use Rattle.calls.specs.Draw.{pixelCall, fillCall, lineCall, triangleCall, outlineCall, circleCall, drawCall};
+ghost use Rattle.calls.specs.Draw.{pixelCall, fillCall, lineCall, triangleCall, outlineCall, circleCall, traceCall, drawCall};
 use framebuffer::Frame;
 use geometry::Verdict;
 use protocol::Reply;
@@ -88,17 +88,30 @@ fn circle(said: &[u8], at: usize, buf: &mut [u8], frame: Frame) -> Reply
     Reply::One(drawn.number, Value::Natural(drawn.count))
 }
 
+fn trace(said: &[u8], at: usize, buf: &mut [u8], frame: Frame) -> Reply
+    ensures { λ r. ⌜ (r, now (buf .exit)) ≡ traceCall (now (said .entry)) at frame (now (buf .entry)) ⌝ }
+{
+    let ends = next_ends(said, at);
+    let colour = text::next_u32(said, ends.next);
+    if !ends_at(said, colour.next) {
+        return Reply::Bad;
+    }
+    let drawn = drawing::draw_connected_line(buf, frame, ends.start, ends.end, colour.value);
+    Reply::One(drawn.number, Value::Natural(drawn.count))
+}
+
 // Makes the call that starts with the word; a line that starts with none of these words may be a question.
 pub fn draw(word: &[u8], said: &[u8], at: usize, buf: &mut [u8], frame: Frame) -> Reply
     ensures { λ r. ⌜ (r, now (buf .exit)) ≡ drawCall (now (word .entry)) (now (said .entry)) at frame (now (buf .entry)) ⌝ }
 {
-    match place_in(b"pixel\tfill\tline\ttriangle\toutline\tcircle", word) {
+    match place_in(b"pixel\tfill\tline\ttriangle\toutline\tcircle\ttrace", word) {
         0 => pixel(said, at, buf, frame),
         1 => fill(said, at, buf, frame),
         2 => line(said, at, buf, frame),
         3 => triangle(said, at, buf, frame),
         4 => outline(said, at, buf, frame),
         5 => circle(said, at, buf, frame),
+        6 => trace(said, at, buf, frame),
         _ => ask(word, said, at),
     }
 }

@@ -9,6 +9,8 @@ use Rattle.line.specs.declared.Length.{Length}
 use Rattle.line.specs.declared.Step.{Step}
 use Rattle.line.specs.Line.{points, pointAt, hasPoint}
 use Rattle.line.specs.Answer.{endTests, stepTests, lengthAnswer, stepAnswer}
+use Rattle.connected.specs.Connected.{connectedPoints, connectedAt, hasConnected}
+use Rattle.connected.specs.Answer.{indexTests}
 use Rattle.triangle.specs.declared.RowRange.{RowRange}
 use Rattle.triangle.specs.Answer.{vertexTests, rowsAnswer}
 use Rattle.triangle.specs.Triangle as triangle
@@ -24,7 +26,7 @@ use Rattle.protocol.specs.declared.reply.Value.the-variants.{Natural, Whole}
 use Rattle.protocol.specs.Fields.{ofOne, ofTwo, nextPoint, nextEnds, nextVertices, nextCircle}
 use Rattle.protocol.specs.Reply.{ifLast, verdictReply}
 use Rattle.protocol.specs.Words.{meant}
-use Rattle.questions.specs.Words.{lengthWord, pointWord, onlineWord, insideWord, spanWord, rowsWord, discWord, discspanWord}
+use Rattle.questions.specs.Words.{lengthWord, pointWord, onlineWord, insideWord, spanWord, rowsWord, discWord, discspanWord, tracelengthWord, tracepointWord, ontraceWord}
 
 -- ---- answers, put into a reply
 abbrev pub lengthSaid : Length → Reply
@@ -54,6 +56,24 @@ pointReply said at =
 unfoldable pub onlineReply : List ℕ → ℕ → Reply
 onlineReply said at =
     ofTwo (λ l p. ifLast said (p .next) (verdictReply (verdict (first (endTests (l .start) (l .end))) (hasPoint (l .start) (l .end) (p .point)))))
+    (nextEnds said at) (λ l. nextPoint said (l .next))
+
+-- ---- of a connected line (02, T-05)
+-- `tracelength X1 Y1 X2 Y2`: number, points of the connected line
+unfoldable pub tracelengthReply : List ℕ → ℕ → Reply
+tracelengthReply said at =
+    ofOne (λ l. ifLast said (l .next) (lengthSaid (lengthAnswer (first (endTests (l .start) (l .end))) (connectedPoints (l .start) (l .end))))) (nextEnds said at)
+
+-- `tracepoint X1 Y1 X2 Y2 K`: number, x, y
+unfoldable pub tracepointReply : List ℕ → ℕ → Reply
+tracepointReply said at =
+    ofTwo (λ l k. ifLast said (k .next) (stepSaid (stepAnswer (first (indexTests (l .start) (l .end) (k .value))) (connectedAt (l .start) (l .end) (k .value)))))
+    (nextEnds said at) (λ l. nextU32 said (l .next))
+
+-- `ontrace X1 Y1 X2 Y2 X Y`: number, whether the pixel is a point of the connected line
+unfoldable pub ontraceReply : List ℕ → ℕ → Reply
+ontraceReply said at =
+    ofTwo (λ l p. ifLast said (p .next) (verdictReply (verdict (first (endTests (l .start) (l .end))) (hasConnected (l .start) (l .end) (p .point)))))
     (nextEnds said at) (λ l. nextPoint said (l .next))
 
 -- ---- of a triangle
@@ -102,6 +122,9 @@ questionTable said at =
     ∷ (rowsWord, rowsReply said at)
     ∷ (discWord, discReply said at)
     ∷ (discspanWord, discspanReply said at)
+    ∷ (tracelengthWord, tracelengthReply said at)
+    ∷ (tracepointWord, tracepointReply said at)
+    ∷ (ontraceWord, ontraceReply said at)
     ∷ []
 
 abbrev pub askReply : List ℕ → List ℕ → ℕ → Reply

@@ -33,3 +33,15 @@ discWord = 100 ∷ 105 ∷ 115 ∷ 99 ∷ []
 -- `discspan`
 abbrev pub discspanWord : List ℕ
 discspanWord = 100 ∷ 105 ∷ 115 ∷ 99 ∷ 115 ∷ 112 ∷ 97 ∷ 110 ∷ []
+
+-- `tracelength`
+abbrev pub tracelengthWord : List ℕ
+tracelengthWord = 116 ∷ 114 ∷ 97 ∷ 99 ∷ 101 ∷ 108 ∷ 101 ∷ 110 ∷ 103 ∷ 116 ∷ 104 ∷ []
+
+-- `tracepoint`
+abbrev pub tracepointWord : List ℕ
+tracepointWord = 116 ∷ 114 ∷ 97 ∷ 99 ∷ 101 ∷ 112 ∷ 111 ∷ 105 ∷ 110 ∷ 116 ∷ []
+
+-- `ontrace`
+abbrev pub ontraceWord : List ℕ
+ontraceWord = 111 ∷ 110 ∷ 116 ∷ 114 ∷ 97 ∷ 99 ∷ 101 ∷ []

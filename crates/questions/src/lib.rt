@@ -1,6 +1,7 @@
 // The questions on figures, each asked of the library. The numbers of a line start at `at`.
 ghost use mathlib.Core.Path.{_≡_};
-ghost use Rattle.questions.specs.Ask.{lengthReply, pointReply, onlineReply, insideReply, spanReply, rowsReply, discReply, discspanReply, askReply};
+ghost use Rattle.questions.specs.Ask.{lengthReply, pointReply, onlineReply, tracelengthReply, tracepointReply, ontraceReply};
+ghost use Rattle.questions.specs.Ask.{insideReply, spanReply, rowsReply, discReply, discspanReply, askReply};
 use protocol::Reply;
 use protocol::Value;
 use protocol::ends_at;
@@ -44,6 +45,41 @@ fn online(said: &[u8], at: usize) -> Reply
         return Reply::Bad;
     }
     verdict_reply(line::has_point(ends.start, ends.end, asked.point))
+}
+
+fn tracelength(said: &[u8], at: usize) -> Reply
+    ensures { λ r. ⌜ r ≡ tracelengthReply (now (said .entry)) at ⌝ }
+{
+    let ends = next_ends(said, at);
+    if !ends_at(said, ends.next) {
+        return Reply::Bad;
+    }
+    let found = connected::length(ends.start, ends.end);
+    Reply::One(found.number, Value::Natural(found.points))
+}
+
+fn tracepoint(said: &[u8], at: usize) -> Reply
+    ensures { λ r. ⌜ r ≡ tracepointReply (now (said .entry)) at ⌝ }
+{
+    let ends = next_ends(said, at);
+    let index = text::next_u32(said, ends.next);
+    if !ends_at(said, index.next) {
+        return Reply::Bad;
+    }
+    let found = connected::point(ends.start, ends.end, index.value);
+    let p = found.point;
+    Reply::Two(found.number, Value::Whole(p.0), Value::Whole(p.1))
+}
+
+fn ontrace(said: &[u8], at: usize) -> Reply
+    ensures { λ r. ⌜ r ≡ ontraceReply (now (said .entry)) at ⌝ }
+{
+    let ends = next_ends(said, at);
+    let asked = next_point(said, ends.next);
+    if !ends_at(said, asked.next) {
+        return Reply::Bad;
+    }
+    verdict_reply(connected::has_point(ends.start, ends.end, asked.point))
 }
 
 fn inside(said: &[u8], at: usize) -> Reply
@@ -120,7 +156,7 @@ pub fn ask(word: &[u8], said: &[u8], at: usize) -> Reply
     ensures { λ r. ⌜ r ≡ askReply (now (word .entry)) (now (said .entry)) at ⌝ }
 {
     match place_in(
-        b"length\tpoint\tonline\tinside\tspan\trows\tdisc\tdiscspan",
+        b"length\tpoint\tonline\tinside\tspan\trows\tdisc\tdiscspan\ttracelength\ttracepoint\tontrace",
         word,
     ) {
         0 => length(said, at),
@@ -131,6 +167,9 @@ pub fn ask(word: &[u8], said: &[u8], at: usize) -> Reply
         5 => rows(said, at),
         6 => disc(said, at),
         7 => discspan(said, at),
+        8 => tracelength(said, at),
+        9 => tracepoint(said, at),
+        10 => ontrace(said, at),
         _ => Reply::Bad,
     }
 }

@@ -28,6 +28,9 @@ outline-requires c κs = search needs
 circle-requires : tie.Need-circle-requires
 circle-requires c κs = search needs
 
+trace-requires : tie.Need-trace-requires
+trace-requires c κs = search needs
+
 ask-requires : tie.Need-ask-requires
 ask-requires c κs = search needs
 
@@ -67,8 +70,14 @@ same-length-6 c = search needs
 returns-6 : tie.Need-returns-6
 returns-6 c = search call-words
 
+same-length-7 : tie.Need-same-length-7
+same-length-7 c = search needs
+
 returns-7 : tie.Need-returns-7
 returns-7 c = search call-words
+
+returns-8 : tie.Need-returns-8
+returns-8 c = search call-words
 
 pub draw-spec : {M : Type 1} → statement M
 draw-spec =
@@ -82,6 +91,7 @@ draw-spec =
     triangle-requires
     outline-requires
     circle-requires
+    trace-requires
     ask-requires
     same-length
     returns
@@ -95,4 +105,6 @@ draw-spec =
     returns-5
     same-length-6
     returns-6
-    returns-7)
+    same-length-7
+    returns-7
+    returns-8)

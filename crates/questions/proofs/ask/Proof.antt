@@ -34,6 +34,15 @@ disc-requires c κs = search needs
 discspan-requires : tie.Need-discspan-requires
 discspan-requires c κs = search needs
 
+tracelength-requires : tie.Need-tracelength-requires
+tracelength-requires c κs = search needs
+
+tracepoint-requires : tie.Need-tracepoint-requires
+tracepoint-requires c κs = search needs
+
+ontrace-requires : tie.Need-ontrace-requires
+ontrace-requires c κs = search needs
+
 returns : tie.Need-returns
 returns c = search choices
 
@@ -61,6 +70,15 @@ returns-8 c = search choices
 returns-9 : tie.Need-returns-9
 returns-9 c = search choices
 
+returns-10 : tie.Need-returns-10
+returns-10 c = search choices
+
+returns-11 : tie.Need-returns-11
+returns-11 c = search choices
+
+returns-12 : tie.Need-returns-12
+returns-12 c = search choices
+
 pub ask-spec : {M : Type 1} → statement M
 ask-spec =
     tie.close
@@ -75,6 +93,9 @@ ask-spec =
     rows-requires
     disc-requires
     discspan-requires
+    tracelength-requires
+    tracepoint-requires
+    ontrace-requires
     returns
     returns-2
     returns-3
@@ -83,4 +104,7 @@ ask-spec =
     returns-6
     returns-7
     returns-8
-    returns-9)
+    returns-9
+    returns-10
+    returns-11
+    returns-12)

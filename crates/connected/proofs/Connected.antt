@@ -60,8 +60,8 @@ module _ (s e : Point) where
       by (upright x y) = omega arith
 
   -- ---- the normal points are the line's: step k's has index k + m (`normal-at`, `normal-is`), and a later step's a larger one
-  pub in-order : (j k : ℕ) → j < k → indexOf s e j < indexOf s e k
-  in-order j k h = omega (arith, index-more s e j k (omega arith))
+  pub normal-in-order : (j k : ℕ) → j < k → indexOf s e j < indexOf s e k
+  normal-in-order j k h = omega (arith, index-more s e j k (omega arith))
 
   index-within : (k : ℕ) → k ≤ major s e → indexOf s e k ≤ lastIndex s e
   index-within k l = omega (arith, index-more s e k (major s e) l, index-last s e)

@@ -13,7 +13,7 @@ use Rattle.line.specs.Walk.{placeAt, standing, isDue}
 use Rattle.line.proofs.Lengths.{narrow}
 use Rattle.line.proofs.Moves.{moves-is, moves-fixed}
 use Rattle.line.proofs.Walk.{standing-point, due-some}
-use Rattle.connected.specs.Connected.{corner, indexOf, lastIndex, isExtra, alike, extraAt, connectedAt}
+use Rattle.connected.specs.Connected.{besideBoth, indexOf, lastIndex, isExtra, alike, extraAt, connectedAt}
 use Rattle.connected.specs.Walk.{mirrored, MovesMade}
 use Rattle.connected.proofs.Indices.{Grows, index-is, normal-is, extra-is, normal-at, extra-at}
 
@@ -61,7 +61,7 @@ module _ (s e : Point) where
   major-alone j = by (steep s e) (alike s e)
     where
       by : (t a : Bool) → cond t (not a) a ≡ false
-          → placeAt s e (cond t (moves (major s e) (minor s e) j) (j + 1)) (cond t (j + 1) (moves (major s e) (minor s e) j)) ≡ corner a (at t j) (at t (j + 1))
+          → placeAt s e (cond t (moves (major s e) (minor s e) j) (j + 1)) (cond t (j + 1) (moves (major s e) (minor s e) j)) ≡ besideBoth a (at t j) (at t (j + 1))
       by true true f = refl
       by true false f = absurd (true≢false f)
       by false true f = absurd (true≢false f)
@@ -72,7 +72,7 @@ module _ (s e : Point) where
   minor-alone j = by (steep s e) (alike s e)
     where
       by : (t a : Bool) → cond t (not a) a ≡ true
-          → placeAt s e (cond t (moves (major s e) (minor s e) (j + 1)) j) (cond t j (moves (major s e) (minor s e) (j + 1))) ≡ corner a (at t j) (at t (j + 1))
+          → placeAt s e (cond t (moves (major s e) (minor s e) (j + 1)) j) (cond t j (moves (major s e) (minor s e) (j + 1))) ≡ besideBoth a (at t j) (at t (j + 1))
       by true true f = absurd (false≢true f)
       by true false f = refl
       by false true f = refl

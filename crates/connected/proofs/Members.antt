@@ -16,9 +16,9 @@ use Rattle.line.proofs.Closed.{moves-off}
 use Rattle.connected.specs.Connected.{lastIndex, connectedPoints, connectedAt, HasConnected, hasConnected}
 use Rattle.connected.proofs.Points.{xAt, yAt, at-place, at-sum}
 
-pub has-decides : (s e p : Point) → Decides (hasConnected s e p) (HasConnected s e p)
+pub connected-decides : (s e p : Point) → Decides (hasConnected s e p) (HasConnected s e p)
 unfolding hasConnected
-has-decides s e p =
+connected-decides s e p =
     decides-map (some-decides (connectedAt s e) p (connectedPoints s e)) (λ h. record { index = h .k; walked = omega (arith, h .below); here = h .here })
     (λ h. record { k = h .index; below = omega (arith, h .walked); here = h .here })
 
@@ -57,11 +57,11 @@ module _ (s e : Point) where
 
     -- past the last there is no point
     pub too-far : lastIndex s e < far s p → hasConnected s e p ≡ false
-    too-far l = decides-no (has-decides s e p) (λ h. omega (arith, its-index h, h .walked))
+    too-far l = decides-no (connected-decides s e p) (λ h. omega (arith, its-index h, h .walked))
 
     -- up to it, the point of that index or none
     pub only-there : far s p ≤ lastIndex s e → samePlace p (connectedAt s e (far s p)) ≡ hasConnected s e p
     only-there l =
         decides-one (samePlace p (connectedAt s e (far s p))) (hasConnected s e p)
         (decides-map (same-decides p (connectedAt s e (far s p))) (λ h. record { index = far s p; walked = l; here = h }) (λ h. h .here ∙ ap (connectedAt s e) (its-index h)))
-        (has-decides s e p)
+        (connected-decides s e p)

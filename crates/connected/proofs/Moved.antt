@@ -8,7 +8,7 @@ use Rattle.geometry.specs.declared.Point.{Point}
 use Rattle.geometry.specs.Place.{moved}
 use Rattle.line.specs.Line.{moves, pointAt, someStep}
 use Rattle.line.proofs.Points.{same-way, some-moved, major-moved, minor-moved, point-moved}
-use Rattle.connected.specs.Connected.{lastUpTo, corner, indexOf, lastIndex, connectedPoints, stepOf, isExtra, alike, extraAt, connectedAt, hasConnected}
+use Rattle.connected.specs.Connected.{lastUpTo, besideBoth, indexOf, lastIndex, connectedPoints, stepOf, isExtra, alike, extraAt, connectedAt, hasConnected}
 
 module _ (s e v : Point) where
   pub last-moved : lastIndex (moved v s) (moved v e) ≡ lastIndex s e
@@ -25,13 +25,13 @@ module _ (s e v : Point) where
   alike-moved : alike (moved v s) (moved v e) ≡ alike s e
   alike-moved = ap₂ eqZ (same-way (s .0) (e .0) (v .0)) (same-way (s .1) (e .1) (v .1))
 
-  corner-moved : (b : Bool) (p q : Point) → corner b (moved v p) (moved v q) ≡ moved v (corner b p q)
-  corner-moved true p q = refl
-  corner-moved false p q = refl
+  beside-moved : (b : Bool) (p q : Point) → besideBoth b (moved v p) (moved v q) ≡ moved v (besideBoth b p q)
+  beside-moved true p q = refl
+  beside-moved false p q = refl
 
   extra-moved : (k : ℕ) → extraAt (moved v s) (moved v e) k ≡ moved v (extraAt s e k)
   unfolding extraAt
-  extra-moved k = (λ t. corner (alike-moved t) (point-moved s e v k t) (point-moved s e v (k + 1) t)) ∙ corner-moved (alike s e) (pointAt s e k) (pointAt s e (k + 1))
+  extra-moved k = (λ t. besideBoth (alike-moved t) (point-moved s e v k t) (point-moved s e v (k + 1) t)) ∙ beside-moved (alike s e) (pointAt s e k) (pointAt s e (k + 1))
 
   pub connected-moved : (i : ℕ) → connectedAt (moved v s) (moved v e) i ≡ moved v (connectedAt s e i)
   unfolding connectedAt

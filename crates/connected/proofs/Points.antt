@@ -9,7 +9,7 @@ use Rattle.geometry.specs.declared.Point.{Point}
 use Rattle.line.specs.Line.{steep, major, minor, moves, xMoves, yMoves, pointAt}
 use Rattle.line.specs.Walk.{placeAt}
 use Rattle.line.proofs.Points.{x-mono, y-mono}
-use Rattle.connected.specs.Connected.{corner, indexOf, lastIndex, stepOf, isExtra, alike, extraAt, connectedAt}
+use Rattle.connected.specs.Connected.{besideBoth, indexOf, lastIndex, stepOf, isExtra, alike, extraAt, connectedAt}
 use Rattle.connected.proofs.Indices.{Grows, View, Growth, index-is, grows-index, at-normal, at-extra, growth, not-last, view, normal, extra, grows, stays}
 
 module _ (s e : Point) where
@@ -45,7 +45,7 @@ module _ (s e : Point) where
   extra-place k = by (alike s e)
     where
       by : (a : Bool)
-          → corner a (pointAt s e k) (pointAt s e (k + 1)) ≡ placeAt s e (cond a (xMoves s e k) (xMoves s e (k + 1))) (cond a (yMoves s e (k + 1)) (yMoves s e k))
+          → besideBoth a (pointAt s e k) (pointAt s e (k + 1)) ≡ placeAt s e (cond a (xMoves s e k) (xMoves s e (k + 1))) (cond a (yMoves s e (k + 1)) (yMoves s e k))
       by true = refl
       by false = refl
 

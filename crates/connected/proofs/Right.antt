@@ -97,8 +97,8 @@ module _ (s e : Point) where
         other h = subst (λ (t : Bool). wide s e * cond t (yMoves s e (k + 1)) (yMoves s e k) < cond t (xMoves s e k) (xMoves s e (k + 1)) * high s e) (sym h) own-row
 
   -- EVERY EXTRA POINT LIES STRICTLY ON THE RIGHT
-  pub right : (i : ℕ) → i ≤ lastIndex s e → isExtra s e i ≡ true → pos 0 <ℤ areaDoubled s e (connectedAt s e i)
-  right i l h = by (view s e i l)
+  pub extras-right : (i : ℕ) → i ≤ lastIndex s e → isExtra s e i ≡ true → pos 0 <ℤ areaDoubled s e (connectedAt s e i)
+  extras-right i l h = by (view s e i l)
     where
       by : View s e i → pos 0 <ℤ areaDoubled s e (connectedAt s e i)
       by (normal k w q) = absurd (true≢false (sym h ∙ ap (isExtra s e) q ∙ normal-is s e k w))

@@ -14,9 +14,9 @@ lastUpTo f i zero = 0
 lastUpTo f i (suc n) = cond (leb (f (suc n)) i) (suc n) (lastUpTo f i n)
 
 -- the two pixels that share an edge with both of two diagonal neighbours p and q: in the column of p, and in its row
-abbrev pub corner : Bool → Point → Point → Point
-corner true p q = (p .0, q .1)
-corner false p q = (q .0, p .1)
+abbrev pub besideBoth : Bool → Point → Point → Point
+besideBoth true p q = (p .0, q .1)
+besideBoth false p q = (q .0, p .1)
 
 module _ (s e : Point) where
   -- points are counted from 0, the start. The normal point of step k has this index: k normal points and m extra ones come before it
@@ -47,7 +47,7 @@ module _ (s e : Point) where
   -- the pixel below on the way right and down, and above on the way left and up: its own column. It is the pixel to the right on the way right and up, and to the left
   -- on the way left and down: its own row
   unfoldable pub extraAt : ℕ → Point
-  extraAt k = corner alike (pointAt s e k) (pointAt s e (k + 1))
+  extraAt k = besideBoth alike (pointAt s e k) (pointAt s e (k + 1))
 
   -- the point of index i: a normal one, or the extra one after it
   unfoldable pub connectedAt : ℕ → Point

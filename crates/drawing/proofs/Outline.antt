@@ -9,12 +9,12 @@ use lib.IntN.{ℤ, pos}
 use lib.ListN.{length}
 use Rattle.refusals.specs.First.{Tests, first}
 use Rattle.geometry.specs.declared.Point.{Point}
-use Rattle.geometry.specs.Place.{before}
+use Rattle.geometry.specs.Place.{before, areaDoubled}
 use Rattle.geometry.proofs.Place.{before-trans}
 use Rattle.line.specs.Line.{wide, high, major, minor, moves, xMoves, yMoves, pointAt, hasPoint}
 use Rattle.triangle.specs.Answer.{vertexTests}
 use Rattle.triangle.specs.Order.{sorted}
-use Rattle.triangle.specs.Triangle.{areaDoubled, noneBelow, noneAbove, isFlat, isInside, onEdge, contained}
+use Rattle.triangle.specs.Triangle.{noneBelow, noneAbove, isFlat, isInside, onEdge, contained}
 use Rattle.triangle.proofs.AnyOrder.{Same}
 use Rattle.triangle.proofs.Order.{sorted-ordered, sorted-same}
 use Rattle.triangle.proofs.Triangle.{p1, p2, p3, flat}

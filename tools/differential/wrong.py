@@ -36,7 +36,7 @@ def without_kept_figures():
 
 
 def forget_figures():
-    for figures in (replay.line, replay.triangle, replay.circle):
+    for figures in (replay.line, replay.connected, replay.triangle, replay.circle):
         figures.cache_clear()
 
 

@@ -1,5 +1,5 @@
 """The known answers 1 to 14 of 01 (docs/RULES.md), the listing of `spans`, errors that look right, and what was worked out by hand from 02's words: image
-files, counts of pixels, outlines over their fills."""
+files, counts of pixels, outlines over their fills, connected lines."""
 
 # Under each number the lines that ask for it and, behind ->, the answers.
 KNOWN = """
@@ -201,6 +201,79 @@ flat frame 8 4 1 0 4 -> 0 4
     fill 0 -> 0 32
     outline 5 1 4 3 6 -1 1 -> 0 4
     dump 0 4 -> 02040408
+connected tracelength 0 0 0 0 -> 0 1
+    tracepoint 0 0 0 0 0 -> 0 0 0
+    tracepoint 0 0 0 0 1 -> 7 0 0
+    tracelength 0 0 -3 0 -> 0 4
+    tracepoint 0 0 -3 0 2 -> 0 -2 0
+    tracelength 0 0 2 1 -> 0 4
+    tracepoint 0 0 2 1 0 -> 0 0 0
+    tracepoint 0 0 2 1 1 -> 0 1 0
+    tracepoint 0 0 2 1 2 -> 0 1 1
+    tracepoint 0 0 2 1 3 -> 0 2 1
+    tracepoint 0 0 2 1 4 -> 7 0 0
+    tracepoint 2 1 0 0 0 -> 0 2 1
+    tracepoint 2 1 0 0 1 -> 0 1 1
+    tracepoint 2 1 0 0 2 -> 0 1 0
+    tracepoint 2 1 0 0 3 -> 0 0 0
+    tracelength 0 0 5 2 -> 0 8
+    tracepoint 0 0 5 2 1 -> 0 1 0
+    tracepoint 0 0 5 2 2 -> 0 1 1
+    tracepoint 0 0 5 2 3 -> 0 2 1
+    tracepoint 0 0 5 2 4 -> 0 3 1
+    tracepoint 0 0 5 2 5 -> 0 3 2
+    tracepoint 0 0 5 2 6 -> 0 4 2
+    tracepoint 0 0 5 2 7 -> 0 5 2
+    ontrace 0 0 5 2 3 2 -> 0 1
+    ontrace 0 0 5 2 4 1 -> 0 0
+    ontrace 0 0 5 2 6 2 -> 0 0
+    ontrace 0 0 5 2 2147483647 -2147483648 -> 0 0
+    tracelength -131072 -131072 131071 131071 -> 0 524287
+    tracepoint -131072 -131072 131071 131071 524286 -> 0 131071 131071
+    tracepoint -131072 -131072 131071 131071 524287 -> 7 0 0
+    tracelength 131072 0 0 0 -> 5 0
+    tracepoint 0 0 0 -131073 9 -> 5 0 0
+    ontrace 0 0 131072 0 0 0 -> 5 0
+right tracepoint 3 3 6 4 2 -> 0 4 4
+    tracepoint 3 3 4 6 2 -> 0 3 5
+    tracepoint 3 3 2 6 2 -> 0 2 4
+    tracepoint 3 3 0 4 2 -> 0 1 3
+    tracepoint 3 3 0 2 2 -> 0 2 2
+    tracepoint 3 3 2 0 2 -> 0 3 1
+    tracepoint 3 3 4 0 2 -> 0 4 2
+    tracepoint 3 3 6 2 2 -> 0 5 3
+    tracepoint 0 0 2 2 1 -> 0 0 1
+    tracepoint 0 0 2 2 3 -> 0 1 2
+    tracepoint 2 0 0 2 1 -> 0 1 0
+    tracepoint 2 2 0 0 1 -> 0 2 1
+    tracepoint 0 2 2 0 1 -> 0 1 2
+traced frame 8 4 1 0 4 -> 0 4
+    line 0 0 5 2 1 -> 0 6
+    dump 0 4 -> c0300c00
+    trace 0 0 5 2 1 -> 0 8
+    dump 0 4 -> c0701c00
+    fill 0 -> 0 32
+    trace 5 2 0 0 1 -> 0 8
+    trace 5 2 0 0 1 -> 0 8
+    dump 0 4 -> e0380c00
+    fill 0 -> 0 32
+    trace 6 1 9 4 1 -> 0 4
+    dump 0 4 -> 00020301
+    fill 0 -> 0 32
+    line 8 2 7 4 1 -> 0 0
+    trace 8 2 7 4 1 -> 0 1
+    dump 0 4 -> 00000001
+    trace -1 0 -1 9 1 -> 0 0
+    trace 3 3 3 3 1 -> 0 1
+    trace 0 0 131072 0 2 -> 4 0
+    trace 0 0 131072 0 1 -> 5 0
+    dump 0 4 -> 00000011
+    frame 8 4 1 0 3 -> 0 4
+    trace 0 0 131072 0 2 -> 3 0
+    frame 2049 4 1 0 3 -> 2 0
+    trace 0 0 131072 0 2 -> 2 0
+    frame 2049 4 3 0 3 -> 1 0
+    trace 0 0 131072 0 2 -> 1 0
 """
 
 

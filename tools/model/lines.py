@@ -1,6 +1,11 @@
-"""01 (docs/RULES.md), "Lines"."""
+"""01 (docs/RULES.md), "Lines"; and on which side of one a place lies."""
 
 from bisect import bisect_left, bisect_right
+
+
+def doubled_area(a, b, c):
+    """Twice the signed area: above 0 if c lies on the right of the way from a to b, rows being counted down."""
+    return (b[0] - a[0]) * (c[1] - a[1]) - (b[1] - a[1]) * (c[0] - a[0])
 
 
 class Line:
@@ -28,9 +33,13 @@ class Line:
             return self.x + self.towards_x * m, self.y + self.towards_y * k
         return self.x + self.towards_x * k, self.y + self.towards_y * m
 
+    def step_of(self, x, y):
+        """The step that a pixel's major coordinate names."""
+        return (y - self.y) * self.towards_y if self.y_is_major else (x - self.x) * self.towards_x
+
     def contains(self, x, y):
         """Whether a pixel is a point of the line: only the step that its major coordinate names can have it."""
-        k = (y - self.y) * self.towards_y if self.y_is_major else (x - self.x) * self.towards_x
+        k = self.step_of(x, y)
         return 0 <= k <= self.major and self.point(k) == (x, y)
 
     def columns(self, y):

@@ -30,7 +30,7 @@ def circle(left, top, diameter):
 
 
 def step(line, k):
-    return {7: k > line.major}
+    return {7: k >= line.points()}
 
 
 def read(frame, x, y):

@@ -5,6 +5,7 @@ from functools import lru_cache
 
 from . import images, numbers
 from .circles import Circle
+from .connected import Connected
 from .frames import Frame, everywhere
 from .lines import Line
 from .triangles import Outline, Triangle
@@ -17,8 +18,8 @@ LONGEST_LINE = 128
 FIELDS = {
     "frame": "uuuuu", "preset": "u", "read": "ss", "dump": "uu", "lit": "",
     "image": "u", "imagesize": "", "file": "uu", "wipe": "u",
-    "pixel": "ssu", "fill": "u", "line": "ssssu", "triangle": "ssssssu", "outline": "ssssssu", "circle": "ssuu",
-    "length": "ssss", "point": "ssssu", "online": "ssssss",
+    "pixel": "ssu", "fill": "u", "line": "ssssu", "trace": "ssssu", "triangle": "ssssssu", "outline": "ssssssu", "circle": "ssuu",
+    "length": "ssss", "point": "ssssu", "online": "ssssss", "tracelength": "ssss", "tracepoint": "ssssu", "ontrace": "ssssss",
     "inside": "ssssssss", "span": "sssssss", "rows": "ssssss", "disc": "ssuss", "discspan": "ssus",
 }
 NUMBER = {"s": "(-?[0-9]{1,10})", "u": "([0-9]{1,10})"}
@@ -28,7 +29,7 @@ SHAPE = {
 }
 
 # Questions on one figure often stand together.
-line, triangle, circle = (lru_cache(maxsize=16)(figure) for figure in (Line, Triangle, Circle))
+line, connected, triangle, circle = (lru_cache(maxsize=16)(figure) for figure in (Line, Connected, Triangle, Circle))
 
 
 class BadLine(Exception):
@@ -108,8 +109,13 @@ class Replay:
     def fill(self, colour):
         return self.painted(everywhere, colour)
 
-    def line(self, x1, y1, x2, y2, colour):
-        return self.painted(Line(x1, y1, x2, y2).contains, colour, numbers.coordinates(x1, y1, x2, y2))
+    def line(self, *given):
+        *ends, colour = given
+        return self.painted(Line(*ends).contains, colour, numbers.coordinates(*ends))
+
+    def trace(self, *given):
+        *ends, colour = given
+        return self.painted(Connected(*ends).contains, colour, numbers.coordinates(*ends))
 
     def triangle(self, *given):
         *vertices, colour = given
@@ -138,16 +144,22 @@ class Replay:
     # Questions on figures.
 
     def length(self, *ends):
-        return answered(numbers.first(numbers.coordinates(*ends)), 1, lambda: [line(*ends).points()])
+        return length_of(line, ends)
 
     def point(self, *given):
-        *ends, k = given
-        number = numbers.first(numbers.coordinates(*ends), numbers.step(line(*ends), k))
-        return answered(number, 2, lambda: line(*ends).point(k))
+        return point_of(line, given)
 
     def online(self, *given):
-        *ends, x, y = given
-        return answered(numbers.first(numbers.coordinates(*ends)), 1, lambda: [line(*ends).contains(x, y)])
+        return is_point_of(line, given)
+
+    def tracelength(self, *ends):
+        return length_of(connected, ends)
+
+    def tracepoint(self, *given):
+        return point_of(connected, given)
+
+    def ontrace(self, *given):
+        return is_point_of(connected, given)
 
     def inside(self, *given):
         *vertices, x, y = given
@@ -180,6 +192,21 @@ def shown(buffer, start, count):
     if count > MOST_DUMPED or start + count > BYTES:
         raise BadLine
     return buffer[start:start + count].hex()
+
+
+def length_of(figure, ends):
+    return answered(numbers.first(numbers.coordinates(*ends)), 1, lambda: [figure(*ends).points()])
+
+
+def point_of(figure, given):
+    *ends, k = given
+    number = numbers.first(numbers.coordinates(*ends), numbers.step(figure(*ends), k))
+    return answered(number, 2, lambda: figure(*ends).point(k))
+
+
+def is_point_of(figure, given):
+    *ends, x, y = given
+    return answered(numbers.first(numbers.coordinates(*ends)), 1, lambda: [figure(*ends).contains(x, y)])
 
 
 def on_circle(left, top, diameter):

@@ -1,11 +1,6 @@
 """01 and 02 (docs/RULES.md), "Triangles": what one contains, and its outline."""
 
-from .lines import Line
-
-
-def doubled_area(a, b, c):
-    """Twice the signed area."""
-    return (b[0] - a[0]) * (c[1] - a[1]) - (b[1] - a[1]) * (c[0] - a[0])
+from .lines import Line, doubled_area
 
 
 def sorted_yx(vertices):

@@ -66,6 +66,6 @@ fn doubled_area(a: Point, b: Point, c: Point) -> i64 {
 }
 
 /// Whether a pixel is one of the points that the Rust walks from the line's start to its end.
-pub fn on_line(line: Line, p: Point) -> bool {
+fn on_line(line: Line, p: Point) -> bool {
     line.points().any(|point| point == p)
 }

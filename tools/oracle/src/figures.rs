@@ -1,9 +1,6 @@
 //! How the questions on lines, triangles and circles are put to the Rust.
 
-use crate::{
-    differences::{on_line, Difference},
-    question::Question,
-};
+use crate::{differences::Difference, question::Question};
 use embedded_graphics::{
     geometry::{Dimensions, Point},
     primitives::{Circle, ContainsPoint, Line, PointsIter, Triangle},
@@ -32,23 +29,27 @@ impl Figures {
     pub fn answer(&mut self, question: &Question) -> Option<String> {
         let numbers = question.numbers.as_slice();
         match question.word {
-            "length" | "point" | "online" => self.on_line(question.word, numbers),
+            "length" | "point" | "online" => self.on_line(question.word, numbers, |line| line.points()),
+            "tracelength" | "tracepoint" | "ontrace" => self.on_line(question.word, numbers, |line| line.connected_points()),
             "inside" | "span" | "rows" => self.on_triangle(question.word, numbers),
             "disc" | "discspan" => self.on_circle(question.word, numbers),
             _ => None,
         }
     }
 
-    fn on_line(&self, word: &str, numbers: &[i64]) -> Option<String> {
+    /// The questions on a line or a connected line, of which the crate has the points only: they are counted and looked through.
+    fn on_line<P: Iterator<Item = Point>>(&self, word: &str, numbers: &[i64], points: impl Fn(Line) -> P) -> Option<String> {
         Some(match (word, numbers) {
-            ("length", line) => format!("0\t{}", self.line(line)?.points().count()),
-            ("point", [line @ .., k]) => match self.line(line)?.points().nth(u32::try_from(*k).ok()? as usize) {
+            ("length" | "tracelength", line) => format!("0\t{}", points(self.line(line)?).count()),
+            ("point" | "tracepoint", [line @ .., k]) => match points(self.line(line)?).nth(u32::try_from(*k).ok()? as usize) {
                 Some(point) => format!("0\t{}\t{}", point.x, point.y),
                 // The iterator's end stands for refusal 7.
                 None => "7\t0\t0".into(),
             },
-            // The crate has no such question: its points are looked through.
-            ("online", [line @ .., x, y]) => yes_or_no(on_line(self.line(line)?, self.point(*x, *y)?)),
+            ("online" | "ontrace", [line @ .., x, y]) => {
+                let p = self.point(*x, *y)?;
+                yes_or_no(points(self.line(line)?).any(|point| point == p))
+            }
             _ => return None,
         })
     }

@@ -109,7 +109,7 @@ fn boxed<F: Frame + 'static>(new: fn() -> F) -> Box<dyn Frame> {
 }
 
 /// What may change the bytes.
-const CHANGES: [&str; 7] = ["preset", "pixel", "fill", "line", "triangle", "outline", "circle"];
+const CHANGES: [&str; 8] = ["preset", "pixel", "fill", "line", "trace", "triangle", "outline", "circle"];
 
 /// The frame described last; none if the Rust can't have it.
 #[derive(Default)]
@@ -209,12 +209,14 @@ fn lit(frame: &dyn Frame, (width, height): (i32, i32)) -> usize {
 type Points = Box<dyn Iterator<Item = Point>>;
 
 /// The points of a figure in the order in which the Rust gives them. The crate draws styled figures, whose text is not given:
-/// a line is drawn by its points, an outline by those of its three edges, each walked from its smaller end as the Rust's own
-/// rows have it, a filled triangle and a circle by their spans, which are also what the points of a circle are made of.
+/// a line is drawn by its points, a connected line by those of `next_all`, an outline by those of its three edges, each walked
+/// from its smaller end as the Rust's own rows have it, a filled triangle and a circle by their spans, which are also what the
+/// points of a circle are made of.
 fn points(word: &str, figure: &[i64], figures: &Figures, size: (i32, i32)) -> Option<Points> {
     Some(match (word, figure) {
         ("pixel", &[x, y]) => Box::new([pixel(x, y)?].into_iter()),
         ("line", line) => Box::new(figures.line(line)?.points()),
+        ("trace", line) => Box::new(figures.line(line)?.connected_points()),
         ("outline", triangle) => Box::new(sorted_edges(&figures.triangle(triangle)?).into_iter().flat_map(|edge| edge.points())),
         ("triangle", triangle) => Box::new(near(triangle_spans(figures.triangle(triangle)?, size.1), size)),
         ("circle", circle) => {

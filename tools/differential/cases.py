@@ -18,8 +18,10 @@ def once_by_rust(random, sizes):
     return {
         "every triangle of a grid": grids.triangles(),
         "every line of a grid": grids.lines(),
+        "every connected line of a box": grids.connected_lines(),
         "every circle to d = 64": grids.circles(),
         "lines at the range's corners": corners.lines(),
+        "connected lines at the range's corners": corners.connected_lines(),
         "triangles at the range's corners": corners.triangles(),
         "circles at the range's corners": corners.circles(),
         "every pixel of small frames": frames.every_pixel(random, sizes),
@@ -35,6 +37,7 @@ def round_by_rust(random, sizes):
     drawings = Drawings(random, common(sizes), corners.LOW, corners.HIGH, with_fill=False, refused=0)
     kinds = {
         "lines": lambda: near.lines(8_000),
+        "connected lines": lambda: near.connected_lines(4_000),
         "triangles": lambda: near.triangles(8_000),
         "circles": lambda: near.circles(800),
         "drawing": lambda: drawings.sequences(300),
@@ -60,6 +63,7 @@ def round_by_model(random):
     limits, files, lit = Limits(random), Images(random), Lights(random)
     return {
         "far lines": lambda: far.lines(1_000),
+        "far connected lines": lambda: far.connected_lines(1_000),
         "far triangles": lambda: far.triangles(1_000),
         "far circles": lambda: far.circles(100),
         "drawing, fills and refused calls": lambda: drawings.sequences(300),
@@ -78,6 +82,7 @@ def part(random, batch, count):
         return random.sample(batch, min(count, len(batch)))
     runs = [batch[start:end] for start, end in zip(starts, [*starts[1:], len(batch)])]
     chosen = []
-    while len(chosen) < count:
-        chosen += random.choice(runs)
+    for run in random.sample(runs, len(runs)):
+        if len(chosen) < count:
+            chosen += run
     return chosen

@@ -2,19 +2,27 @@
 
 from itertools import product
 
-from .questions import box_of, on_circle, on_line, on_triangle, steps_of
+from .questions import box_of, last_index, last_step, on_circle, on_connected, on_line, on_triangle
 
 LOW, HIGH = -8_192, 8_191
 DIAMETERS = [1, 2, 3, 4, 5, 100, 8_191, 8_192, 8_193, 16_383, 16_384]
 
 
 def lines():
+    yield from between_places(on_line, last_step)
+
+
+def connected_lines():
+    yield from between_places(on_connected, last_index)
+
+
+def between_places(on_one, last_of):
     places = list(product([LOW, LOW + 1, 0, HIGH], repeat=2))
     for start in places:
         batch = []
         for end in places:
-            last = steps_of(start, end)
-            batch += on_line(start, end, beside([start, end]), [0, 1, last // 2, last, last + 1])
+            last = last_of(start, end)
+            batch += on_one(start, end, beside([start, end]), [0, 1, last // 2, last, last + 1])
         yield batch
 
 

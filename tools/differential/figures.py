@@ -2,7 +2,7 @@
 
 from math import gcd
 
-from .questions import box_of, on_circle, on_line, on_triangle, steps_of
+from .questions import box_of, last_index, last_step, on_circle, on_connected, on_line, on_triangle
 
 
 class Figures:
@@ -15,7 +15,10 @@ class Figures:
         self.doublings = (high - low + 1).bit_length() - 1
 
     def lines(self, count):
-        return [line for _ in range(count) for line in self.line()]
+        return [line for _ in range(count) for line in self.line(on_line, last_step)]
+
+    def connected_lines(self, count):
+        return [line for _ in range(count) for line in self.line(on_connected, last_index)]
 
     def triangles(self, count):
         return [line for _ in range(count) for line in self.triangle()]
@@ -23,11 +26,11 @@ class Figures:
     def circles(self, count):
         return [line for _ in range(count) for line in self.circle()]
 
-    def line(self):
+    def line(self, on_one, last_of):
         start, end = self.within(self.scattered(2, self.reach()))
-        last = steps_of(start, end)
+        last = last_of(start, end)
         steps = [0, last, last + 1, *(self.random.randint(0, last) for _ in range(5))]
-        return on_line(start, end, self.pixels([start, end], 8), steps)
+        return on_one(start, end, self.pixels([start, end], 8), steps)
 
     def triangle(self):
         vertices = self.within(self.vertices())

@@ -44,14 +44,15 @@ def one_by_one(random, width, height, depth, order):
 
 
 def every_figure(random):
-    """Every line, triangle and outline with its corners on a small frame and beside it, those that are flat or a dot too, and every circle about the frame,
-    each depth and order in turn: how many pixels of the frame each has. An outline is drawn over its fill, and the bytes are shown."""
-    lines = [[("line", *start, *end) for end in AROUND] for start in AROUND]
+    """Every line, connected or not, triangle and outline with its corners on a small frame and beside it, those that are flat or a dot too, and every circle
+    about the frame, each depth and order in turn: how many pixels of the frame each has. A connected line is drawn on zeros and an outline over its fill, and
+    the bytes are shown."""
+    lines, connected = ([[(word, *start, *end) for end in AROUND] for start in AROUND] for word in ("line", "trace"))
     triples = [[(*v1, *v2, *v3) for v3 in AROUND] for v1, v2 in product(AROUND, repeat=2)]
     triangles, outlines = ([[(word, *vertices) for vertices in some] for some in triples] for word in ("triangle", "outline"))
     circles = [[("circle", left, top, diameter) for left, top in about(diameter)] for diameter in range(LARGEST_COUNTED + 1)]
     frames = cycle(product(DEPTHS, (0, 1)))
-    for figures in (lines, triangles, outlines, circles):
+    for figures in (lines, connected, triangles, outlines, circles):
         yield [line for some in figures for line in on_one_frame(random, *next(frames), some)]
 
 
@@ -67,21 +68,24 @@ def on_one_frame(random, depth, order, figures):
 
 def lines_of(figure, depth, colour):
     word, *numbers = figure
-    if word != "outline":
-        return [asked(*figure, colour)]
-    # No bit of the fill's colour is the outline's, so that every pixel of the outline shows.
-    return [asked("triangle", *numbers, 2**depth - 1 - colour), asked(*figure, colour), *dumps(size_of(*COUNTED, depth))]
+    shown = dumps(size_of(*COUNTED, depth))
+    if word == "trace":
+        return [asked("preset", 0), asked(*figure, max(colour, 1)), *shown]
+    if word == "outline":
+        # No bit of the fill's colour is the outline's, so that every pixel of the outline shows.
+        return [asked("triangle", *numbers, 2**depth - 1 - colour), asked(*figure, colour), *shown]
+    return [asked(*figure, colour)]
 
 
 def corners(random, sizes, low, high):
     """Figures whose places are the range's corners and middles, up to the circle whose box is the whole range, each on a frame of its own."""
     # Halfway out, where many points of a line are ties: one pixel more or less at its far end shows near the frame.
     places = product([low, low // 2, -1, 0, (high + 1) // 2, high], repeat=2)
-    figures = [("line", *start, *end) for start, end in product(places, repeat=2)]
+    figures = [(word, *start, *end) for start, end in product(places, repeat=2) for word in ("line", "trace")]
     triples = product(product([low, -1, high], repeat=2), repeat=3)
     figures += [(word, *chain(*vertices)) for vertices in triples for word in ("triangle", "outline")]
     figures += [("circle", left, top, diameter) for diameter in CORNER_DIAMETERS for left, top in boxes(low, high, diameter)]
-    for word in ("line", "triangle", "outline", "circle"):
+    for word in ("line", "trace", "triangle", "outline", "circle"):
         yield [line for figure in figures if figure[0] == word for line in drawn_alone(random, random.choice(sizes), figure)]
 
 
@@ -105,7 +109,7 @@ class Drawings:
 
     def __init__(self, random, sizes, low, high, with_fill, refused):
         self.random, self.sizes, self.low, self.high, self.refused = random, sizes, low, high, refused
-        self.calls = [self.pixel, self.line, self.triangle, self.outline, self.circle] + [self.fill] * with_fill
+        self.calls = [self.pixel, self.line, self.trace, self.triangle, self.outline, self.circle] + [self.fill] * with_fill
 
     def sequences(self, count):
         return [line for _ in range(count) for line in self.sequence()]
@@ -134,9 +138,10 @@ class Drawings:
     def refused_call(self, width, height, depth, colour):
         if depth < 32 and self.random.random() < 0.5:
             return self.random.choice(self.calls)(width, height, 2**depth + self.random.randrange(9))
-        vertices = [coordinate for _ in range(3) for coordinate in self.place(width, height)]
-        vertices[self.random.randrange(6)] = self.random.choice([131_072, -131_073])
-        return asked(self.random.choice(["triangle", "outline"]), *vertices, colour)
+        word, corners = self.random.choice([("line", 2), ("trace", 2), ("triangle", 3), ("outline", 3)])
+        numbers = [coordinate for _ in range(corners) for coordinate in self.place(width, height)]
+        numbers[self.random.randrange(len(numbers))] = self.random.choice([131_072, -131_073])
+        return asked(word, *numbers, colour)
 
     def pixel(self, width, height, colour):
         return asked("pixel", *self.place(width, height), colour)
@@ -144,8 +149,11 @@ class Drawings:
     def fill(self, width, height, colour):
         return asked("fill", colour)
 
-    def line(self, width, height, colour):
-        return asked("line", *self.place(width, height), *self.place(width, height), colour)
+    def line(self, width, height, colour, word="line"):
+        return asked(word, *self.place(width, height), *self.place(width, height), colour)
+
+    def trace(self, width, height, colour):
+        return self.line(width, height, colour, "trace")
 
     def triangle(self, width, height, colour, word="triangle"):
         corners = [coordinate for _ in range(3) for coordinate in self.place(width, height)]

@@ -7,13 +7,18 @@ def asked(word, *numbers):
     return "\t".join([word, *map(str, numbers)])
 
 
-def on_line(start, end, pixels, steps):
+def on_line(start, end, pixels, steps, words=("length", "point", "online")):
+    length, point, has_point = words
     ends = asked("", *start, *end)
     return (
-        ["length" + ends]
-        + [f"point{ends}\t{k}" for k in steps]
-        + [f"online{ends}\t{x}\t{y}" for x, y in pixels]
+        [length + ends]
+        + [f"{point}{ends}\t{k}" for k in steps]
+        + [f"{has_point}{ends}\t{x}\t{y}" for x, y in pixels]
     )
+
+
+def on_connected(start, end, pixels, indices):
+    return on_line(start, end, pixels, indices, ("tracelength", "tracepoint", "ontrace"))
 
 
 def on_triangle(vertices, pixels, rows):
@@ -30,9 +35,14 @@ def on_circle(left, top, diameter, pixels, rows):
     return [f"disc{circle}\t{x}\t{y}" for x, y in pixels] + [f"discspan{circle}\t{y}" for y in rows]
 
 
-def steps_of(start, end):
-    """The last step of a line."""
+def last_step(start, end):
+    """Of a line."""
     return max(abs(end[0] - start[0]), abs(end[1] - start[1]))
+
+
+def last_index(start, end):
+    """Of a connected line: a point a move, along either axis."""
+    return abs(end[0] - start[0]) + abs(end[1] - start[1])
 
 
 def box_of(places):

@@ -3,7 +3,7 @@
 from model.replay import BYTES, FIELDS
 
 from .frames import DEPTHS, size_of
-from .questions import asked
+from .questions import asked, last_index, last_step
 
 COORDINATES = [0, 1, -1, 131_071, 131_072, -131_072, -131_073, 2**31 - 1, -(2**31)]
 SIDES = [0, 1, 2, 3, 2_047, 2_048, 2_049, 2**32 - 1]
@@ -12,8 +12,10 @@ DIAMETERS = [0, 1, 2, 131_071, 131_072, 131_073, 262_143, 262_144, 262_145, 2**3
 NUMBERS_NOT_TAKEN = ["", "-", "+1", " 1", "1 ", "1.0", "0x1", "--1", "12345678901", "4294967296", "-2147483649", "1\r", "é"]
 NUMBERS_TAKEN = ["-0", "0000000001", "-000000001", "2147483647", "-2147483648", "4294967295", "2147483648", "-1"]
 WORDS = {word: len(numbers) for word, numbers in FIELDS.items()}
-DRAWING = ["pixel", "fill", "line", "triangle", "outline", "circle"]
-QUESTIONS = ["length", "point", "online", "inside", "span", "rows", "disc", "discspan"]
+DRAWING = ["pixel", "fill", "line", "trace", "triangle", "outline", "circle"]
+QUESTIONS = ["length", "point", "online", "tracelength", "tracepoint", "ontrace", "inside", "span", "rows", "disc", "discspan"]
+# The last point that a figure has, and the last that any can have.
+LAST_POINTS = {"point": (last_step, 262_143), "tracepoint": (last_index, 524_286)}
 
 
 class Limits:
@@ -31,8 +33,10 @@ class Limits:
             rest = [self.coordinate() for _ in range(WORDS[word] - 3)]
             return asked(word, self.coordinate(), self.coordinate(), self.diameter(), *rest)
         numbers = [self.coordinate() for _ in range(WORDS[word])]
-        if word == "point":
-            numbers[-1] = self.random.choice([0, 1, abs(numbers[0] - numbers[2]), 262_143, 262_144, 2**32 - 1])
+        if word in LAST_POINTS:
+            last_of, most = LAST_POINTS[word]
+            last = last_of(numbers[:2], numbers[2:4])
+            numbers[-1] = min(self.random.choice([0, 1, last, last + 1, most, most + 1, 2**32 - 1]), 2**32 - 1)
         return asked(word, *numbers)
 
     def calls(self, count):

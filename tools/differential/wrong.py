@@ -1,5 +1,5 @@
-"""Models that are wrong in one way each: the errors that look right of 01 (docs/RULES.md) and others of their kind, in image files, counts and outlines too,
-which a run must find."""
+"""Models that are wrong in one way each: the errors that look right of 01 (docs/RULES.md) and others of their kind, in image files, counts, outlines and
+connected lines too, which a run must find."""
 
 from contextlib import contextmanager
 from dataclasses import replace
@@ -7,6 +7,7 @@ from unittest.mock import patch
 
 from model import images, numbers, replay
 from model.circles import Circle
+from model.connected import Connected
 from model.frames import Frame
 from model.lines import Line
 from model.replay import Replay
@@ -82,6 +83,16 @@ def models():
         WrongModel("an outline's p2 to p3 walked from p3", Outline, "__init__", with_edge_turned(Outline.__init__, 2), "every figure on a small frame"),
         WrongModel("an outline without p2 to p3", Outline, "__init__", without_last_edge(Outline.__init__), "every figure on a small frame"),
         WrongModel("p1 to p2 for p1 to p3 in a flat outline", Outline, "__init__", flat_to_p2(Outline.__init__), "every figure on a small frame"),
+        WrongModel("the extra point on the left", Connected, "extra", on_the_left(Connected.extra), "every connected line of a box"),
+        WrongModel("an extra point after the last", Connected, "points", with_one_more(Connected.points), "every connected line of a box"),
+        WrongModel("an extra point at every step", Connected, "__init__", with_one_a_step(Connected.__init__), "every connected line of a box"),
+        WrongModel("the extra point after its neighbour", Connected, "point", neighbour_first(Connected.point), "every connected line of a box"),
+        WrongModel("ties moved in connected lines", Connected, "__init__", by_moves(Connected.__init__, moved_on_ties), "every connected line of a box"),
+        WrongModel("no index past the line's last step", numbers, "step", by_steps, "every connected line of a box"),
+        WrongModel("products of 32 bits in connected lines", Connected, "__init__", by_moves(Connected.__init__, wrapped), "far connected lines"),
+        WrongModel("the extra points drawn on the left", Connected, "extra", on_the_left(Connected.extra), "every figure on a small frame"),
+        WrongModel("an extra point drawn after the last", Connected, "moves_after", carried_on, "every figure on a small frame"),
+        WrongModel("the extra points not drawn", Connected, "contains", lambda self, x, y: self.line.contains(x, y), "every figure on a small frame"),
     ]
 
 
@@ -318,3 +329,64 @@ def flat_to_p2(init):
             self.edges = self.edges[:1]
 
     return replacement
+
+
+def on_the_left(extra):
+    """The other of the two pixels that share an edge with both points."""
+
+    def replacement(self, k):
+        (x1, y1), (x2, y2) = self.line.point(k), self.line.point(k + 1)
+        x, y = extra(self, k)
+        return x1 + x2 - x, y1 + y2 - y
+
+    return replacement
+
+
+def carried_on(self, k):
+    """The line goes on past its end, and has the extra point before the next normal one."""
+    return 0 <= k <= self.line.major and self.line.moved(k) < self.line.moved(k + 1)
+
+
+def with_one_more(points):
+    return lambda self: points(self) + carried_on(self, self.line.major)
+
+
+def with_one_a_step(init):
+    """Where the line does not move along its minor axis, that is its next point, which is then handed out twice."""
+
+    def replacement(self, *ends):
+        init(self, *ends)
+        extra = self.extra
+        self.points = lambda: 2 * self.line.major + 1
+        self.index_of = lambda k: 2 * k
+        self.extra = lambda k: extra(k) if self.moves_after(k) else self.line.point(k + 1)
+
+    return replacement
+
+
+def neighbour_first(point):
+    """Each extra point changed over with the normal one behind it."""
+
+    def replacement(self, index):
+        def is_extra(place):
+            return place >= 0 and not self.line.contains(*point(self, place))
+
+        return point(self, index + 1 if is_extra(index) else index - 1 if is_extra(index - 1) else index)
+
+    return replacement
+
+
+def by_moves(init, moved):
+    def replacement(self, *ends):
+        init(self, *ends)
+        self.line.moved = lambda k: moved(self.line, k)
+
+    return replacement
+
+
+def wrapped(self, k):
+    return ((2 * self.minor * k + self.major - 1) % 2**32) // (2 * self.major) if self.major else 0
+
+
+def by_steps(figure, k):
+    return {7: k > (figure.line if isinstance(figure, Connected) else figure).major}

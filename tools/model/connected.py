@@ -29,8 +29,8 @@ class Connected:
     def extra(self, k):
         """Of the two pixels that share an edge with both points, the one on the right of the line."""
         (x1, y1), (x2, y2) = self.line.point(k), self.line.point(k + 1)
-        ends = self.line.point(0), self.line.point(self.line.major)
-        return next(place for place in [(x1, y2), (x2, y1)] if doubled_area(*ends, place) > 0)
+        in_column, in_row = (x1, y2), (x2, y1)
+        return in_column if doubled_area(self.line.point(0), self.line.point(self.line.major), in_column) > 0 else in_row
 
     def contains(self, x, y):
         """Whether a pixel is one of the points: its major coordinate names a step, and an extra point can only come right before it or right after it."""

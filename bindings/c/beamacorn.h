@@ -25,10 +25,10 @@
 #include <stdint.h>
 
 /* The version of this header and of the library, as in CHANGELOG.md. */
-#define BEAMACORN_VERSION "0.3.0"
+#define BEAMACORN_VERSION "0.3.1"
 #define BEAMACORN_VERSION_MAJOR 0
 #define BEAMACORN_VERSION_MINOR 3
-#define BEAMACORN_VERSION_PATCH 0
+#define BEAMACORN_VERSION_PATCH 1
 
 #if defined BEAMACORN_STRICT && defined __GNUC__ && !defined __cplusplus
 #define BEAMACORN_BEHIND_THE_NUMBER __attribute__((deprecated("no with a refusal too: ask beamacorn_says")))
@@ -49,7 +49,7 @@ enum {
     BEAMACORN_BAD_COLOUR = 4,     /* the colour is 2 to the power of the depth, or more */
     BEAMACORN_OUT_OF_BOUNDS = 5,  /* a vertex, line end or circle top-left has a coordinate outside -131,072 to 131,071 */
     BEAMACORN_CIRCLE_TOO_FAR = 6, /* left + diameter or top + diameter is above 131,072 */
-    BEAMACORN_PAST_LAST_STEP = 7, /* a point of a line is asked at a step past its last */
+    BEAMACORN_PAST_LAST_STEP = 7, /* a point of a line is asked at a step or an index past its last */
     BEAMACORN_OUTSIDE_FRAME = 8,  /* a pixel is read outside the frame */
     BEAMACORN_SHORT_OUTPUT = 9,   /* the output is shorter than what is written into it */
     BEAMACORN_UNFIT_FRAME = 10    /* the operation takes no frame of this depth, or none without pixels */
@@ -102,13 +102,13 @@ typedef struct {
     int32_t end;
 } beamacorn_span;
 
-/* How many points a line has. */
+/* How many points a line has, or a connected line. */
 typedef struct {
     uint32_t number;
     uint32_t points;
 } beamacorn_length;
 
-/* A point of a line. */
+/* A point of a line, or of a connected line. */
 typedef struct {
     uint32_t number;
     int32_t x;
@@ -150,6 +150,40 @@ beamacorn_step beamacorn_line_point(int32_t x1, int32_t y1, int32_t x2, int32_t 
  *     if (beamacorn_says(on) == BEAMACORN_SAYS_YES) { visit(3, 1); }
  */
 beamacorn_verdict beamacorn_line_has_point(int32_t x1, int32_t y1, int32_t x2, int32_t y2, int32_t x, int32_t y);
+
+/*
+ * How many points the connected line from (x1, y1) to (x2, y2) has: one more than its width and its height together.
+ *
+ * Its points are those of the line, and an extra one between two that touch at a corner only: the pixel on the right of the line that shares an edge with
+ * both. Seen from the point before it that is the pixel below on the way right and down, to the left on the way left and down, above on the way left and up,
+ * to the right on the way right and up. So each point shares an edge with the next, and a colour that is flooded from pixel to pixel, over corners too,
+ * finds no gap between them.
+ * Refused with 5.
+ *
+ *     beamacorn_length trace = beamacorn_connected_length(0, 0, 5, 2);
+ *     if (trace.number == 0) { walk(trace.points); }
+ */
+beamacorn_length beamacorn_connected_length(int32_t x1, int32_t y1, int32_t x2, int32_t y2);
+
+/*
+ * The point of the connected line from (x1, y1) to (x2, y2) at an index. Index 0 is the start, the number of points less 1 is the end, and an extra point
+ * comes between its neighbours. Its cost does not grow with the line.
+ * Refused with 5, and with 7 for a larger index.
+ *
+ *     beamacorn_step at = beamacorn_connected_point(0, 0, 5, 2, 2);
+ *     if (at.number == 0) { visit(at.x, at.y); }
+ */
+beamacorn_step beamacorn_connected_point(int32_t x1, int32_t y1, int32_t x2, int32_t y2, uint32_t index);
+
+/*
+ * Whether the pixel (x, y) is a point of the connected line from (x1, y1) to (x2, y2). Its cost does not grow with the line.
+ * Refused with 5.
+ *
+ *     beamacorn_verdict on = beamacorn_connected_has_point(0, 0, 5, 2, 1, 1);
+ *     if (on.number != 0) { return refused(on.number); }
+ *     if (beamacorn_says(on) == BEAMACORN_SAYS_YES) { visit(1, 1); }
+ */
+beamacorn_verdict beamacorn_connected_has_point(int32_t x1, int32_t y1, int32_t x2, int32_t y2, int32_t x, int32_t y);
 
 /*
  * Whether the triangle of the vertices (x1, y1), (x2, y2), (x3, y3), which may come in any order, lie on one line or coincide, contains
@@ -301,6 +335,17 @@ beamacorn_drawn beamacorn_fill(uint8_t *buf, size_t len, uint32_t width, uint32_
  */
 beamacorn_drawn beamacorn_draw_line(uint8_t *buf, size_t len, uint32_t width, uint32_t height, uint32_t depth, uint32_t order,
                                     int32_t x1, int32_t y1, int32_t x2, int32_t y2, uint32_t colour);
+
+/*
+ * Draws the connected line from (x1, y1) to (x2, y2), every pixel of the frame that beamacorn_connected_has_point says yes to, and says how many those
+ * are.
+ * Refused with 1 to 5.
+ *
+ *     beamacorn_drawn call = beamacorn_draw_connected_line(buf, len, 320, 200, 1, 0, 0, 0, 5, 2, 1);
+ *     if (call.number != 0) { return refused(call.number); }
+ */
+beamacorn_drawn beamacorn_draw_connected_line(uint8_t *buf, size_t len, uint32_t width, uint32_t height, uint32_t depth, uint32_t order,
+                                              int32_t x1, int32_t y1, int32_t x2, int32_t y2, uint32_t colour);
 
 /*
  * Draws the filled triangle, every pixel of the frame that beamacorn_triangle_contains says yes to, and says how many those are.

@@ -43,6 +43,9 @@ static void say_lights(beamacorn_lights r) { say(r.number), say_also(r.count); }
 static void line_length(const int64_t *n) { say_length(beamacorn_line_length(n[0], n[1], n[2], n[3])); }
 static void line_point(const int64_t *n) { say_step(beamacorn_line_point(n[0], n[1], n[2], n[3], n[4])); }
 static void line_has_point(const int64_t *n) { say_verdict(beamacorn_line_has_point(n[0], n[1], n[2], n[3], n[4], n[5])); }
+static void connected_length(const int64_t *n) { say_length(beamacorn_connected_length(n[0], n[1], n[2], n[3])); }
+static void connected_point(const int64_t *n) { say_step(beamacorn_connected_point(n[0], n[1], n[2], n[3], n[4])); }
+static void connected_has_point(const int64_t *n) { say_verdict(beamacorn_connected_has_point(n[0], n[1], n[2], n[3], n[4], n[5])); }
 static void triangle_contains(const int64_t *n) { say_verdict(beamacorn_triangle_contains(n[0], n[1], n[2], n[3], n[4], n[5], n[6], n[7])); }
 static void triangle_rows(const int64_t *n) { say_rows(beamacorn_triangle_rows(n[0], n[1], n[2], n[3], n[4], n[5])); }
 static void triangle_row_span(const int64_t *n) { say_span(beamacorn_triangle_row_span(n[0], n[1], n[2], n[3], n[4], n[5], n[6])); }
@@ -54,6 +57,7 @@ static void pixel(const int64_t *n) { say_read(beamacorn_pixel(ON_FRAME, n[4], n
 static void lit(const int64_t *n) { say_lights(beamacorn_lit(ON_FRAME)); }
 static void fill(const int64_t *n) { say_drawn(beamacorn_fill(ON_FRAME, n[4])); }
 static void draw_line(const int64_t *n) { say_drawn(beamacorn_draw_line(ON_FRAME, n[4], n[5], n[6], n[7], n[8])); }
+static void draw_connected_line(const int64_t *n) { say_drawn(beamacorn_draw_connected_line(ON_FRAME, n[4], n[5], n[6], n[7], n[8])); }
 static void draw_triangle(const int64_t *n) { say_drawn(beamacorn_draw_triangle(ON_FRAME, n[4], n[5], n[6], n[7], n[8], n[9], n[10])); }
 static void draw_outline(const int64_t *n) { say_drawn(beamacorn_draw_outline(ON_FRAME, n[4], n[5], n[6], n[7], n[8], n[9], n[10])); }
 static void draw_circle(const int64_t *n) { say_drawn(beamacorn_draw_circle(ON_FRAME, n[4], n[5], n[6], n[7])); }
@@ -71,6 +75,9 @@ static const question questions[] = {
     {"length", "ssss", "beamacorn_line_length", line_length, false},
     {"point", "ssssu", "beamacorn_line_point", line_point, false},
     {"online", "ssssss", "beamacorn_line_has_point", line_has_point, false},
+    {"tracelength", "ssss", "beamacorn_connected_length", connected_length, false},
+    {"tracepoint", "ssssu", "beamacorn_connected_point", connected_point, false},
+    {"ontrace", "ssssss", "beamacorn_connected_has_point", connected_has_point, false},
     {"inside", "ssssssss", "beamacorn_triangle_contains", triangle_contains, false},
     {"rows", "ssssss", "beamacorn_triangle_rows", triangle_rows, false},
     {"span", "sssssss", "beamacorn_triangle_row_span", triangle_row_span, false},
@@ -81,6 +88,7 @@ static const question questions[] = {
     {"lit", "", "beamacorn_lit", lit, true},
     {"fill", "u", "beamacorn_fill", fill, true},
     {"line", "ssssu", "beamacorn_draw_line", draw_line, true},
+    {"trace", "ssssu", "beamacorn_draw_connected_line", draw_connected_line, true},
     {"triangle", "ssssssu", "beamacorn_draw_triangle", draw_triangle, true},
     {"outline", "ssssssu", "beamacorn_draw_outline", draw_outline, true},
     {"circle", "ssuu", "beamacorn_draw_circle", draw_circle, true},

@@ -62,6 +62,34 @@ static void lines(void)
     CHECK(is_verdict(beamacorn_line_has_point(0, 0, 0, 131072, 0, 0), 5, false));
 }
 
+static void connected_lines(void)
+{
+    static const int32_t columns[] = {0, 1, 1, 2, 3, 3, 4, 5}, rows[] = {0, 0, 1, 1, 1, 2, 2, 2};
+    /* From (3, 3) in the eight directions: the end, and the extra point, which has index 2. */
+    static const int32_t around[][4] = {{6, 4, 4, 4}, {4, 6, 3, 5}, {2, 6, 2, 4}, {0, 4, 1, 3}, {0, 2, 2, 2}, {2, 0, 3, 1}, {4, 0, 4, 2}, {6, 2, 5, 3}};
+
+    CHECK(is_length(beamacorn_connected_length(0, 0, 0, 0), 0, 1));
+    CHECK(is_length(beamacorn_connected_length(0, 0, 5, 2), 0, 8));
+    CHECK(is_length(beamacorn_connected_length(-131072, -131072, 131071, 131071), 0, 524287));
+    CHECK(is_length(beamacorn_connected_length(131072, 0, 0, 0), 5, 0));
+    CHECK(is_length(beamacorn_connected_length(0, 0, 0, -131073), 5, 0));
+
+    for (uint32_t i = 0; i < 8; ++i) {
+        CHECK(is_step(beamacorn_connected_point(0, 0, 5, 2, i), 0, columns[i], rows[i]));
+        CHECK(is_step(beamacorn_connected_point(3, 3, around[i][0], around[i][1], 2), 0, around[i][2], around[i][3]));
+    }
+    CHECK(is_step(beamacorn_connected_point(-131072, -131072, 131071, 131071, 524286), 0, 131071, 131071));
+    CHECK(is_step(beamacorn_connected_point(0, 0, 5, 2, 8), 7, 0, 0));
+    CHECK(is_step(beamacorn_connected_point(3, 4, 3, 4, 1), 7, 0, 0));
+    CHECK(is_step(beamacorn_connected_point(3, 4, 3, 131072, 4294967295u), 5, 0, 0));
+
+    CHECK(is_verdict(beamacorn_connected_has_point(0, 0, 2, 1, 1, 0), 0, true));
+    CHECK(is_verdict(beamacorn_connected_has_point(0, 0, 2, 1, 1, 1), 0, true));
+    CHECK(is_verdict(beamacorn_connected_has_point(0, 0, 2, 1, 2, 0), 0, false));
+    CHECK(is_verdict(beamacorn_connected_has_point(0, 0, 2, 1, INT32_MIN, INT32_MAX), 0, false));
+    CHECK(is_verdict(beamacorn_connected_has_point(0, 0, 0, 131072, 0, 0), 5, false));
+}
+
 static void triangles(void)
 {
     CHECK(is_verdict(beamacorn_triangle_contains(0, 0, 86400, 0, 0, 40000, 20000, 10000), 0, true));
@@ -161,6 +189,14 @@ static void drawing(void)
     CHECK(is_drawn(beamacorn_draw_line(buf, 9, 10, 4, 1, 0, 0, 0, 5, 2, 1), 0, 6));
     CHECK(buf[0] == 0xc0 && buf[2] == 0x30 && buf[4] == 0x0c && buf[6] == 0);
 
+    /* The extra points of a connected line lie below it from the left, and above it from the right. */
+    memset(buf, 0, sizeof buf);
+    CHECK(is_drawn(beamacorn_draw_connected_line(buf, 9, 10, 4, 1, 0, 0, 0, 5, 2, 1), 0, 8));
+    CHECK(buf[0] == 0xc0 && buf[2] == 0x70 && buf[4] == 0x1c && buf[6] == 0);
+    memset(buf, 0, sizeof buf);
+    CHECK(is_drawn(beamacorn_draw_connected_line(buf, 9, 10, 4, 1, 0, 5, 2, 0, 0, 1), 0, 8));
+    CHECK(buf[0] == 0xe0 && buf[2] == 0x38 && buf[4] == 0x0c && buf[6] == 0);
+
     memset(buf, 0, sizeof buf);
     CHECK(is_drawn(beamacorn_draw_triangle(buf, 9, 10, 4, 1, 0, 0, 0, 3, 0, 0, 3, 1), 0, 10));
     CHECK(buf[0] == 0xf0 && buf[2] == 0xe0 && buf[4] == 0xc0 && buf[6] == 0x80);
@@ -185,6 +221,7 @@ static void drawing(void)
 
     /* Cut by the frame's edges, and off the frame. */
     CHECK(is_drawn(beamacorn_draw_line(buf, 9, 10, 4, 1, 0, -131072, 3, 131071, 3, 1), 0, 10));
+    CHECK(is_drawn(beamacorn_draw_connected_line(buf, 9, 10, 4, 1, 0, 8, 1, 11, 4, 1), 0, 4));
     CHECK(is_drawn(beamacorn_draw_outline(buf, 9, 10, 4, 1, 0, 7, 0, 10, 0, 7, 3, 1), 0, 8));
     CHECK(is_drawn(beamacorn_draw_circle(buf, 9, 10, 4, 1, 0, -2, -2, 4, 1), 0, 3));
     CHECK(is_drawn(beamacorn_draw_triangle(buf, 9, 10, 4, 1, 0, 10, 0, 99, 0, 10, 99, 1), 0, 0));
@@ -192,6 +229,11 @@ static void drawing(void)
     /* The first reason is given, with 0 beside it, and no byte changes. */
     memset(buf, 0xa5, sizeof buf);
     CHECK(is_drawn(beamacorn_draw_line(buf, 0, 2049, 4, 3, 0, 131072, 0, 5, 2, 2), 1, 0));
+    CHECK(is_drawn(beamacorn_draw_connected_line(buf, 0, 2049, 4, 3, 0, 131072, 0, 5, 2, 2), 1, 0));
+    CHECK(is_drawn(beamacorn_draw_connected_line(buf, 0, 2049, 4, 1, 0, 131072, 0, 5, 2, 2), 2, 0));
+    CHECK(is_drawn(beamacorn_draw_connected_line(buf, 7, 10, 4, 1, 0, 131072, 0, 5, 2, 2), 3, 0));
+    CHECK(is_drawn(beamacorn_draw_connected_line(buf, 8, 10, 4, 1, 0, 131072, 0, 5, 2, 2), 4, 0));
+    CHECK(is_drawn(beamacorn_draw_connected_line(buf, 8, 10, 4, 1, 0, 131072, 0, 5, 2, 1), 5, 0));
     CHECK(is_drawn(beamacorn_draw_triangle(buf, 0, 2049, 4, 1, 0, 131072, 0, 5, 2, 0, 0, 2), 2, 0));
     CHECK(is_drawn(beamacorn_draw_outline(buf, 7, 10, 4, 1, 0, 131072, 0, 5, 2, 0, 0, 2), 3, 0));
     CHECK(is_drawn(beamacorn_draw_circle(buf, 8, 10, 4, 1, 0, 131072, 0, 5, 2), 4, 0));
@@ -266,6 +308,7 @@ static void image_files(void)
 int main(void)
 {
     lines();
+    connected_lines();
     triangles();
     circles();
     verdicts();

@@ -39,20 +39,24 @@ compile_error!(env!("NO_ARCHIVE"));
 struct FromEmbeddedGraphics;
 
 mod circle;
+mod connected;
 mod contains;
 mod filled;
 mod library;
 mod line;
 mod point;
+mod points;
 mod rectangle;
 mod refusal;
 mod triangle;
 
 pub use circle::Circle;
+pub use connected::ConnectedLine;
 pub use contains::ContainsPoint;
 pub use filled::FilledPoints;
-pub use line::{Line, Points};
+pub use line::Line;
 pub use point::Point;
+pub use points::Points;
 pub use rectangle::{Rectangle, Size};
 pub use refusal::Refusal;
 pub use triangle::Triangle;

@@ -41,6 +41,9 @@ unsafe extern "C" {
     pub safe fn beamacorn_line_length(x1: i32, y1: i32, x2: i32, y2: i32) -> Length;
     pub safe fn beamacorn_line_point(x1: i32, y1: i32, x2: i32, y2: i32, step: u32) -> Step;
     pub safe fn beamacorn_line_has_point(x1: i32, y1: i32, x2: i32, y2: i32, x: i32, y: i32) -> Verdict;
+    pub safe fn beamacorn_connected_length(x1: i32, y1: i32, x2: i32, y2: i32) -> Length;
+    pub safe fn beamacorn_connected_point(x1: i32, y1: i32, x2: i32, y2: i32, index: u32) -> Step;
+    pub safe fn beamacorn_connected_has_point(x1: i32, y1: i32, x2: i32, y2: i32, x: i32, y: i32) -> Verdict;
     pub safe fn beamacorn_triangle_contains(x1: i32, y1: i32, x2: i32, y2: i32, x3: i32, y3: i32, x: i32, y: i32) -> Verdict;
     pub safe fn beamacorn_triangle_rows(x1: i32, y1: i32, x2: i32, y2: i32, x3: i32, y3: i32) -> Rows;
     pub safe fn beamacorn_triangle_row_span(x1: i32, y1: i32, x2: i32, y2: i32, x3: i32, y3: i32, y: i32) -> Span;

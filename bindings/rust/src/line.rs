@@ -1,5 +1,4 @@
-use crate::{Point, Rectangle, Refusal, library};
-use core::iter::FusedIterator;
+use crate::{Point, Points, Rectangle, Refusal, library, points::Walked};
 
 /// A line of pixels from its start to its end.
 ///
@@ -73,7 +72,7 @@ impl Line {
     ///
     /// [`Refusal::OUT_OF_BOUNDS`] if an end is out of range.
     pub fn points(&self) -> Result<Points, Refusal> {
-        Ok(Points { line: *self, step: 0, length: self.length()? })
+        Ok(Points::new(Walked::Line(*self), self.length()?))
     }
 
     /// The smallest box that has all points of the line.
@@ -95,30 +94,3 @@ impl Line {
         Line { start: self.start + by, end: self.end + by }
     }
 }
-
-/// The points of a line, from its start to its end.
-#[derive(Clone, Debug)]
-pub struct Points {
-    line: Line,
-    step: u32,
-    length: u32,
-}
-
-impl Iterator for Points {
-    type Item = Point;
-
-    fn next(&mut self) -> Option<Point> {
-        // The step past the last is the one that is refused.
-        let point = self.line.point(self.step).ok()?;
-        self.step += 1;
-        Some(point)
-    }
-
-    fn size_hint(&self) -> (usize, Option<usize>) {
-        let left = (self.length - self.step) as usize;
-        (left, Some(left))
-    }
-}
-
-impl ExactSizeIterator for Points {}
-impl FusedIterator for Points {}

@@ -19,7 +19,7 @@ impl Refusal {
     pub const OUT_OF_BOUNDS: Refusal = Refusal(NonZeroU32::new(5).unwrap());
     /// 6: left + diameter or top + diameter of a circle is above 131,072.
     pub const CIRCLE_TOO_FAR: Refusal = Refusal(NonZeroU32::new(6).unwrap());
-    /// 7: a point of a line is asked at a step past its last.
+    /// 7: a point of a line is asked at a step or an index past its last.
     pub const PAST_LAST_STEP: Refusal = Refusal(NonZeroU32::new(7).unwrap());
     /// 9: the output is shorter than what is written into it. No question is refused with it.
     pub const SHORT_OUTPUT: Refusal = Refusal(NonZeroU32::new(9).unwrap());

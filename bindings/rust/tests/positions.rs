@@ -1,6 +1,6 @@
 //! Every question with numbers that differ in every position, held to what the proved program `replay` answers: bindings/cases, and its stored list.
 
-use beamacorn::{Circle, Line, Point, Refusal, Triangle};
+use beamacorn::{Circle, ConnectedLine, Line, Point, Refusal, Triangle};
 use std::{fs, path::Path};
 
 /// The answer to a line, as `replay` gives it; none to a line that is no question.
@@ -11,12 +11,16 @@ fn answer(line: &str) -> Option<String> {
     let u = |at: usize| u32::try_from(n[at]).unwrap();
     let p = |at: usize| Point::new(i(at), i(at + 1));
     let line = || Line::new(p(0), p(2));
+    let connected = || ConnectedLine::new(p(0), p(2));
     let triangle = || Triangle::new(p(0), p(2), p(4));
     let circle = || Circle::new(p(0), u(2));
     Some(match word {
         "length" => said(line().length(), 1, |points| points.to_string()),
         "point" => said(line().point(u(4)), 2, |p| format!("{}\t{}", p.x, p.y)),
         "online" => said(line().has_point(p(4)), 1, |yes| u8::from(yes).to_string()),
+        "tracelength" => said(connected().length(), 1, |points| points.to_string()),
+        "tracepoint" => said(connected().point(u(4)), 2, |p| format!("{}\t{}", p.x, p.y)),
+        "ontrace" => said(connected().has_point(p(4)), 1, |yes| u8::from(yes).to_string()),
         "inside" => said(triangle().contains(p(6)), 1, |yes| u8::from(yes).to_string()),
         "rows" => said(triangle().rows(), 2, |rows| format!("{}\t{}", rows.start, rows.len())),
         "span" => said(triangle().row_span(i(6)), 2, |row| format!("{}\t{}", row.start, row.end)),
@@ -54,7 +58,7 @@ fn hold<'a>(pairs: impl Iterator<Item = (&'a str, &'a str)>) -> usize {
 #[test]
 fn every_position_has_its_number() {
     let cases = file("bindings/cases").replace(' ', "\t");
-    assert!(hold(cases.lines().filter_map(|case| case.split_once("\t->\t"))) > 20);
+    assert!(hold(cases.lines().filter_map(|case| case.split_once("\t->\t"))) > 30);
 }
 
 #[test]

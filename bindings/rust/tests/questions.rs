@@ -1,6 +1,7 @@
 //! The questions through the crate's own types: the known small answers, each refusal, and the ends of the range.
 
-use beamacorn::{Circle, ContainsPoint, FilledPoints, Line, Point, Rectangle, Refusal, Triangle};
+use beamacorn::{Circle, ConnectedLine, ContainsPoint, FilledPoints, Line, Point, Rectangle, Refusal, Triangle};
+use std::collections::HashSet;
 
 const FAR: Point = Point::new(131_072, 0);
 
@@ -49,6 +50,46 @@ fn a_walk_has_no_more_points_after_its_end() {
     assert_eq!((walk.next(), walk.len()), (None, 0));
 }
 
+/// The connected lines from (0, 0) to every place around it.
+fn connected_lines() -> impl Iterator<Item = ConnectedLine> {
+    let ends = (-6..=6).flat_map(|y| (-6..=6).map(move |x| Point::new(x, y)));
+    ends.map(|end| ConnectedLine::new(Point::new(0, 0), end))
+}
+
+#[test]
+fn a_connected_line_goes_on_by_one_on_exactly_one_axis() {
+    for connected in connected_lines() {
+        let (start, end) = (connected.start, connected.end);
+        let points: Vec<Point> = connected.points().unwrap().collect();
+        assert_eq!(connected.length(), Ok(end.x.abs_diff(start.x) + end.y.abs_diff(start.y) + 1));
+        assert_eq!((points.first(), points.last()), (Some(&start), Some(&end)));
+        assert!(points.windows(2).all(|two| two[0].x.abs_diff(two[1].x) + two[0].y.abs_diff(two[1].y) == 1));
+        assert_eq!(connected.point(points.len() as u32), Err(Refusal::PAST_LAST_STEP));
+    }
+}
+
+#[test]
+fn a_connected_lines_points_are_the_lines_and_extra_ones_on_the_right() {
+    for connected in connected_lines() {
+        let line = Line::new(connected.start, connected.end);
+        let is_normal = |p: &Point| line.has_point(*p).unwrap();
+        let (normal, extra): (Vec<Point>, Vec<Point>) = connected.points().unwrap().partition(is_normal);
+        assert!(line.points().unwrap().eq(normal));
+        // From (0, 0), rows being counted down: twice the area of start, end and point is above 0 on the right.
+        assert!(extra.iter().all(|p| line.end.x * p.y - line.end.y * p.x > 0));
+    }
+}
+
+#[test]
+fn a_connected_line_has_its_points_and_no_other() {
+    for connected in connected_lines() {
+        let points: HashSet<Point> = connected.points().unwrap().collect();
+        let around = (-8..9).flat_map(|y| (-8..9).map(move |x| Point::new(x, y)));
+        assert!(around.into_iter().all(|pixel| connected.has_point(pixel) == Ok(points.contains(&pixel))));
+    }
+    assert_eq!(ConnectedLine::default().has_point(Point::new(i32::MIN, i32::MAX)), Ok(false));
+}
+
 #[test]
 fn a_wedge_of_load_contains_its_minutes() {
     let wedge = triangle([(0, 0), (86_400, 0), (0, 40_000)]);
@@ -95,6 +136,11 @@ fn every_figure_out_of_bounds_is_refused_and_never_answered_no() {
         assert_eq!(line.point(0), Err(refused));
         assert_eq!(line.has_point(here), Err(refused));
         assert_eq!(line.points().err(), Some(refused));
+        let connected = ConnectedLine::new(line.start, line.end);
+        assert_eq!(connected.length(), Err(refused));
+        assert_eq!(connected.point(u32::MAX), Err(refused));
+        assert_eq!(connected.has_point(here), Err(refused));
+        assert_eq!(connected.points().err(), Some(refused));
     }
     for vertices in [[FAR, here, here], [here, FAR, here], [here, here, FAR]] {
         let triangle = Triangle { vertices };
@@ -122,6 +168,10 @@ fn the_ends_of_the_range_are_accepted() {
     assert_eq!(whole.rows(), Ok(-131_072..131_072));
     assert_eq!(whole.row_span(-131_072), Ok(-131_072..131_072));
     assert_eq!(whole.contains(Point::new(-131_072, 131_071)), Ok(true));
+    let [low, high] = [-131_072, 131_071].map(|end| Point::new(end, end));
+    let longest = ConnectedLine::new(low, high);
+    assert_eq!(longest.length(), Ok(524_287));
+    assert_eq!([524_285, 524_286].map(|index| longest.point(index)), [Ok(Point::new(131_070, 131_071)), Ok(high)]);
 }
 
 #[test]
@@ -165,6 +215,7 @@ fn a_box_has_the_figures_first_and_last_pixels() {
     }
     let [a, b, c] = [(5, -3), (-4, 1), (2, 6)].map(Point::from);
     check(Line::new(a, b).bounding_box().unwrap(), Line::new(a, b).points().unwrap());
+    check(ConnectedLine::new(a, b).bounding_box().unwrap(), ConnectedLine::new(a, b).points().unwrap());
     check(Triangle::new(a, b, c).bounding_box().unwrap(), Triangle::new(a, b, c).points().unwrap());
     check(Circle::new(a, 9).bounding_box().unwrap(), Circle::new(a, 9).points().unwrap());
     let dot = Circle::new(a, 0).bounding_box().unwrap();
@@ -176,6 +227,7 @@ fn a_figure_out_of_bounds_has_no_box_and_no_points() {
     let here = Point::new(0, 0);
     let refused = Some(Refusal::OUT_OF_BOUNDS);
     assert_eq!(Line::new(here, FAR).bounding_box().err(), refused);
+    assert_eq!(ConnectedLine::new(here, FAR).bounding_box().err(), refused);
     assert_eq!(Triangle::new(here, here, FAR).bounding_box().err(), refused);
     assert_eq!(Triangle::new(here, here, FAR).points().err(), refused);
     assert_eq!(Circle::new(FAR, 0).bounding_box().err(), refused);
@@ -188,6 +240,7 @@ fn a_moved_figure_contains_the_moved_pixels() {
     let by = Point::new(-30, 1_000);
     let [a, b, c] = [(5, -3), (-4, 1), (2, 6)].map(Point::from);
     assert!(Line::new(a, b).translate(by).points().unwrap().eq(Line::new(a, b).points().unwrap().map(|p| p + by)));
+    assert!(ConnectedLine::new(a, b).translate(by).points().unwrap().eq(ConnectedLine::new(a, b).points().unwrap().map(|p| p + by)));
     assert!(Triangle::new(a, b, c).translate(by).points().unwrap().eq(Triangle::new(a, b, c).points().unwrap().map(|p| p + by)));
     assert!(Circle::new(a, 7).translate(by).points().unwrap().eq(Circle::new(a, 7).points().unwrap().map(|p| p + by)));
     assert_eq!(Circle::new(a, 7).translate(Point::new(i32::MAX, 0)).rows(), Err(Refusal::OUT_OF_BOUNDS));

@@ -1,4 +1,4 @@
-//! The questions on triangles and circles, and a line's points.
+//! The questions on triangles and circles, and the points of a line and of a connected line.
 
 use crate::{
     inputs::{point, triangle, Inputs, Vertices},
@@ -17,6 +17,9 @@ const PIXELS: usize = 1_000;
 const LARGE: Vertices = [(0, 0), (8_000, 96), (3_008, 7_904)];
 const SMALL: Vertices = [(0, 0), (500, 6), (188, 494)];
 
+/// The ends of a line of 16,000 points.
+const ENDS: [ours::Place; 2] = [(100, 100), (16_099, 5_003)];
+
 pub fn races<'a>() -> Vec<Race<'a>> {
     let mut inputs = Inputs::new();
     let triangle = triangle(LARGE);
@@ -32,6 +35,7 @@ pub fn races<'a>() -> Vec<Race<'a>> {
         row_spans(),
         circle_rows(),
         line_off_the_frame(),
+        connected_line_off_the_frame(),
         Race {
             name: "from n to 16n: `contains`".into(),
             against: "ours at n",
@@ -125,19 +129,38 @@ fn circle_rows<'a>() -> Race<'a> {
 }
 
 fn line_off_the_frame<'a>() -> Race<'a> {
-    let (start, end) = ((100, 100), (16_099, 5_003));
-    let line = Line::new(point(start), point(end));
-    let points = line.points().count();
+    let name = "a line of 16,000 points, drawn off the frame, against the Rust's points";
+    off_the_frame(name, long_line().points().count(), ours::Frame::draw_line, rust_points)
+}
+
+fn connected_line_off_the_frame<'a>() -> Race<'a> {
+    let name = "a connected line of 16,000 steps, drawn off the frame, against the Rust's `next_all`";
+    off_the_frame(name, long_line().connected_points().count(), ours::Frame::draw_connected_line, rust_connected_points)
+}
+
+fn long_line() -> Line {
+    let [start, end] = ENDS.map(point);
+    Line::new(start, end)
+}
+
+/// The Rust only hands the points out; our library holds each to a frame that has none of them.
+fn off_the_frame<'a>(
+    name: &str,
+    points: usize,
+    draw: fn(&mut ours::Frame, ours::Place, ours::Place, u32),
+    walk: fn(&Line) -> i32,
+) -> Race<'a> {
+    let ([start, end], line) = (ENDS, long_line());
     let mut frame = ours::Frame::new(64, 64, 1);
-    frame.draw_line(start, end, 1);
-    assert!(frame.bytes.iter().all(|byte| *byte == 0), "a line off the frame: our library painted");
+    draw(&mut frame, start, end, 1);
+    assert!(frame.bytes.iter().all(|byte| *byte == 0), "{name}: our library painted");
     Race {
-        name: "a line of 16,000 points, drawn off the frame, against the Rust's points".into(),
+        name: name.into(),
         against: "the Rust",
         goal: Some(1.0),
-        ours: Work::new(points, move || frame.draw_line(black_box(start), black_box(end), 1)),
+        ours: Work::new(points, move || draw(&mut frame, black_box(start), black_box(end), 1)),
         other: Work::new(points, move || {
-            black_box(rust_points(black_box(&line)));
+            black_box(walk(black_box(&line)));
         }),
     }
 }
@@ -160,5 +183,14 @@ fn rust_circle_rows(circle: &Circle) -> i32 {
 
 #[inline(never)]
 fn rust_points(line: &Line) -> i32 {
-    line.points().map(|p| p.x ^ p.y).fold(0, i32::wrapping_add)
+    gone_through(line.points())
+}
+
+#[inline(never)]
+fn rust_connected_points(line: &Line) -> i32 {
+    gone_through(line.connected_points())
+}
+
+fn gone_through(points: impl Iterator<Item = Point>) -> i32 {
+    points.map(|p| p.x ^ p.y).fold(0, i32::wrapping_add)
 }

@@ -50,6 +50,8 @@ extern "C" {
         colour: u32) -> Drawn;
     fn beamacorn_draw_line(buf: *mut u8, len: usize, width: u32, height: u32, depth: u32, order: u32,
         x1: i32, y1: i32, x2: i32, y2: i32, colour: u32) -> Drawn;
+    fn beamacorn_draw_connected_line(buf: *mut u8, len: usize, width: u32, height: u32, depth: u32, order: u32,
+        x1: i32, y1: i32, x2: i32, y2: i32, colour: u32) -> Drawn;
     fn beamacorn_draw_triangle(buf: *mut u8, len: usize, width: u32, height: u32, depth: u32, order: u32,
         x1: i32, y1: i32, x2: i32, y2: i32, x3: i32, y3: i32, colour: u32) -> Drawn;
     fn beamacorn_draw_circle(buf: *mut u8, len: usize, width: u32, height: u32, depth: u32, order: u32,
@@ -131,6 +133,10 @@ impl Frame {
 
     pub fn draw_line(&mut self, (x1, y1): Place, (x2, y2): Place, colour: u32) {
         call!(beamacorn_draw_line(self, x1, y1, x2, y2, colour));
+    }
+
+    pub fn draw_connected_line(&mut self, (x1, y1): Place, (x2, y2): Place, colour: u32) {
+        call!(beamacorn_draw_connected_line(self, x1, y1, x2, y2, colour));
     }
 
     pub fn draw_triangle(&mut self, [(x1, y1), (x2, y2), (x3, y3)]: [Place; 3], colour: u32) {

@@ -1,4 +1,4 @@
-"""Random lines, triangles and circles within bounds: as many small ones as large, a third of the triangles flat or thin."""
+"""Random lines, connected lines, triangles and circles within bounds: as many small ones as large, a third of the triangles flat or thin."""
 
 from math import gcd
 

@@ -1,4 +1,4 @@
-//! How the questions on lines, triangles and circles are put to the Rust.
+//! How the questions on lines, connected lines, triangles and circles are put to the Rust.
 
 use crate::{differences::Difference, question::Question};
 use embedded_graphics::{

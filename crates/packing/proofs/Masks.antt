@@ -7,7 +7,6 @@ use native.Mathlib.Omega.{arith}
 use lib.Arith.{digits-div, digits-mod}
 use lib.Dec.{lit<, lit≤}
 use lib.Bits.{bitAnd, bitOr, and-mask, and-shr}
-use lib.ListN.{getD}
 use lib.Pow.{pow-pos, pow-mono, ones-split, shl-shr}
 use Rattle.layout.specs.Digits.{digit, replaced, value}
 use Rattle.layout.specs.Packed.{goodDepth, field, per, slotOf}
@@ -15,7 +14,7 @@ use Rattle.layout.proofs.Places.{Depth, depth-of, depth-cases, depth-pos, small
 use Rattle.layout.proofs.Fields.{shifted-lt, field-write, field-read}
 use Rattle.layout.proofs.Cells.{digit-value}
 use Rattle.layout.proofs.Bytes.{byte-full}
-use Rattle.packing.specs.Words.{pixelMask, masksOf, maskTable, bitsFrom, merged}
+use Rattle.packing.specs.Words.{pixelMask, masksOf, bitsFrom, merged}
 use Rattle.packing.proofs.Parts.{digit-is}
 
 module _ (d x : ℕ) (g : goodDepth d ≡ true) (s : d < 8) where
@@ -144,13 +143,11 @@ module _ (d x : ℕ) (g : goodDepth d ≡ true) (s : d < 8) where
 
 -- ---- the table of masks
 module _ (d : ℕ) (g : goodDepth d ≡ true) (s : d < 8) where
-  pub row-below : d / 2 < 3
-  row-below = depth-cases (λ d. d < 8 → d / 2 < 3) (λ s. lit< tt) (λ s. lit< tt) (λ s. lit< tt) (λ s. omega arith) (λ s. omega arith) (λ s. omega arith) (λ s. omega arith) d g s
-
-  pub masks-there : getD maskTable (d / 2) 0 ≡ masksOf d
-  masks-there =
-      depth-cases (λ d. d < 8 → getD maskTable (d / 2) 0 ≡ masksOf d) (λ s. refl) (λ s. refl) (λ s. refl) (λ s. omega arith) (λ s. omega arith) (λ s. omega arith)
-      (λ s. omega arith) d g s
+  -- the depth that is left
+  pub else-four : (d ≡ 1 → ⊥) → (d ≡ 2 → ⊥) → d ≡ 4
+  else-four =
+      depth-cases (λ d. d < 8 → (d ≡ 1 → ⊥) → (d ≡ 2 → ⊥) → d ≡ 4)
+      (λ s a b. absurd (a refl)) (λ s a b. absurd (b refl)) (λ s a b. refl) (λ s a b. omega arith) (λ s a b. omega arith) (λ s a b. omega arith) (λ s a b. omega arith) d g s
 
   module _ (x : ℕ) where
     -- the byte of a pixel's field is its mask

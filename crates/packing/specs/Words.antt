@@ -1,7 +1,7 @@
 -- The numbers that the code works out on its way to the bytes: masks of pixels in a byte, and a byte changed where a mask has ones.
 use mathlib.Core.Path.{_≡_}
 use mathlib.Core.Bool.{true}
-use mathlib.Core.List.{List, [], _∷_}
+use mathlib.Core.List.{List, []}
 use Prim.Native.Nat.{ℕ, _+_, _-_, _*_, _^_, _≤_, _<_}
 use lib.Bits.{bitAnd, bitOr}
 use lib.ListN.{getD, set}
@@ -25,9 +25,6 @@ bitsFrom depth x = 2 ^ (field depth * (slotOf depth x + 1)) - 1
 -- one number, the first pixel's the highest
 abbrev pub masksOf : ℕ → ℕ
 masksOf depth = value 256 (per depth) (λ j. pixelMask depth (per depth - 1 - j))
-
-abbrev pub maskTable : List ℕ
-maskTable = masksOf 1 ∷ masksOf 2 ∷ masksOf 4 ∷ []
 
 -- the byte p where the mask m has ones, and else v
 abbrev pub merged : ℕ → ℕ → ℕ → ℕ

@@ -35,7 +35,13 @@ fn masks_of(depth: u32) -> u64
     requires { ⌜ (goodDepth depth ≡ true) × (depth < 8) ⌝ }
     ensures { λ r. ⌜ r ≡ masksOf depth ⌝ }
 {
-    MASKS[(depth / 2) as usize]
+    if depth == 1 {
+        return MASKS[0];
+    }
+    if depth == 2 {
+        return MASKS[1];
+    }
+    MASKS[2]
 }
 
 // Pixel x's bits.

@@ -114,9 +114,9 @@ module _ (q : Brush) (P : Placing (raster (q .frame))) (b : List ℕ) where
 
 -- ---- what a figure has that an earlier one has not
 -- all of it, if there is none
-pub none-before : (q : Brush) (figure : ℤ → ℤ → Bool) (b : List ℕ) {n : ℕ} {next : List ℕ}
+pub none-earlier : (q : Brush) (figure : ℤ → ℤ → Bool) (b : List ℕ) {n : ℕ} {next : List ℕ}
     → n ≡ brushed q (newIn (λ x y. false) figure) b .0 → next ≡ brushed q figure b .1 → (n, next) ≡ brushed q figure b
-none-before q figure b e f = λ i. ((e ∙ all) i, f i)
+none-earlier q figure b e f = λ i. ((e ∙ all) i, f i)
   where
     all : brushed q (newIn (λ x y. false) figure) b .0 ≡ brushed q figure b .0
     all = pixels-cong (raster (q .frame)) _ _ (λ x y hx hy. ap (λ (t : Bool). inWindow (q .window) (pos x) (pos y) && t) (and-true (figure (pos x) (pos y))))

@@ -17,7 +17,7 @@ use Rattle.layout.specs.Count.{oneIf}
 use Rattle.layout.proofs.Counts.{one-small}
 use Rattle.framebuffer.specs.Judged.{Ready}
 use Rattle.drawing.specs.Figure.{connectedFigure}
-use Rattle.drawing.proofs.Figures.{connected-walked, none-before, Along, along-start, along-turn, along-end}
+use Rattle.drawing.proofs.Figures.{connected-walked, none-earlier, Along, along-start, along-turn, along-end}
 use Rattle.drawing.proofs.draw_connected.Statement.{statement}
 use Rattle.drawing.proofs.draw_connected.Tie as tie
 
@@ -123,7 +123,7 @@ returns c =
     let a = s .args in
     let all : c .before .loop .i ≡ connectedPoints (a .start) (a .end) = omega (arith, c .before .before .last-index .ensures) in
     let r = along-end (s .pre .0) none (connectedAt (a .start) (a .end)) (a .buf .now) (head (c .before) .1) all (connected-walked (a .start) (a .end)) in
-    none-before (a .brush) (connectedFigure (a .start) (a .end)) (a .buf .now) (r .0) (r .1)
+    none-earlier (a .brush) (connectedFigure (a .start) (a .end)) (a .buf .now) (r .0) (r .1)
 
 pub draw-connected-spec : {M : Type 1} → statement M
 draw-connected-spec =

@@ -2,11 +2,11 @@
 use mathlib.Core.Path.{_≡_, refl, sym, ap, ap₂, _∙_, subst}
 use mathlib.Core.Bool.{true}
 use Prim.Native.Nat.{ℕ, _+_, _-_, _*_, _/_, _%_, _^_, _≤_, _<_}
-use native.Mathlib.Nat.{le-of-lt, mod-lt, mod-mod, mod-eq-of-lt, div-add-mod', mul-le-mul-right}
+use native.Mathlib.Nat.{add-zero, le-of-lt, mod-lt, mod-mod, mod-eq-of-lt, div-add-mod', mul-le-mul-right}
 use native.Mathlib.Omega.{arith}
 use lib.Arith.{digits-div, digits-mod}
 use lib.Dec.{lit<, lit≤}
-use lib.Bits.{bitAnd, bitOr, and-mask, and-shr}
+use lib.Bits.{bitAnd, bitOr, and-mask, and-shr, and-block, and-zero-l}
 use lib.Pow.{pow-pos, pow-mono, ones-split, shl-shr}
 use Rattle.layout.specs.Digits.{digit, replaced, value}
 use Rattle.layout.specs.Packed.{goodDepth, field, per, slotOf}
@@ -14,7 +14,7 @@ use Rattle.layout.proofs.Places.{Depth, depth-of, depth-cases, depth-pos, small
 use Rattle.layout.proofs.Fields.{shifted-lt, field-write, field-read}
 use Rattle.layout.proofs.Cells.{digit-value}
 use Rattle.layout.proofs.Bytes.{byte-full}
-use Rattle.packing.specs.Words.{pixelMask, masksOf, bitsFrom, merged}
+use Rattle.packing.specs.Words.{pixelMask, masksOf, bitsFrom}
 use Rattle.packing.proofs.Parts.{digit-is}
 
 module _ (d x : ℕ) (g : goodDepth d ≡ true) (s : d < 8) where
@@ -121,10 +121,17 @@ module _ (d x : ℕ) (g : goodDepth d ≡ true) (s : d < 8) where
       pub moved-fits : (c * 2 ^ r) % 4294967296 < 256
       moved-fits = subst (λ (k : ℕ). k < 256) (sym moved-is) moved-lt
 
+      -- the colour has no bit beside the pixel's
+      moved-inside : bitAnd (c * 2 ^ (field d * slotOf d x)) (pixelMask d x) ≡ c * 2 ^ (field d * slotOf d x)
+      moved-inside =
+          let s = field d * slotOf d x in
+          sym (ap₂ bitAnd (add-zero (c * 2 ^ s)) (add-zero (pixelMask d x))) ∙ and-block s c (2 ^ field d - 1) 0 0 (pow-pos s) (pow-pos s)
+          ∙ ap₂ (λ (m n : ℕ). m * 2 ^ s + n) (and-mask c (field d) ∙ mod-eq-of-lt low) (and-zero-l 0) ∙ add-zero (c * 2 ^ s)
+
       -- the pixel's bits take the colour, and the others stay
-      pub written : (v : ℕ) → v < 256 → merged v ((c * 2 ^ r) % 4294967296) (pixelMask d x) ≡ replaced (2 ^ field d) (slotOf d x) c v
+      pub written : (v : ℕ) → v < 256 → bitOr (bitAnd v (255 - pixelMask d x)) ((c * 2 ^ r) % 4294967296) ≡ replaced (2 ^ field d) (slotOf d x) c v
       written v hv =
-          ap (λ (k : ℕ). merged v k (pixelMask d x)) moved-is
+          ap (bitOr (bitAnd v (255 - pixelMask d x))) (moved-is ∙ sym moved-inside)
           ∙ ap (λ (k : ℕ). bitOr (bitAnd v (k - 1 - pixelMask d x)) (bitAnd (c * 2 ^ (field d * slotOf d x)) (pixelMask d x))) (sym (byte-full d D))
           ∙ field-write (field d) (per d) (slotOf d x) v slot-below (subst (λ (k : ℕ). v < k) (sym (byte-full d D)) hv) c low
 

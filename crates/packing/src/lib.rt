@@ -72,7 +72,7 @@ pub fn with_field(v: u8, depth: u32, x: u32, colour: u32) -> u8
     requires { ⌜ Part depth x × (colour < 2 ^ depth) ⌝ }
     ensures { λ r. ⌜ r ≡ replaced (2 ^ field depth) (slotOf depth x) colour v ⌝ }
 {
-    merge(v, (colour << shift(depth, x)) as u8, mask(depth, x))
+    (v & !mask(depth, x)) | (colour << shift(depth, x)) as u8
 }
 
 // Inside the library: the colour of pixel x in the byte v.

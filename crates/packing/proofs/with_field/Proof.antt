@@ -1,37 +1,35 @@
 -- `packing::with_field` shifts the colour to the pixel's field and keeps the bits of the others. Assumes nothing.
 use mathlib.Core.Path.{ap, _∙_}
-use Prim.Native.Nat.{_*_, _%_, _^_}
+use Prim.Native.Nat.{ℕ, _-_, _*_, _%_, _^_}
 use native.Mathlib.Omega.{arith}
+use lib.Bits.{bitAnd, bitOr}
 use borrow.Author.Needs.{needs}
-use Rattle.packing.specs.Words.{merged}
 use Rattle.packing.proofs.Masks.{shift-small, moved-fits, written}
 use Rattle.packing.proofs.with_field.Statement.{statement}
 use Rattle.packing.proofs.with_field.Tie as tie
 
-shift-requires : tie.Need-shift-requires
-shift-requires c κs = search needs
-
-shl-merge : tie.Need-shl-merge
-shl-merge c = omega (arith, shift-small (c .before .args .depth) _ (c .before .pre .0 .good) (c .before .pre .0 .small) (c .shift .ensures))
-
-cast-merge : tie.Need-cast-merge
-cast-merge c =
-    let s = c .before in
-    record { fits = moved-fits (s .args .depth) _ (s .pre .0 .good) (s .pre .0 .small) (c .shift .result) (c .shift .ensures) (s .args .colour) (s .pre .1) }
-
 mask-requires : tie.Need-mask-requires
 mask-requires c κs = search needs
 
-merge-requires : tie.Need-merge-requires
-merge-requires c κs = search needs
+shift-requires : tie.Need-shift-requires
+shift-requires c κs = search needs
+
+shl-result : tie.Need-shl-result
+shl-result c =
+    let s = c .before .before in
+    omega (arith, shift-small (s .args .depth) _ (s .pre .0 .good) (s .pre .0 .small) (c .shift .ensures))
+
+cast-result : tie.Need-cast-result
+cast-result c =
+    let s = c .before .before in
+    record { fits = moved-fits (s .args .depth) _ (s .pre .0 .good) (s .pre .0 .small) (c .shift .result) (c .shift .ensures) (s .args .colour) (s .pre .1) }
 
 returns : tie.Need-returns
 returns c =
-    let shift = c .before .before .shift in
-    let s = c .before .before .before in
-    c .merge .ensures
-    ∙ ap (merged (s .args .v) ((s .args .colour * 2 ^ (shift .result)) % 4294967296)) (c .before .mask .ensures)
-    ∙ written (s .args .depth) (s .args .x) (s .pre .0 .good) (s .pre .0 .small) (shift .result) (shift .ensures) (s .args .colour) (s .pre .1) (s .args .v) (s .fits .v .fits)
+    let s = c .before .before in
+    let a = s .args in
+    ap (λ (m : ℕ). bitOr (bitAnd (a .v) (255 - m)) ((a .colour * 2 ^ (c .shift .result)) % 4294967296)) (c .before .mask .ensures)
+    ∙ written (a .depth) (a .x) (s .pre .0 .good) (s .pre .0 .small) (c .shift .result) (c .shift .ensures) (a .colour) (s .pre .1) (a .v) (s .fits .v .fits)
 
 pub with-field-spec : {M : Type 1} → statement M
-with-field-spec = tie.close (tie.spec shift-requires shl-merge cast-merge mask-requires merge-requires returns)
+with-field-spec = tie.close (tie.spec mask-requires shift-requires shl-result cast-result returns)

@@ -46,15 +46,6 @@ many-both (suc n) f g = omega (arith, many-both n f g, one-both (f n) (g n))
 pub many-add : (n : ℕ) (f g : ℕ → Bool) → ((p : ℕ) → p < n → f p && g p ≡ false) → howMany n (λ p. f p || g p) ≡ howMany n f + howMany n g
 many-add n f g h = omega (arith, many-both n f g, many-none n (λ p. f p && g p) h)
 
--- a part is no more than the whole
-one-le : (s t : Bool) → (s ≡ true → t ≡ true) → oneIf s ≤ oneIf t
-one-le true t h = omega (arith, sym (ap oneIf (h refl)))
-one-le false t h = omega arith
-
-pub many-part : (n : ℕ) (f g : ℕ → Bool) → ((p : ℕ) → p < n → f p ≡ true → g p ≡ true) → howMany n f ≤ howMany n g
-many-part zero f g h = omega arith
-many-part (suc n) f g h = omega (arith, many-part n f g (λ p l. h p (omega arith)), one-le (f n) (g n) (h n (le-refl (suc n))))
-
 -- one pixel
 pub many-one : (n p : ℕ) → p < n → howMany n (λ q. eqb q p) ≡ 1
 many-one zero p h = absurd (not-suc-le-zero h)

@@ -15,7 +15,7 @@ use Rattle.whole.proofs.Tests.{same-test, and-true, true-and, fails}
 use Rattle.layout.specs.Figure.{single, everywhere}
 use Rattle.layout.specs.Layout.{Layout, painted, shown, coloured}
 use Rattle.layout.specs.Count.{pixelsIn, litIn, marked}
-use Rattle.layout.proofs.Counts.{many-cong, many-none, many-all, many-le, many-add, many-part, many-one, many-zero}
+use Rattle.layout.proofs.Counts.{many-cong, many-none, many-all, many-le, many-add, many-one, many-zero}
 use Rattle.layout.proofs.Placing.{Placing, Everywhere, numbered}
 use Rattle.layout.proofs.Spans.{columns, in-span, span-none, span-one, span-join}
 use Rattle.layout.proofs.Painted.{painted-cong, painted-none, painted-painted}
@@ -50,11 +50,6 @@ module _ (l : Layout) where
   pub pixels-le : (s : ℤ → ℤ → Bool) → pixelsIn l s ≤ l .height * l .width
   unfolding pixelsIn
   pixels-le s = many-le (l .height * l .width) _
-
-  -- a part of a figure has no more
-  pub pixels-part : (s t : ℤ → ℤ → Bool) → Everywhere l (λ x y. At s x y ≡ true → At t x y ≡ true) → pixelsIn l s ≤ pixelsIn l t
-  unfolding pixelsIn
-  pixels-part s t h = many-part (l .height * l .width) _ _ (numbered l (λ x y. At s x y ≡ true → At t x y ≡ true) h)
 
   -- figures that share no pixel of the frame add up
   pub pixels-add : (s t : ℤ → ℤ → Bool) → Everywhere l (λ x y. At s x y && At t x y ≡ false) → pixelsIn l (λ x y. s x y || t x y) ≡ pixelsIn l s + pixelsIn l t

@@ -21,8 +21,8 @@ pixelMask depth x = (2 ^ field depth - 1) * 2 ^ (field depth * slotOf depth x)
 abbrev pub bitsFrom : ℕ → ℕ → ℕ
 bitsFrom depth x = 2 ^ (field depth * (slotOf depth x + 1)) - 1
 
--- 02, T-03, "a constant table of fourteen masks": the bits of a pixel at each position in its byte, 8 at depth 1, 4 at depth 2, 2 at depth 4. A depth's masks are the bytes of
--- one number, the first pixel's the highest
+-- 02, T-03, "a constant table of fourteen masks": the bits of a pixel at each position in its byte, 8 at depth 1, 4 at depth 2, 2 at depth 4. A depth's masks stand
+-- beside one another in one number, the first pixel's the highest
 abbrev pub masksOf : ℕ → ℕ
 masksOf depth = value 256 (per depth) (λ j. pixelMask depth (per depth - 1 - j))
 

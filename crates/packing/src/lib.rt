@@ -26,22 +26,45 @@ fn shift(depth: u32, x: u32) -> u32
     depth * slot(depth, x)
 }
 
-// The bits of a pixel at each position in its byte, fourteen masks of a byte: 8 at depth 1, 4 at depth 2, 2 at depth 4, the first pixel's the highest. A depth's are one
-// number, since an array of fourteen bytes measured slower than working out the masks (docs/BENCHMARKS.md).
-const MASKS: [u64; 3] = [0x80_40_20_10_08_04_02_01, 0xC0_30_0C_03, 0xF0_0F];
+// The bits of a pixel at each position in its byte: 8 masks at depth 1, 4 at depth 2, 2 at depth 4, the first pixel's first.
+const MASKS: [u8; 14] = [
+    0x80,
+    0x40,
+    0x20,
+    0x10,
+    0x08,
+    0x04,
+    0x02,
+    0x01,
+    0xC0,
+    0x30,
+    0x0C,
+    0x03,
+    0xF0,
+    0x0F,
+];
 
-// The masks of a depth.
+// Four bytes as one number, the first the highest.
+fn beside(a: u8, b: u8, c: u8, d: u8) -> u64
+    ensures { λ r. ⌜ r ≡ ((a * 256 + b) * 256 + c) * 256 + d ⌝ }
+{
+    ((a as u64 * 256 + b as u64) * 256 + c as u64) * 256 + d as u64
+}
+
+// The masks of a depth as one number, the first pixel's the highest. Each is taken at a constant place of the table: where a place is worked out, the table is laid out on
+// the stack first, which measured slower than working out the mask (docs/BENCHMARKS.md).
 fn masks_of(depth: u32) -> u64
     requires { ⌜ (goodDepth depth ≡ true) × (depth < 8) ⌝ }
     ensures { λ r. ⌜ r ≡ masksOf depth ⌝ }
 {
     if depth == 1 {
-        return MASKS[0];
+        return beside(MASKS[0], MASKS[1], MASKS[2], MASKS[3]) * 4294967296
+            + beside(MASKS[4], MASKS[5], MASKS[6], MASKS[7]);
     }
     if depth == 2 {
-        return MASKS[1];
+        return beside(MASKS[8], MASKS[9], MASKS[10], MASKS[11]);
     }
-    MASKS[2]
+    beside(0, 0, MASKS[12], MASKS[13])
 }
 
 // Pixel x's bits.

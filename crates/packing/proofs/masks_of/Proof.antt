@@ -1,5 +1,6 @@
--- `packing::masks_of` takes the depth's number of the table: all its masks are compared at once with those of the rule. Assumes nothing.
-use mathlib.Core.Path.{_≡_, sym, ap}
+-- `packing::masks_of` puts a depth's masks of the table beside one another: all of them are compared at once with those of the rule, which the checker works out. Assumes nothing.
+use mathlib.Core.Path.{_≡_, sym, ap, ap₂, _∙_}
+use Prim.Native.Nat.{ℕ, _+_, _*_}
 use native.Mathlib.Omega.{arith}
 use borrow.Author.Needs.{needs}
 use Rattle.layout.specs.Packed.{field, per, slotOf}
@@ -8,28 +9,40 @@ use Rattle.packing.proofs.Masks.{else-four}
 use Rattle.packing.proofs.masks_of.Statement.{statement}
 use Rattle.packing.proofs.masks_of.Tie as tie
 
-array-read-result : tie.Need-array-read-result
-array-read-result c = search needs
+mul-result : tie.Need-mul-result
+mul-result c = record { fits = omega (arith, c .beside .ensures) }
+
+add-result : tie.Need-add-result
+add-result c = record { fits = omega (arith, c .before .beside .ensures, c .beside2 .ensures) }
 
 returns : tie.Need-returns
 unfolding field per slotOf
-returns c = let e : c .before .args .depth ≡ 1 = omega arith in sym (ap masksOf e)
-
-array-read-result-2 : tie.Need-array-read-result-2
-array-read-result-2 c = search needs
+returns c =
+    let e : c .before .before .before .args .depth ≡ 1 = omega arith in
+    let m : c .before .beside .result * 4294967296 + c .beside2 .result ≡ masksOf 1 =
+    ap₂ (λ (h l : ℕ). h * 4294967296 + l) (c .before .beside .ensures) (c .beside2 .ensures) in
+    m ∙ sym (ap masksOf e)
 
 returns-2 : tie.Need-returns-2
 unfolding field per slotOf
-returns-2 c = let e : c .before .before .args .depth ≡ 2 = omega arith in sym (ap masksOf e)
-
-array-read-result-3 : tie.Need-array-read-result-3
-array-read-result-3 c = search needs
+returns-2 c =
+    let e : c .before .before .before .args .depth ≡ 2 = omega arith in
+    let m : c .beside3 .result ≡ masksOf 2 = c .beside3 .ensures in
+    m ∙ sym (ap masksOf e)
 
 returns-3 : tie.Need-returns-3
 unfolding field per slotOf
 returns-3 c =
-    let s = c .before .before in
-    sym (ap masksOf (else-four (s .args .depth) (s .pre .0) (s .pre .1) (λ z. omega arith) (λ z. omega arith)))
+    let s = c .before .before .before in
+    let e = else-four (s .args .depth) (s .pre .0) (s .pre .1) (λ z. omega arith) (λ z. omega arith) in
+    let m : c .beside4 .result ≡ masksOf 4 = c .beside4 .ensures in
+    m ∙ sym (ap masksOf e)
 
 pub masks-of-spec : {M : Type 1} → statement M
-masks-of-spec = tie.close (tie.spec array-read-result returns array-read-result-2 returns-2 array-read-result-3 returns-3)
+masks-of-spec =
+    tie.close
+    (tie.spec
+    (λ c. search needs) (λ c. search needs) (λ c. search needs) (λ c. search needs) (λ c κs. search needs) mul-result
+    (λ c. search needs) (λ c. search needs) (λ c. search needs) (λ c. search needs) (λ c κs. search needs) add-result returns
+    (λ c. search needs) (λ c. search needs) (λ c. search needs) (λ c. search needs) (λ c κs. search needs) returns-2
+    (λ c. search needs) (λ c. search needs) (λ c κs. search needs) returns-3)

@@ -1,0 +1,5 @@
+pub mod Parsing
+pub mod Entries
+pub mod Forms
+pub mod Determined
+pub mod Known

@@ -1,6 +1,6 @@
 -- The numbers of both operations as the code comes to them, test by test, and their answers. Assumes nothing.
 use mathlib.Core.Path.{_≡_, refl, sym, ap, ap₂, _∙_}
-use mathlib.Core.Bool.{Bool, true, false, cond}
+use mathlib.Core.Bool.{Bool, true, false, cond, not, _||_}
 use mathlib.Core.List.{List, [], _∷_, _++_, append-assoc}
 use Prim.Native.Nat.{ℕ, zero, suc, _+_, _≤_, _<_}
 use native.Mathlib.Omega.{arith}
@@ -9,13 +9,13 @@ use lib.ListN.{length, take, drop}
 use lib.Seq.{sets, sets-eq, length-sets, drop-drop}
 use borrow.Author.Tests.{lt-ltb, le-ltb, eq-eqb, ne-eqb}
 use Rattle.refusals.specs.First.{first}
-use Rattle.refusals.proofs.First.{refused, passed, both-pass, stops, goes-on, fails-alone}
+use Rattle.refusals.proofs.First.{exactly-0, refused, passed, both-pass, stops, goes-on, fails-alone}
 use Rattle.text.proofs.Writing.{sets-append}
 use Rattle.framebuffer.specs.declared.Frame.{Frame}
 use Rattle.framebuffer.specs.declared.Size.{Size}
 use Rattle.framebuffer.specs.Answer.{sized}
-use Rattle.framebuffer.specs.Description.{size, tooShort, descriptionTests, frameTests}
-use Rattle.framebuffer.specs.Judged.{Described}
+use Rattle.framebuffer.specs.Description.{size, tooLarge, tooShort, descriptionTests, frameTests}
+use Rattle.framebuffer.specs.Judged.{Described, Accepted}
 use Rattle.framebuffer.proofs.Refusals.{description-numbered, frame-numbered, is-described, is-accepted}
 use Rattle.netpbm.specs.Image.{imageBytes, imageLength}
 use Rattle.netpbm.specs.Written.{noFormat, noRoom, imageSizeTests, writeTests, written, Writable}
@@ -42,6 +42,21 @@ module _ {r : Size} (k b : ℕ) (e : r ≡ sized k b) where
       any : (k : ℕ) → (k ≡ 0 → ⊥) → sized k b ≡ sized k c
       any zero h = absurd (h refl)
       any (suc k) h = refl
+
+-- ---- what is accepted passes
+small : (f : Frame) → Described f → tooLarge f ≡ false
+small f D = ap₂ _||_ (le-ltb 2048 (f .width) (D .width)) (le-ltb 2048 (f .height) (D .height))
+
+pub described-size : (f : Frame) → Described f → {r : Size} → r ≡ sized (first (descriptionTests f)) (size f) → r .bytes ≡ size f
+unfolding descriptionTests
+described-size f D e =
+    bytes-of (first (descriptionTests f)) (size f) e
+    (number-of (first (descriptionTests f)) (size f) e ∙ exactly-0 (descriptionTests f) refl .1 (ap not (D .depth), (small f D, tt)))
+
+pub frame-passes : (f : Frame) (len : ℕ) → Accepted f len → first (frameTests f len) ≡ 0
+unfolding descriptionTests frameTests
+frame-passes f len A =
+    exactly-0 (frameTests f len) refl .1 (ap not (A .described .depth), (small f (A .described), (le-ltb len (size f) (A .room), tt)))
 
 -- ---- the length of a file
 module _ (f : Frame) {r : Size} (e : r ≡ sized (first (descriptionTests f)) (size f)) where
@@ -96,25 +111,25 @@ module _ (f : Frame) (len room : ℕ) {n : ℕ} (e : n ≡ first (frameTests f l
       pub is-writable : Writable f len
       is-writable = record { accepted = is-accepted f len (sym e ∙ z); format = fails-alone 9 (noFormat f) (sym format-is ∙ g) }
 
+-- ---- what is left, by the number
+module _ (n : ℕ) (done out : List ℕ) where
+  pub as-it-was : (n ≡ 0 → ⊥) → out ≡ cond (eqb n 0) done out
+  as-it-was h = sym (ap (λ (t : Bool). cond t done out) (ne-eqb n 0 h))
+
+  pub as-done : n ≡ 0 → done ≡ cond (eqb n 0) done out
+  as-done z = sym (ap (λ (t : Bool). cond t done out) (eq-eqb n 0 z))
+
 -- ---- the answer and the output
 module _ (f : Frame) (b out : List ℕ) {n : ℕ} (e : n ≡ first (writeTests f (length b) (length out))) {r : Size} (i : r ≡ sized n (imageLength f)) where
-  of-number : ℕ → Size × List ℕ
-  of-number n = (sized n (imageLength f), cond (eqb n 0) (sets out 0 (imageBytes f b)) out)
-
-  written-is : of-number n ≡ written f b out
-  unfolding written of-number
-  written-is = ap of-number e
+  written-is : _≡_ {A = Size × List ℕ} (sized n (imageLength f), cond (eqb n 0) (sets out 0 (imageBytes f b)) out) (written f b out)
+  unfolding written
+  written-is = ap (λ (n : ℕ). (sized n (imageLength f), cond (eqb n 0) (sets out 0 (imageBytes f b)) out)) e
 
   pub refused-written : (n ≡ 0 → ⊥) → _≡_ {A = Size × List ℕ} (r, out) (written f b out)
-  unfolding of-number
-  refused-written h =
-      ap₂ (λ (s : Size) (t : Bool). (s, cond t (sets out 0 (imageBytes f b)) out)) i (sym (ne-eqb n 0 h)) ∙ written-is
+  refused-written h = ap₂ (λ (s : Size) (o : List ℕ). (s, o)) i (as-it-was n (sets out 0 (imageBytes f b)) out h) ∙ written-is
 
   pub accepted-written : n ≡ 0 → {after : List ℕ} → after ≡ sets out 0 (imageBytes f b) → _≡_ {A = Size × List ℕ} (r, after) (written f b out)
-  unfolding of-number
-  accepted-written z h =
-      ap₂ (λ (s : Size) (o : List ℕ). (s, o)) i h
-      ∙ ap (λ (t : Bool). (sized n (imageLength f), cond t (sets out 0 (imageBytes f b)) out)) (sym (eq-eqb n 0 z)) ∙ written-is
+  accepted-written z h = ap₂ (λ (s : Size) (o : List ℕ). (s, o)) i (h ∙ as-done n (sets out 0 (imageBytes f b)) out z) ∙ written-is
 
 -- s written from the first byte on, and t over the k bytes behind it
 pub in-part : (out s t : List ℕ) (start k : ℕ) → start ≡ length s → length t ≡ k → start + k ≤ length out

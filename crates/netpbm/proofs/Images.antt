@@ -1,27 +1,27 @@
 -- ONE PICTURE, ONE FILE: two frames of one size and depth have equal files exactly if they show the same picture, whatever their byte order, padding and tail;
--- and equal files have one size and depth, since the header's parts are read back. Assumes nothing.
-use mathlib.Core.Path.{_≡_, refl, sym, ap, subst, _∙_}
+-- and equal files have one size and depth, since the header is read back. Assumes nothing.
+use mathlib.Core.Path.{_≡_, refl, sym, ap, ap₂, subst, _∙_}
 use mathlib.Core.Bool.{Bool, cond}
 use mathlib.Core.List.{List, _++_}
 use mathlib.Core.Logic.{_↔_, ⊎-elim}
 use Prim.Native.Nat.{ℕ, _+_, _≤_, _<_}
 use native.Mathlib.Nat.{le-refl}
 use lib.Dec.{eqb}
-use lib.ListN.{length, take, drop, getD, replicate, length-append, length-replicate}
+use lib.ListN.{length, drop, getD, replicate, length-append, length-replicate}
 use lib.Seq.{drop-append-seam}
-use Rattle.text.specs.declared.Unsigned.{Unsigned}
-use Rattle.text.specs.Read.{readU32}
+use Rattle.headers.specs.declared.Header.{Header}
+use Rattle.headers.specs.Header.{kind, headerOf}
 use Rattle.layout.specs.Layout.{shown}
 use Rattle.layout.proofs.Pictures.{Agree, one-picture, shown-colour}
 use Rattle.framebuffer.specs.declared.Frame.{Frame}
 use Rattle.framebuffer.specs.Description.{described, raster, size}
 use Rattle.framebuffer.specs.Judged.{Described}
 use Rattle.framebuffer.proofs.Refusals.{sound}
-use Rattle.netpbm.specs.Image.{kind, header, bigFirst, pixels, imageBytes, imageLength}
+use Rattle.netpbm.specs.Image.{header, bigFirst, pixels, imageBytes, imageLength}
 use Rattle.netpbm.specs.Written.{Writable}
-use Rattle.netpbm.proofs.Rows.{big-described, pixels-length}
+use Rattle.netpbm.proofs.Transfers.{big-described, pixels-length}
 use Rattle.netpbm.proofs.Formats.{formats}
-use Rattle.netpbm.proofs.Headers.{upTo, past, header-says}
+use Rattle.netpbm.proofs.Headers.{header-says}
 
 module _ (w h d : ℕ) (i j : Bool) (D : Described (described w h d i)) (a b : List ℕ) where
   abbrev f : Frame
@@ -57,15 +57,12 @@ depth-back f W = ⊎-elim (⊎-elim (λ e. back 1 e refl) (λ e. back 8 e refl))
 
 pub one-file-one-size : (f g : Frame) {m n : ℕ} → Writable f m → Writable g n → (a b : List ℕ) → imageBytes f a ≡ imageBytes g b
     → (f .width ≡ g .width) × (f .height ≡ g .height) × (f .depth ≡ g .depth)
-unfolding imageBytes
+unfolding imageBytes header
 one-file-one-size f g F G a b e =
-    let p = header-says f (F .accepted .described) (pixels f a) in
-    let q = header-says g (G .accepted .described) (pixels g b) in
-    let same : kind (f .depth) ≡ kind (g .depth) = ap (λ (s : List ℕ). getD s 1 0) (sym (p .format) ∙ ap (take 3) e ∙ q .format) in (
-      ap (λ (u : Unsigned). u .value) (sym (p .width) ∙ ap (λ (s : List ℕ). readU32 (upTo 32 (drop 3 s))) e ∙ q .width),
-      ap (λ (u : Unsigned). u .value) (sym (p .height) ∙ ap (λ (s : List ℕ). readU32 (upTo 10 (past 32 (drop 3 s)))) e ∙ q .height),
-      sym (depth-back f F) ∙ ap depthOf same ∙ depth-back g G,
-    )
+    let same : kind (f .depth) ≡ kind (g .depth) = ap (λ (s : List ℕ). getD s 1 0) e in
+    let d : f .depth ≡ g .depth = sym (depth-back f F) ∙ ap depthOf same ∙ depth-back g G in
+    let h = sym (header-says f (F .accepted .described) (pixels f a)) ∙ ap₂ headerOf d e ∙ header-says g (G .accepted .described) (pixels g b) in
+    (ap (λ (H : Header). H .width) h, ap (λ (H : Header). H .height) h, d)
 
 -- ---- a file is as long as is said beforehand, whatever the buffer holds
 pub file-length : (f : Frame) (b : List ℕ) → Described f → length (imageBytes f b) ≡ imageLength f

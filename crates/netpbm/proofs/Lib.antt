@@ -1,9 +1,13 @@
 pub mod Bits
-pub mod Rows
 pub mod Formats
+pub mod Rows
+pub mod Transfers
 pub mod Headers
 pub mod Answers
+pub mod Loads
+pub mod Reading
 pub mod Refusals
 pub mod Images
+pub mod RoundTrip
 pub mod Known
 pub mod Determined

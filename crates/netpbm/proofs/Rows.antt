@@ -1,223 +1,226 @@
--- The rows of a file's pixels, over every depth: bit by bit they are the frame's, at the same place of the row or with a pixel's bytes turned round, and 0
--- behind the last pixel. Assumes nothing.
-use mathlib.Core.Path.{_≡_, refl, sym, ap, ap₂, subst, _∙_}
-use mathlib.Core.Logic.{_⊎_, ⊎-elim}
-use mathlib.Core.Bool.{Bool, true, false, cond}
+-- A picture taken over from one frame into another of the same size and depth: its rows are the source's, copied or with each pixel's bytes turned round, and padding is what
+-- stood there. Assumes nothing.
+use mathlib.Core.Path.{_≡_, sym, ap, ap₂, subst, _∙_}
+use mathlib.Core.Logic.{_⊎_, inl, inr}
+use mathlib.Core.Bool.{true, false}
 use mathlib.Core.List.{List}
 use Prim.Native.Nat.{ℕ, zero, suc, _+_, _-_, _*_, _/_, _%_, _^_, _≤_, _<_}
-use native.Mathlib.Nat.{le-refl, div-lt-iff-lt-mul, div-add-mod', mod-lt, mul-pos}
+use native.Mathlib.Nat.{div-lt-iff-lt-mul, div-add-mod', mod-lt}
 use native.Mathlib.Omega.{arith}
-use lib.Bits.{bitAnd}
-use lib.Dec.{ltb}
-use lib.ListN.{length, getD, set, replicate, length-replicate}
-use lib.Pow.{pow-pos}
-use borrow.Author.Tests.{lt-ltb, le-ltb}
-use Rattle.whole.proofs.Tests.{lt-or-ge}
-use Rattle.layout.specs.Digits.{digit, value, cell, setRun}
-use Rattle.layout.specs.Layout.{shown}
-use Rattle.layout.specs.Packed.{rowBytes, field, parts, turned, byteOf, slotOf}
-use Rattle.layout.proofs.Cells.{digit-lt, digit-value, value-cong, value-digits}
-use Rattle.layout.proofs.Runs.{run-cong, run-then, run-is}
-use Rattle.layout.proofs.Bytes.{Bytes, turn0}
-use Rattle.layout.proofs.Places.{depth-of, depth-pos, field-pos, turned-below, turned-twice}
-use Rattle.layout.proofs.Pictures.{rendered-length, shown-rendered, shown-colour, getD-zeros, digit-zero}
-use Rattle.layout.proofs.Padding.{same-bit, padding-stays}
+use lib.Bits.{bitAnd, and-le-l}
+use lib.Dec.{eqb}
+use lib.ListN.{length, getD, set}
+use lib.Seq.{ext-getD}
+use borrow.Author.Tests.{eqb-true, not-true}
+use Rattle.whole.proofs.Tests.{lt-or-ge, and-true}
+use Rattle.layout.specs.Digits.{setRun}
+use Rattle.layout.specs.Layout.{shown, rendered}
+use Rattle.layout.specs.Packed.{Packed, rowBytes, laid}
+use Rattle.layout.proofs.Runs.{run-length, run-in, run-out, run-cong, run-then, run-bytes}
+use Rattle.layout.proofs.Bytes.{Bytes}
+use Rattle.layout.proofs.Places.{Sound, placing}
+use Rattle.layout.proofs.Pictures.{rendered-length}
+use Rattle.layout.proofs.Padding.{tail-stays}
+use Rattle.packing.specs.Words.{merged}
 use Rattle.framebuffer.specs.declared.Frame.{Frame}
 use Rattle.framebuffer.specs.Description.{packed, raster, size}
-use Rattle.framebuffer.specs.Judged.{Described}
-use Rattle.framebuffer.proofs.Refusals.{sound, spaced}
-use Rattle.netpbm.specs.Image.{bigFirst, pixels}
-use Rattle.netpbm.specs.Words.{copiedRow, turnedRow}
-use Rattle.netpbm.proofs.Bits.{rendered-bytes, columnOf, place, turned-place, masked, cut, full}
+use Rattle.framebuffer.proofs.Refusals.{spaced}
+use Rattle.netpbm.specs.Words.{Alike, transferred, maskedRun, copiedRow, turnedRow, isTurned, isRun}
+use Rattle.netpbm.proofs.Bits.{rendered-bytes, sourceOf, same-source, turned-place, mixed, mixed-cong, cut, full, beside, by-bits}
+use Rattle.netpbm.proofs.Formats.{row-room, has-bits, has-bytes, same-bytes, same-distance, run-size}
 
-pub big-described : (f : Frame) → Described f → Described (bigFirst f)
-big-described f D = record { depth = D .depth; width = D .width; height = D .height }
+-- ---- runs from the first byte on
+run-front : (n : ℕ) (h : ℕ → ℕ) (b : List ℕ) (j : ℕ) → j < n → n ≤ length b → getD (setRun 0 n h b) j 0 ≡ h j
+run-front n h b j l o = let z : j ≡ 0 + j = omega arith in ap (λ (k : ℕ). getD (setRun 0 n h b) k 0) z ∙ run-in 0 n h b j l (omega arith)
 
-pub pixels-length : (f : Frame) (a : List ℕ) → Described f → length (pixels f a) ≡ size (bigFirst f)
-unfolding pixels
-pixels-length f a D =
-    rendered-length (raster (bigFirst f)) (sound (bigFirst f) (big-described f D)) (shown (raster f) a) (replicate (size (bigFirst f)) 0)
-    ∙ length-replicate (size (bigFirst f)) 0
+-- a list that differs from another in its first n elements alone
+pub run-over : (n : ℕ) (b b′ : List ℕ) → n ≤ length b → length b′ ≡ length b → ((j : ℕ) → n ≤ j → getD b′ j 0 ≡ getD b j 0) → setRun 0 n (λ i. getD b′ i 0) b ≡ b′
+run-over n b b′ o e h = ext-getD 0 _ b′ (run-length 0 n _ b ∙ sym e) (λ j k. at j (lt-or-ge j n))
+  where
+    at : (j : ℕ) → (j < n) ⊎ (n ≤ j) → getD (setRun 0 n (λ i. getD b′ i 0) b) j 0 ≡ getD b′ j 0
+    at j (inl l) = run-front n _ b j l o
+    at j (inr l) = run-out 0 n _ b j (inr (omega arith)) ∙ sym (h j l)
 
-module _ (f : Frame) (D : Described f) (a : List ℕ) where
-  abbrev d : ℕ
-  d = f .depth
+-- ---- the picture of f over the bytes a, taken over into g over the bytes b, of which `kept` keeps the bits
+pub record Transfer (f : Frame) (a : List ℕ) (g : Frame) (b : List ℕ) : Type 0 where
+  pub frames : Alike f (length a) g (length b)
+  pub from : Bytes a
+  pub to : Bytes b
 
-  abbrev m : ℕ
-  m = parts (f .depth)
-
-  abbrev base : ℕ
-  base = 2 ^ field (f .depth)
-
+module _ {f g : Frame} {a b : List ℕ} (K : Transfer f a g b) (kept : ℕ) where
   abbrev row : ℕ
-  row = packed (bigFirst f) .distance
+  row = packed g .distance
 
-  -- a pixel's colour, and so each digit of it
-  pub same-colour : (x y : ℕ) → x < f .width → y < f .height → shown (raster (bigFirst f)) (pixels f a) x y ≡ shown (raster f) a x y
-  unfolding pixels size
-  same-colour x y hx hy =
-      shown-rendered (raster (bigFirst f)) (sound (bigFirst f) (big-described f D)) (shown (raster f) a) (replicate (size (bigFirst f)) 0)
-      (subst (λ (n : ℕ). size (bigFirst f) ≤ n) (sym (length-replicate (size (bigFirst f)) 0)) (le-refl (size (bigFirst f)))) x y hx hy
-      (shown-colour (raster f) (sound f D) a x y)
+  abbrev bits : ℕ
+  bits = g .width * g .depth
 
-  same-digit : (x y k : ℕ) → x < f .width → y < f .height → k < m
-      → cell base (byteOf (packed (bigFirst f)) x y k) (slotOf d x) (pixels f a) ≡ cell base (byteOf (packed f) x y k) (slotOf d x) a
-  same-digit x y k hx hy hk =
-      let p = pow-pos (field d) in
-      sym (digit-value base p m k (λ k. cell base (byteOf (packed (bigFirst f)) x y k) (slotOf d x) (pixels f a)) (λ k. digit-lt base p (slotOf d x) _) hk)
-      ∙ ap (digit base k) (same-colour x y hx hy)
-      ∙ digit-value base p m k (λ k. cell base (byteOf (packed f) x y k) (slotOf d x) a) (λ k. digit-lt base p (slotOf d x) _) hk
+  abbrev under : List ℕ
+  under = maskedRun (size g) kept b
 
-  -- where the frame's row has the bit
-  abbrev sourceOf : ℕ → ℕ → ℕ
-  sourceOf j t = let x = columnOf d j t in x * d / 8 + turned (f .big) m (turned true m (j - x * d / 8))
+  abbrev all : List ℕ
+  all = transferred f a g (maskedRun (size g) kept b)
 
-  module _ (y j : ℕ) (hy : y < f .height) (hj : j < row) where
-    abbrev byte : ℕ
-    byte = getD (pixels f a) (y * packed (bigFirst f) .distance + j) 0
+  sound : Sound (packed g)
+  sound = spaced g (K .frames .target .accepted .described)
 
-    pixel-bit : (t : ℕ) → t < 8 → 8 * j + (7 - t) < f .width * d → digit 2 t byte ≡ digit 2 t (getD a (y * packed f .distance + sourceOf j t) 0)
-    unfolding byteOf
-    pixel-bit t ht inside =
-        let x = columnOf d j t in
-        let P = place d (D .depth) j t ht in
-        let k = j - x * d / 8 in
-        let p = P .0 in
-        let hx : x < f .width = div-lt-iff-lt-mul (depth-pos d (D .depth)) .1 inside in
-        let back : turned true m (turned true m k) ≡ k = turned-twice true m k (P .1) in
-        let e : y * row + j ≡ byteOf (packed (bigFirst f)) x y (turned true m k) = omega arith in
-        let e′ : byteOf (packed f) x y (turned true m k) ≡ y * packed f .distance + sourceOf j t = omega arith in
-        same-bit (field d) t _ _ (field-pos d (depth-of d (D .depth)))
-        (ap₂ (λ (i s : ℕ). cell base i s (pixels f a)) e (P .2)
-        ∙ same-digit x y (turned true m k) hx hy (turned-below true m k (P .1))
-        ∙ ap₂ (λ (i s : ℕ). cell base i s a) e′ (sym (P .2)))
+  room : size g ≤ length b
+  room = K .frames .target .accepted .room
 
-    padding-bit : (t : ℕ) → t < 8 → f .width * d ≤ 8 * j + (7 - t) → digit 2 t byte ≡ 0
-    unfolding pixels
-    padding-bit t ht past =
-        padding-stays (packed (bigFirst f)) (spaced (bigFirst f) (big-described f D)) y j t hj ht past (shown (raster f) a) (replicate (size (bigFirst f)) 0)
-        ∙ ap (digit 2 t) (getD-zeros (size (bigFirst f)) (y * row + j)) ∙ digit-zero 2 t
+  below : (i : ℕ) → bitAnd (getD b i 0) kept < 256
+  below i = let h = K .to i in let l = and-le-l (getD b i 0) kept in omega arith
 
-    -- all of a byte that the frame keeps in one byte too
-    byte-is : (i : ℕ) → ((t : ℕ) → t < 8 → y * packed f .distance + sourceOf j t ≡ i)
-        → byte ≡ value 2 8 (λ t. cond (ltb (8 * j + (7 - t)) (f .width * d)) (digit 2 t (getD a i 0)) 0)
-    unfolding pixels
-    byte-is i s =
-        sym (value-digits 2 (omega arith) 8 byte (rendered-bytes (packed (bigFirst f)) (spaced (bigFirst f) (big-described f D)) _ _ zeros (y * row + j)))
-        ∙ value-cong 2 (omega arith) 8 _ _ (λ t ht. bit t ht (lt-or-ge (8 * j + (7 - t)) (f .width * d)))
-      where
-        zeros : Bytes (replicate (size (bigFirst f)) 0)
-        zeros k = subst (λ (v : ℕ). v < 256) (sym (getD-zeros (size (bigFirst f)) k)) (omega arith)
+  under-bytes : Bytes under
+  under-bytes = run-bytes 0 (size g) _ b (K .to) below
 
-        bit : (t : ℕ) → t < 8 → (8 * j + (7 - t) < f .width * f .depth) ⊎ (f .width * f .depth ≤ 8 * j + (7 - t))
-            → digit 2 t (getD (pixels f a) (y * packed (bigFirst f) .distance + j) 0) ≡ cond (ltb (8 * j + (7 - t)) (f .width * f .depth)) (digit 2 t (getD a i 0)) 0
-        bit t ht = ⊎-elim
-            (λ l. pixel-bit t ht l ∙ ap (λ (k : ℕ). digit 2 t (getD a k 0)) (s t ht) ∙ sym (ap (λ (b : Bool). cond b (digit 2 t (getD a i 0)) 0) (lt-ltb _ _ l)))
-            (λ l. padding-bit t ht l ∙ sym (ap (λ (b : Bool). cond b (digit 2 t (getD a i 0)) 0) (le-ltb _ _ l)))
+  all-bytes : Bytes all
+  all-bytes = rendered-bytes (packed g) sound _ under under-bytes
+
+  -- it differs from b in the frame's bytes alone
+  all-is : setRun 0 (size g) (λ i. getD all i 0) b ≡ all
+  unfolding size
+  all-is =
+      run-over (size g) b all room (rendered-length (raster g) (placing (packed g) sound) _ under ∙ run-length 0 (size g) _ b)
+      (λ j h. tail-stays (packed g) sound j h (shown (raster f) a) under ∙ run-out 0 (size g) _ b j (inr (omega arith)))
+
+  -- ---- byte j of row y: the bits of the source's pixels, and those that stood there
+  abbrev sourceByte : ℕ → ℕ → ℕ → ℕ
+  sourceByte y j t = getD a (y * packed f .distance + sourceOf (g .depth) (f .big) (g .big) j t) 0
+
+  abbrev old : ℕ → ℕ
+  old i = bitAnd (getD b i 0) kept
+
+  byte-is : (y j : ℕ) → y < g .height → j < row → getD all (y * row + j) 0 ≡ mixed bits j (sourceByte y j) (old (y * row + j))
+  unfolding size
+  byte-is y j hy hj =
+      ap (λ (s : Packed). getD (rendered (raster g) (shown (laid s) a) under) (y * row + j) 0) like
+      ∙ by-bits (packed g) sound (packed f .distance) (f .big) (subst Sound like (spaced f (K .frames .source .described))) a under
+      (subst (λ (n : ℕ). size g ≤ n) (sym (run-length 0 (size g) _ b)) room) y j hy hj under-bytes
+      ∙ ap (mixed bits j (sourceByte y j)) (run-front (size g) _ b (y * row + j) (omega (arith, row-room g y hy, hj)) room)
+    where
+      like : packed f ≡ beside (packed g) (packed f .distance) (f .big)
+      like = λ i. record { width = K .frames .width i; height = K .frames .height i; depth = K .frames .depth i; distance = packed f .distance; big = f .big }
 
   -- ---- where both keep a pixel in the same bytes of a row
-  same-place : (m ≡ 1) ⊎ (f .big ≡ true) → (j t : ℕ) → t < 8 → sourceOf j t ≡ j
-  same-place E j t ht =
-      let P = place d (D .depth) j t ht in
-      let p = P .0 in
-      let k = j - columnOf d j t * d / 8 in
-      let e : turned (f .big) m (turned true m k) ≡ k = ⊎-elim (one k (P .1)) (λ b. ap (λ (o : Bool). turned o m (turned true m k)) b ∙ turned-twice true m k (P .1)) E in
-      omega arith
-    where
-      one : (k : ℕ) → k < parts (f .depth) → parts (f .depth) ≡ 1 → turned (f .big) (parts (f .depth)) (turned true (parts (f .depth)) k) ≡ k
-      one k h e =
-          let z : k ≡ 0 = omega arith in
-          ap₂ (λ (n i : ℕ). turned (f .big) n (turned true n i)) e z ∙ turn0 (f .big) ∙ sym z
+  module _ (T : isTurned f g ≡ false) where
+    byte-copied : (y j : ℕ) → y < g .height → j < row → getD all (y * row + j) 0 ≡ mixed bits j (λ t. getD a (y * packed f .distance + j) 0) (old (y * row + j))
+    byte-copied y j hy hj =
+        byte-is y j hy hj
+        ∙ mixed-cong bits j _ _ (old (y * row + j))
+        (λ t h. ap (λ (k : ℕ). getD a (y * packed f .distance + k) 0) (same-source (g .depth) (f .big) (g .big) (sound .depth) (same-bytes g (K .frames .target) f T) j t h))
 
-  module _ (va : Bytes a) (y : ℕ) (hy : y < f .height) (b : List ℕ) where
-    abbrev at : ℕ
-    at = y * packed f .distance
-
-    abbrev start : ℕ
-    start = y * packed (bigFirst f) .distance
-
-    abbrev done : List ℕ
-    done = setRun start (packed (bigFirst f) .distance) (λ k. getD (pixels f a) (start + k) 0) b
-
-    pub row-copied : (m ≡ 1) ⊎ (f .big ≡ true) → 0 < f .width
-        → copiedRow a at start ((f .width * d + 7) / 8 - 1) ((255 * 2 ^ ((f .width * d + 7) / 8 * 8 - f .width * d)) % 256) b ≡ done
+    pub row-copied : (y : ℕ) → y < g .height
+        → copiedRow a (y * packed f .distance) (y * row) ((bits + 7) / 8 - 1) ((255 * 2 ^ ((bits + 7) / 8 * 8 - bits)) % 256) kept b
+        ≡ setRun (y * row) row (λ k. getD all (y * row + k) 0) b
     unfolding rowBytes
-    row-copied E w =
-        let n = (f .width * d + 7) / 8 - 1 in
-        let p = (f .width * d + 7) / 8 * 8 - f .width * d in
-        let some : 0 < f .width * d = mul-pos w (depth-pos d (D .depth)) in
-        let place : (j t : ℕ) → t < 8 → at + sourceOf j t ≡ at + j = λ j t h. ap (λ (k : ℕ). at + k) (same-place E j t h) in
-        let whole : (j : ℕ) → j < n → getD a (at + j) 0 ≡ getD (pixels f a) (start + j) 0 =
-        λ j h. sym (byte-is y j hy (omega arith) (at + j) (place j) ∙ full (f .width * d) j (getD a (at + j) 0) (omega arith) (va (at + j))) in
-        let last : bitAnd (getD a (at + n) 0) ((255 * 2 ^ p) % 256) ≡ getD (pixels f a) (start + n) 0 =
-        masked p (getD a (at + n) 0) (omega arith) (va (at + n))
-        ∙ sym (byte-is y n hy (omega arith) (at + n) (place n) ∙ cut (f .width * d) n p (getD a (at + n) 0) (omega arith)) in
-        let e : suc n ≡ (f .width * d + 7) / 8 = omega arith in
-        ap₂ (λ (c : List ℕ) (v : ℕ). set c (start + n) v) (run-cong start n _ _ b whole) last
-        ∙ ap (λ (k : ℕ). setRun start k (λ k. getD (pixels f a) (start + k) 0) b) e
+    row-copied y hy =
+        let at = y * packed f .distance in
+        let start = y * row in
+        let n = (bits + 7) / 8 - 1 in
+        let p = (bits + 7) / 8 * 8 - bits in
+        let some = has-bits g (K .frames .target) in
+        let whole : (j : ℕ) → j < n → getD a (at + j) 0 ≡ getD all (start + j) 0 =
+        λ j h. sym (byte-copied y j hy (omega arith) ∙ full bits j (getD a (at + j) 0) (old (start + j)) (omega arith) (K .from (at + j))) in
+        let last : merged (old (start + n)) (getD a (at + n) 0) ((255 * 2 ^ p) % 256) ≡ getD all (start + n) 0 =
+        sym (byte-copied y n hy (omega arith) ∙ cut bits n p (getD a (at + n) 0) (old (start + n)) (omega arith) (omega arith) (K .from (at + n)) (below (start + n))) in
+        let e : suc n ≡ (bits + 7) / 8 = omega arith in
+        ap₂ (λ (c : List ℕ) (v : ℕ). set c (start + n) v) (run-cong start n _ _ b whole) last ∙ ap (λ (k : ℕ). setRun start k (λ k. getD all (start + k) 0) b) e
 
-    -- ---- three bytes, the little end first
-    pub row-turned : f .depth ≡ 24 → f .big ≡ false → turnedRow a at start (f .width) b ≡ done
-    unfolding rowBytes
-    row-turned e o =
-        let r : (f .width * d + 7) / 8 ≡ f .width * 3 = ap (λ (k : ℕ). (f .width * k + 7) / 8) e ∙ omega arith in
-        let bits : f .width * d ≡ f .width * 24 = ap (λ (k : ℕ). f .width * k) e in
-        run-cong start (f .width * 3) _ _ b
-        (λ j h. sym (byte-is y j hy (omega arith) (at + j / 3 * 3 + (2 - j % 3)) (place j) ∙ full (f .width * d) j _ (omega arith) (va (at + j / 3 * 3 + (2 - j % 3)))))
-        ∙ ap (λ (k : ℕ). setRun start k (λ k. getD (pixels f a) (start + k) 0) b) (sym r)
-      where
-        place : (j t : ℕ) → t < 8 → y * packed f .distance + sourceOf j t ≡ y * packed f .distance + j / 3 * 3 + (2 - j % 3)
-        place j t h = let z = turned-place (f .depth) (f .big) e o j t h in omega arith
+    -- rows without padding: all bytes are the source's
+    module _ (N : bits ≡ 8 * row) where
+      byte-kept : (i : ℕ) → i < size g → getD all i 0 ≡ getD a i 0
+      unfolding size
+      byte-kept i h =
+          let y = i / row in
+          let j = i % row in
+          let at = y * packed f .distance in
+          let e : y * row + j ≡ i = div-add-mod' i row in
+          let p : 0 < row = positive row (g .height) h in
+          let hy : y < g .height = div-lt-iff-lt-mul p .1 (omega arith) in
+          ap (λ (k : ℕ). getD all k 0) (sym e)
+          ∙ byte-copied y j hy (mod-lt i p)
+          ∙ full bits j (getD a (at + j) 0) (old (y * row + j)) (omega (arith, N, mod-lt i p)) (K .from (at + j))
+          ∙ ap (λ (n : ℕ). getD a (y * n + j) 0) (same-distance f g (K .frames)) ∙ ap (λ (k : ℕ). getD a k 0) e
+        where
+          positive : (n k : ℕ) → i < n * k → 0 < n
+          positive zero k h = absurd (omega arith)
+          positive (suc n) k h = omega arith
 
-  -- ---- rows without padding of which none is turned: the file's bytes are the frame's
-  module _ (va : Bytes a) (E : (m ≡ 1) ⊎ (f .big ≡ true)) (N : f .width * d ≡ 8 * packed (bigFirst f) .distance) where
-    byte-kept : (i : ℕ) → i < f .height * packed (bigFirst f) .distance → getD (pixels f a) i 0 ≡ getD a i 0
-    byte-kept i h =
-        let y = i / row in
-        let j = i % row in
-        let e : y * row + j ≡ i = div-add-mod' i row in
-        let p : 0 < row = positive (f .height) row h in
-        subst (λ (k : ℕ). getD (pixels f a) k 0 ≡ getD a k 0) e
-        (byte-is y j (div-lt-iff-lt-mul p .1 h) (mod-lt i p) (y * row + j) (λ t ht. ap (λ (k : ℕ). y * row + k) (same-place E j t ht))
-        ∙ full (f .width * d) j (getD a (y * row + j) 0) (omega (arith, N, mod-lt i p)) (va (y * row + j)))
-      where
-        positive : (n k : ℕ) → i < n * k → 0 < k
-        positive n zero h = absurd (omega arith)
-        positive n (suc k) h = omega arith
+      bytes-copied : (n : ℕ) → suc n ≡ size g → copiedRow a 0 0 n 255 0 b ≡ all
+      bytes-copied n s =
+          let u = getD a (0 + n) 0 in
+          let v = bitAnd (getD b (0 + n) 0) 0 in
+          let same : (j : ℕ) → j < suc n → getD a (0 + j) 0 ≡ getD all j 0 =
+          λ j h. let z : 0 + j ≡ j = omega arith in ap (λ (k : ℕ). getD a k 0) z ∙ sym (byte-kept j (omega arith)) in
+          let low : v < 256 = (let h = K .to (0 + n) in let l = and-le-l (getD b (0 + n) 0) 0 in omega arith) in
+          let last : merged v u 255 ≡ u = sym (cut 8 0 0 u v (omega arith) (omega arith) (K .from (0 + n)) low) ∙ full 8 0 u v (omega arith) (K .from (0 + n)) in
+          ap₂ (λ (c : List ℕ) (w : ℕ). set c (0 + n) w) (run-cong 0 n _ _ b (λ j h. same j (omega arith))) (last ∙ same n (omega arith))
+          ∙ ap (λ (k : ℕ). setRun 0 k (λ i. getD all i 0) b) s ∙ all-is
 
-    pub run-copied : (b : List ℕ) (n : ℕ) → length b ≡ size (bigFirst f) → suc n ≡ size (bigFirst f) → copiedRow a 0 0 n 255 b ≡ pixels f a
-    unfolding size
-    run-copied b n e s =
-        let v = getD a (0 + n) 0 in
-        let kept : (j : ℕ) → j < suc n → getD a (0 + j) 0 ≡ getD (pixels f a) j 0 =
-        λ j h. let z : 0 + j ≡ j = omega arith in ap (λ (k : ℕ). getD a k 0) z ∙ sym (byte-kept j (omega arith)) in
-        let all : bitAnd v 255 ≡ v = masked 0 v (omega arith) (va (0 + n)) ∙ sym (cut 8 0 0 v (omega arith)) ∙ full 8 0 v (omega arith) (va (0 + n)) in
-        ap₂ (λ (c : List ℕ) (u : ℕ). set c (0 + n) u) (run-cong 0 n _ _ b (λ j h. kept j (omega arith))) (all ∙ kept n (omega arith))
-        ∙ ap (λ (k : ℕ). setRun 0 k (λ i. getD (pixels f a) i 0) b) s
-        ∙ sym (run-is (size (bigFirst f)) (λ i. getD (pixels f a) i 0) b (pixels f a) e (pixels-length f a D) (λ j h. refl))
+  pub run-copied : isRun f g ≡ true → copiedRow a 0 0 (bits / 8 * g .height - 1) 255 0 b ≡ all
+  unfolding rowBytes
+  run-copied t =
+      let p = and-true (eqb (bits % 8) 0) _ t in
+      let z = eqb-true (bits % 8) 0 (p .0) in
+      bytes-copied (not-true (isTurned f g) (p .1)) (omega (arith, z)) (bits / 8 * g .height - 1) (omega (arith, run-size f g t, has-bytes g (K .frames .target)))
+
+  -- ---- three bytes, in the other order
+  pub row-turned : isTurned f g ≡ true → (y : ℕ) → y < g .height
+      → turnedRow a (y * packed f .distance) (y * row) (g .width) b ≡ setRun (y * row) row (λ k. getD all (y * row + k) 0) b
+  unfolding rowBytes
+  row-turned t y hy =
+      let T = and-true (eqb (g .depth) 24) _ t in
+      let e = eqb-true (g .depth) 24 (T .0) in
+      let at = y * packed f .distance in
+      let wide : bits ≡ g .width * 24 = ap (λ (k : ℕ). g .width * k) e in
+      let r : g .width * 3 ≡ (bits + 7) / 8 = omega arith in
+      let place : (j t : ℕ) → t < 8 → at + sourceOf (g .depth) (f .big) (g .big) j t ≡ at + j / 3 * 3 + (2 - j % 3) =
+      λ j t h. let z = turned-place (g .depth) (f .big) (g .big) e (not-true _ (T .1)) j t h in omega arith in
+      run-cong (y * row) (g .width * 3) _ _ b
+      (λ j h. sym (byte-is y j hy (omega arith)
+      ∙ mixed-cong bits j _ _ (old (y * row + j)) (λ t ht. ap (λ (k : ℕ). getD a k 0) (place j t ht))
+      ∙ full bits j (getD a (at + j / 3 * 3 + (2 - j % 3)) 0) (old (y * row + j)) (omega arith) (K .from (at + j / 3 * 3 + (2 - j % 3)))))
+      ∙ ap (λ (k : ℕ). setRun (y * row) k (λ k. getD all (y * row + k) 0) b) r
 
 -- ---- row after row
-module _ (f : Frame) (a b : List ℕ) where
+-- the first y rows
+abbrev pub rows : Frame → List ℕ → Frame → ℕ → List ℕ → ℕ → List ℕ
+rows f a g kept b y = setRun 0 (y * packed g .distance) (λ i. getD (transferred f a g (maskedRun (size g) kept b)) i 0) b
+
+module _ {f g : Frame} {a b : List ℕ} (K : Transfer f a g b) (kept : ℕ) where
   abbrev distance : ℕ
-  distance = packed (bigFirst f) .distance
+  distance = packed g .distance
 
-  -- the first y rows
-  abbrev pub rows : ℕ → List ℕ
-  rows y = setRun 0 (y * packed (bigFirst f) .distance) (λ i. getD (pixels f a) i 0) b
+  abbrev left : List ℕ → List ℕ
+  left c = transferred f a g (maskedRun (size g) kept c)
 
-  pub no-row : b ≡ rows 0
-  no-row = let z : 0 ≡ 0 * distance = omega arith in ap (λ (k : ℕ). setRun 0 k (λ i. getD (pixels f a) i 0) b) z
+  pub no-row : b ≡ rows f a g kept b 0
+  no-row = let z : 0 ≡ 0 * distance = omega arith in ap (λ (k : ℕ). setRun 0 k (λ i. getD (left b) i 0) b) z
 
-  pub one-row : (y : ℕ) {c : List ℕ} → c ≡ rows y → setRun (y * distance) distance (λ k. getD (pixels f a) (y * distance + k) 0) c ≡ rows (y + 1)
-  one-row y e =
+  pub one-row : (y : ℕ) → y < g .height → {c : List ℕ} → c ≡ rows f a g kept b y
+      → setRun (y * distance) distance (λ k. getD (left c) (y * distance + k) 0) c ≡ rows f a g kept b (y + 1)
+  one-row y hy {c} e =
       let z : y * distance ≡ 0 + y * distance = omega arith in
       let n : y * distance + distance ≡ (y + 1) * distance = omega arith in
-      (λ i. setRun (z i) distance (λ k. getD (pixels f a) (y * distance + k) 0) (e i))
-      ∙ run-then 0 (y * distance) distance (λ i. getD (pixels f a) i 0) b ∙ ap (λ (k : ℕ). setRun 0 k (λ i. getD (pixels f a) i 0) b) n
+      run-cong (y * distance) distance _ _ c same
+      ∙ (λ i. setRun (z i) distance (λ k. getD (left b) (y * distance + k) 0) (e i))
+      ∙ run-then 0 (y * distance) distance (λ i. getD (left b) i 0) b ∙ ap (λ (k : ℕ). setRun 0 k (λ i. getD (left b) i 0) b) n
+    where
+      onward : Transfer f a g c
+      onward =
+          record {
+            frames = subst (λ (n : ℕ). Alike f (length a) g n) (sym (ap length e ∙ run-length 0 (y * distance) _ b)) (K .frames);
+            from = K .from;
+            to = subst Bytes (sym e) (run-bytes 0 (y * distance) _ b (K .to) (all-bytes K kept));
+          }
 
-  pub all-rows : Described f → length b ≡ size (bigFirst f) → rows (f .height) ≡ pixels f a
+      -- a row depends on no byte of another
+      same : (j : ℕ) → j < distance → getD (left c) (y * distance + j) 0 ≡ getD (left b) (y * distance + j) 0
+      same j hj =
+          byte-is onward kept y j hy hj
+          ∙ ap (λ (v : ℕ). mixed (g .width * g .depth) j (sourceByte K kept y j) (bitAnd v kept))
+          (ap (λ (c : List ℕ). getD c (y * distance + j) 0) e ∙ run-out 0 (y * distance) _ b (y * distance + j) (inr (omega arith)))
+          ∙ sym (byte-is K kept y j hy hj)
+
+  pub all-rows : rows f a g kept b (g .height) ≡ left b
   unfolding size
-  all-rows D e =
-      let n : f .height * distance ≡ size (bigFirst f) = omega arith in
-      ap (λ (k : ℕ). setRun 0 k (λ i. getD (pixels f a) i 0) b) n
-      ∙ sym (run-is (size (bigFirst f)) (λ i. getD (pixels f a) i 0) b (pixels f a) e (pixels-length f a D) (λ j h. refl))
+  all-rows = let n : g .height * distance ≡ size g = omega arith in ap (λ (k : ℕ). setRun 0 k (λ i. getD (left b) i 0) b) n ∙ all-is K kept

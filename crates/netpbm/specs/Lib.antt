@@ -1,4 +1,5 @@
 pub mod Image
 pub mod Written
+pub mod Reading
 pub mod Words
 pub mod Known

@@ -1,18 +1,21 @@
-// Frames as Netpbm files, written into a lent buffer.
+// Frames as Netpbm files: written into a lent buffer, and read back.
 ghost use mathlib.Core.Path.{_≡_};
 ghost use Prim.Native.Nat.{_+_, _*_, _≤_, _<_};
 ghost use lib.ListN.{length, getD};
 ghost use lib.Seq.{sets};
 ghost use Rattle.refusals.specs.First.{first};
+ghost use Rattle.headers.specs.Header.{headerOf};
 ghost use Rattle.layout.specs.Digits.{setRun};
 ghost use Rattle.framebuffer.specs.Answer.{sized};
 ghost use Rattle.framebuffer.specs.Description.{packed, size};
 ghost use Rattle.framebuffer.specs.Judged.{Described};
-ghost use Rattle.netpbm.specs.Image.{kind, header, bigFirst, pixels, imageLength};
-ghost use Rattle.netpbm.specs.Written.{noFormat, imageSizeTests, written, Writable};
-ghost use Rattle.netpbm.specs.Words.{isRun, copiedRow, turnedRow};
+ghost use Rattle.netpbm.specs.Image.{header, bigFirst, imageLength};
+ghost use Rattle.netpbm.specs.Written.{noFormat, imageSizeTests, written};
+ghost use Rattle.netpbm.specs.Reading.{fileTests, loaded};
+ghost use Rattle.netpbm.specs.Words.{Alike, transferred, maskedRun, copiedRow, turnedRow, isTurned, isRun};
 use framebuffer::Frame;
 use framebuffer::Size;
+use headers::Header;
 
 // ---- the refusals and the length
 
@@ -56,25 +59,12 @@ pub fn image_size(frame: Frame) -> Size
 
 // ---- the header
 
-// The digit behind the magic's `P`.
-fn kind_of(depth: u32) -> u8
-    ensures { λ r. ⌜ r ≡ kind depth ⌝ }
-{
-    if depth == 1 {
-        return b'4';
-    }
-    if depth == 8 {
-        return b'5';
-    }
-    b'6'
-}
-
 // Answers where the pixels start.
 fn write_header(out: &mut [u8], frame: Frame) -> usize
     requires { ⌜ length (header frame) ≤ length (now out) ⌝ }
     ensures { λ r. ⌜ (r ≡ length (header frame)) × (now (out .exit) ≡ sets (now (out .entry)) 0 (header frame)) ⌝ }
 {
-    let magic = [b'P', kind_of(frame.depth), b'\n'];
+    let magic = [b'P', headers::kind_of(frame.depth), b'\n'];
     let second = text::write_bytes(out, 0, &magic);
     let third = text::write_number(out, second, frame.width as u64, b' ');
     let end = text::write_number(out, third, frame.height as u64, b'\n');
@@ -84,19 +74,20 @@ fn write_header(out: &mut [u8], frame: Frame) -> usize
     text::write_bytes(out, end, b"255\n")
 }
 
-// ---- the pixels, row by row
+// ---- the pixels, from one frame into another of the same size and depth, row by row
 
-// Bytes from one place to another, and of the byte behind them the bits that the mask has.
-fn copy_row(from: &[u8], at: usize, to: &mut [u8], start: usize, count: usize, mask: u8)
+// Bytes from one place to another, and of the byte behind them the bits that the mask has. Its other bits stay as far as `kept` has them.
+fn copy_row(from: &[u8], at: usize, to: &mut [u8], start: usize, count: usize, mask: u8, kept: u8)
     requires { ⌜ (at + count < length (now from)) × (start + count < length (now to)) ⌝ }
-    ensures { λ r. ⌜ now (to .exit) ≡ copiedRow (now (from .entry)) at start count mask (now (to .entry)) ⌝ }
+    ensures { λ r. ⌜ now (to .exit) ≡ copiedRow (now (from .entry)) at start count mask kept (now (to .entry)) ⌝ }
 {
     let mut i = 0usize;
     while i < count {
         to[start + i] = from[at + i];
         i += 1;
     }
-    to[start + count] = from[at + count] & mask;
+    let last = start + count;
+    to[last] = (to[last] & kept & !mask) | (from[at + count] & mask);
 }
 
 // Pixels of three bytes from one place to another, each turned round.
@@ -115,48 +106,63 @@ fn turn_row(from: &[u8], at: usize, to: &mut [u8], start: usize, count: usize)
     }
 }
 
-// Row y. Its bytes are the frame's, but for the padding and, in a frame of three bytes with the little end first, for the order of a pixel's bytes.
-fn write_row(part: &mut [u8], buf: &[u8], frame: Frame, y: u32)
-    requires { ⌜ Writable frame (length (now buf)) × (size (bigFirst frame) ≤ length (now part)) × (y < frame .height) ⌝ }
-    ensures { λ r. ⌜ now (part .exit) ≡
-        (let row = packed (bigFirst frame) .distance in
-        setRun (y * row) row (λ k. getD (pixels frame (now (buf .entry))) (y * row + k) 0) (now (part .entry))) ⌝ }
+// Whether a pixel's bytes are turned round on the way: it has three, and the orders differ.
+fn is_turned(source: Frame, target: Frame) -> bool
+    ensures { λ r. ⌜ r ≡ isTurned source target ⌝ }
 {
-    let bits = frame.width * frame.depth;
+    (target.depth == 24) & (source.big != target.big)
+}
+
+// Row y. Its bytes are the source's, but for the padding and, where the orders differ, for the order of a pixel's bytes.
+fn transfer_row(from: &[u8], source: Frame, to: &mut [u8], target: Frame, kept: u8, y: u32)
+    requires { ⌜ Alike source (length (now from)) target (length (now to)) × (y < target .height) ⌝ }
+    ensures { λ r. ⌜ now (to .exit) ≡
+        (let row = packed target .distance in
+        let all = transferred source (now (from .entry)) target (maskedRun (size target) kept (now (to .entry))) in
+        setRun (y * row) row (λ k. getD all (y * row + k) 0) (now (to .entry))) ⌝ }
+{
+    let bits = target.width * target.depth;
     let row = (bits + 7) / 8;
     let at = (y * row) as usize;
-    if (frame.depth == 24) & !frame.big {
-        turn_row(buf, at, part, at, frame.width as usize);
+    if is_turned(source, target) {
+        turn_row(from, at, to, at, target.width as usize);
         return;
     }
     let mask = 255u8 << (row * 8 - bits);
-    copy_row(buf, at, part, at, (row - 1) as usize, mask);
+    copy_row(from, at, to, at, (row - 1) as usize, mask, kept);
 }
 
-// Whether the file's rows are the frame's, one behind the other: none has padding, and no pixel's bytes are turned round.
-fn is_run(frame: Frame) -> bool
-    requires { ⌜ Described frame ⌝ }
-    ensures { λ r. ⌜ r ≡ isRun frame ⌝ }
+// Whether the rows of both are one run of the same bytes: none has padding, and no pixel's bytes are turned round.
+fn is_run(source: Frame, target: Frame) -> bool
+    requires { ⌜ Described target ⌝ }
+    ensures { λ r. ⌜ r ≡ isRun source target ⌝ }
 {
-    (frame.width * frame.depth % 8 == 0) & !((frame.depth == 24) & !frame.big)
+    (target.width * target.depth % 8 == 0) & !is_turned(source, target)
 }
 
-// All rows, over all of a part of the output.
-fn write_pixels(part: &mut [u8], buf: &[u8], frame: Frame)
-    requires { ⌜ Writable frame (length (now buf)) × (length (now part) ≡ size (bigFirst frame)) ⌝ }
-    ensures { λ r. ⌜ now (part .exit) ≡ pixels frame (now (buf .entry)) ⌝ }
+// All rows. The target's padding stays as far as `kept` has its bits, and the bytes behind the frame stay.
+fn transfer_rows(from: &[u8], source: Frame, to: &mut [u8], target: Frame, kept: u8)
+    requires { ⌜ Alike source (length (now from)) target (length (now to)) ⌝ }
+    ensures { λ r. ⌜ now (to .exit) ≡ transferred source (now (from .entry)) target (maskedRun (size target) kept (now (to .entry))) ⌝ }
 {
-    if is_run(frame) {
-        let last = part.len() - 1;
-        copy_row(buf, 0, part, 0, last, 255);
+    if is_run(source, target) {
+        let bytes = target.width * target.depth / 8 * target.height;
+        copy_row(from, 0, to, 0, (bytes - 1) as usize, 255, 0);
         return;
     }
-    let height = frame.height;
+    let height = target.height;
     let mut y = 0u32;
     while y < height {
-        write_row(part, buf, frame, y);
+        transfer_row(from, source, to, target, kept, y);
         y += 1;
     }
+}
+
+// A frame of that size and depth with its big end first, as files keep their pixels.
+fn in_file(frame: Frame) -> Frame
+    ensures { λ r. ⌜ r ≡ bigFirst frame ⌝ }
+{
+    Frame::new(frame.width, frame.height, frame.depth, true)
 }
 
 // Writes the file of a frame from the output's first byte on, and answers how many bytes it has. The bytes behind them stay.
@@ -179,6 +185,47 @@ pub fn write_image(buf: &[u8], frame: Frame, out: &mut [u8]) -> Size
         };
     }
     let start = write_header(out, frame);
-    write_pixels(&mut out[start..end], buf, frame);
+    transfer_rows(buf, frame, &mut out[start..end], in_file(frame), 0);
     image
+}
+
+// ---- reading
+
+// The number of a file with this header, as far as it is not the frame's own.
+fn file_refusal(file: &[u8], frame: Frame, header: Header) -> u32
+    requires { ⌜ Described frame × (header ≡ headerOf (frame .depth) (now file)) ⌝ }
+    ensures { λ r. ⌜ r ≡ first (fileTests frame (now (file .entry))) ⌝ }
+{
+    if has_no_format(frame) {
+        return 10;
+    }
+    if !header.ok {
+        return 11;
+    }
+    if !((header.width == frame.width) & (header.height == frame.height)) {
+        return 13;
+    }
+    let pixels = framebuffer::buffer_size_bpp(in_file(frame));
+    if file.len() - header.start < pixels.bytes as usize {
+        return 12;
+    }
+    0
+}
+
+// Sets every pixel of a frame to that of a file of its size and depth. Padding and the bytes behind the frame stay.
+pub fn read_image(buf: &mut [u8], frame: Frame, file: &[u8]) -> u32
+    ensures { λ r. ⌜ (r, now (buf .exit)) ≡ loaded frame (now (file .entry)) (now (buf .entry)) ⌝ }
+{
+    let number = framebuffer::frame_refusal(frame, buf.len());
+    if number != 0 {
+        return number;
+    }
+    let header = headers::read_header(file, frame.depth);
+    let refusal = file_refusal(file, frame, header);
+    if refusal != 0 {
+        return refusal;
+    }
+    let start = header.start;
+    transfer_rows(&file[start..], in_file(frame), buf, frame, 255);
+    0
 }

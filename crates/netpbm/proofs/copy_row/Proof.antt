@@ -1,5 +1,6 @@
 -- `netpbm::copy_row` has copied the first i bytes after i turns. Assumes nothing.
-use mathlib.Core.Path.{_≡_, refl, sym, ap, _∙_}
+use mathlib.Core.Path.{_≡_, refl, sym, ap, ap₂, _∙_}
+use mathlib.Core.Logic.{inr}
 use mathlib.Core.List.{List}
 use Prim.Native.Nat.{ℕ, _+_, _-_, _≤_}
 use native.Mathlib.Numerals.{add-one}
@@ -8,6 +9,8 @@ use lib.Bits.{bitAnd}
 use lib.ListN.{length, getD, set, length-set}
 use borrow.Author.Needs.{needs}
 use Rattle.layout.specs.Digits.{setRun}
+use Rattle.layout.proofs.Runs.{run-out}
+use Rattle.packing.specs.Words.{merged}
 use Rattle.netpbm.proofs.copy_row.Statement.{statement}
 use Rattle.netpbm.proofs.copy_row.Tie as tie
 
@@ -16,10 +19,10 @@ abbrev copied : List ℕ → ℕ → ℕ → ℕ → List ℕ → List ℕ
 copied from at start i to = setRun start i (λ k. getD from (at + k) 0) to
 
 abbrev Inv-loop : tie.InvT-loop
-Inv-loop from at to₀ start count mask i₀ to i = (i ≤ count) × (length to ≡ length to₀) × (to ≡ copied from at start i to₀)
+Inv-loop from at to₀ start count mask kept i₀ to i = (i ≤ count) × (length to ≡ length to₀) × (to ≡ copied from at start i to₀)
 
 abbrev μ-loop : tie.MeasureT-loop
-μ-loop from at to₀ start count mask i₀ to i = count - i
+μ-loop from at to₀ start count mask kept i₀ to i = count - i
 
 loop-holds : tie.Need-loop-holds Inv-loop μ-loop
 loop-holds c = (omega arith, refl, refl)
@@ -52,28 +55,33 @@ loop-again c =
           ∙ ap (λ (k : ℕ). copied (a .from .now) (a .at) (a .start) k (a .to .now)) (sym (add-one (l .i))),
     )
 
+add-last : tie.Need-add-last Inv-loop μ-loop
+add-last c = search needs
+
+slice-read-to : tie.Need-slice-read-to Inv-loop μ-loop
+slice-read-to c = omega (arith, c .before .before .loop .inv .1, c .before .before .before .pre .1)
+
 add-to-3 : tie.Need-add-to-3 Inv-loop μ-loop
 add-to-3 c = search needs
 
 shared-slice-read-to-2 : tie.Need-shared-slice-read-to-2 Inv-loop μ-loop
 shared-slice-read-to-2 c = search needs
 
-add-to-4 : tie.Need-add-to-4 Inv-loop μ-loop
-add-to-4 c = search needs
-
 slice-write-to-2 : tie.Need-slice-write-to-2 Inv-loop μ-loop
-slice-write-to-2 c = omega (arith, c .before .before .loop .inv .1, c .before .before .before .pre .1)
+slice-write-to-2 c = omega (arith, c .before .before .before .loop .inv .1, c .before .before .before .before .pre .1)
 
 same-length : tie.Need-same-length Inv-loop μ-loop
-same-length c = simp length-set (c .before .before .loop .inv .1)
+same-length c = simp length-set (c .before .before .before .loop .inv .1)
 
+-- the byte behind the run is still the old one
 returns : tie.Need-returns Inv-loop μ-loop
 returns c =
-    let a = c .before .before .before .args in
-    let l = c .before .before .loop in
+    let a = c .before .before .before .before .args in
+    let l = c .before .before .before .loop in
     let e : l .i ≡ a .count = omega arith in
-    ap (λ (b : List ℕ). set b (a .start + a .count) (bitAnd (getD (a .from .now) (a .at + a .count) 0) (a .mask)))
-    (l .inv .2 ∙ ap (λ (k : ℕ). copied (a .from .now) (a .at) (a .start) k (a .to .now)) e)
+    let run = l .inv .2 ∙ ap (λ (k : ℕ). copied (a .from .now) (a .at) (a .start) k (a .to .now)) e in
+    let old = ap (λ (b : List ℕ). getD b (a .start + a .count) 0) run ∙ run-out (a .start) (a .count) _ (a .to .now) (a .start + a .count) (inr (omega arith)) in
+    ap₂ (λ (b : List ℕ) (v : ℕ). set b (a .start + a .count) (merged (bitAnd v (a .kept)) (getD (a .from .now) (a .at + a .count) 0) (a .mask))) run old
 
 pub copy-row-spec : {M : Type 1} → statement M
 copy-row-spec =
@@ -89,9 +97,10 @@ copy-row-spec =
     add-i
     loop-less
     loop-again
+    add-last
+    slice-read-to
     add-to-3
     shared-slice-read-to-2
-    add-to-4
     slice-write-to-2
     same-length
     returns)

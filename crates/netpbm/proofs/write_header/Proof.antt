@@ -9,7 +9,8 @@ use borrow.Author.Needs.{needs}
 use Rattle.text.specs.Words.{numbered}
 use Rattle.text.proofs.Writing.{Wrote, wrote-then, wrote-as}
 use Rattle.framebuffer.specs.declared.Frame.{Frame}
-use Rattle.netpbm.specs.Image.{magic, largest, header}
+use Rattle.headers.specs.Header.{magic, largest}
+use Rattle.netpbm.specs.Image.{header}
 use Rattle.netpbm.proofs.Headers.{sides, a-maximum, without-maximum, with-maximum, header-parts}
 use Rattle.netpbm.proofs.write_header.Statement.{statement}
 use Rattle.netpbm.proofs.write_header.Tie as tie

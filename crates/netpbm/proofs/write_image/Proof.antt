@@ -1,5 +1,5 @@
 -- `netpbm::write_image` asks its tests in their order, and writes the header and the pixels behind it. Assumes nothing.
-use mathlib.Core.Path.{_≡_, refl, sym, ap, ap₂, _∙_}
+use mathlib.Core.Path.{_≡_, refl, sym, ap, ap₂, subst, _∙_}
 use mathlib.Core.List.{List, _++_}
 use Prim.Native.Nat.{ℕ, _+_, _-_}
 use native.Mathlib.Omega.{arith}
@@ -7,12 +7,14 @@ use lib.ListN.{length, take, drop, length-drop}
 use lib.Seq.{length-take-le}
 use borrow.Author.Needs.{needs}
 use Rattle.refusals.specs.First.{first}
+use Rattle.framebuffer.specs.declared.Frame.{Frame}
 use Rattle.framebuffer.specs.Answer.{sized}
 use Rattle.framebuffer.specs.Description.{size}
 use Rattle.framebuffer.proofs.Refusals.{refused-size}
 use Rattle.netpbm.specs.Image.{header, bigFirst, pixels, imageBytes, imageLength}
 use Rattle.netpbm.specs.Written.{imageSizeTests, writeTests, Writable}
-use Rattle.netpbm.proofs.Rows.{pixels-length}
+use Rattle.netpbm.specs.Words.{Alike, transferred, maskedRun}
+use Rattle.netpbm.proofs.Transfers.{pixels-length, into-file, over-zeros}
 use Rattle.netpbm.proofs.Answers.{bytes-of, by-own, by-frame, by-format, by-room, by-none, is-writable, refused-written, accepted-written, in-part}
 use Rattle.netpbm.proofs.write_image.Statement.{statement}
 use Rattle.netpbm.proofs.write_image.Tie as tie
@@ -62,7 +64,10 @@ module _ (c : tie.After-slice-known2) where
   count-is = omega (arith, start, end (tested c))
 
   -- the part that is lent for them
-  lent : length (take count (drop (c .before .before .write-header .result) (c .before .before .write-header .last .0))) ≡ size (bigFirst (begin (tested c) .args .frame))
+  abbrev part : List ℕ
+  part = take count (drop (c .before .before .write-header .result) (c .before .before .write-header .last .0))
+
+  lent : length part ≡ size (bigFirst (begin (tested c) .args .frame))
   lent =
       let o = c .before .before .write-header .last .0 in
       let s = c .before .before .write-header .result in
@@ -106,17 +111,24 @@ returns-3 c =
 write-header-requires : tie.Need-write-header-requires
 write-header-requires c κs = omega (arith, end (c .before), c .before .if3 .left)
 
-sub-write-pixels : tie.Need-sub-write-pixels
-sub-write-pixels c = omega (arith, start c, end (tested c))
+sub-transfer-rows : tie.Need-sub-transfer-rows
+sub-transfer-rows c = omega (arith, start c, end (tested c))
 
-part-write-pixels-start : tie.Need-part-write-pixels-start
-part-write-pixels-start c = omega (arith, start c, end (tested c))
+part-transfer-rows-start : tie.Need-part-transfer-rows-start
+part-transfer-rows-start c = omega (arith, start c, end (tested c))
 
-part-write-pixels-end : tie.Need-part-write-pixels-end
-part-write-pixels-end c = omega (arith, tested c .if3 .left, c .before .before .write-header .kept .0)
+part-transfer-rows-end : tie.Need-part-transfer-rows-end
+part-transfer-rows-end c = omega (arith, tested c .if3 .left, c .before .before .write-header .kept .0)
 
-write-pixels-requires : tie.Need-write-pixels-requires
-write-pixels-requires c κs = (writable (tested (c .before)), lent (c .before))
+in-file-requires : tie.Need-in-file-requires
+in-file-requires c κs = search needs
+
+transfer-rows-requires : tie.Need-transfer-rows-requires
+transfer-rows-requires c κs =
+    let k = c .before .before in
+    let a = begin (tested k) .args in
+    subst (λ (g : Frame). Alike (a .frame) (length (a .buf .now)) g (length (part k))) (sym (c .in-file .ensures))
+    (into-file (a .frame) (writable (tested k)) (omega (arith, lent k)))
 
 same-length : tie.Need-same-length
 same-length c = search needs
@@ -124,7 +136,7 @@ same-length c = search needs
 returns-4 : tie.Need-returns-4
 unfolding imageBytes
 returns-4 c =
-    let k = c .before .before .before .before in
+    let k = c .before .before .before .before .before in
     let t = tested k in
     let a = begin t .args in
     let f = a .frame in
@@ -132,8 +144,11 @@ returns-4 c =
     let z = t .before .before .if2 .left in
     let r = by-own (first (imageSizeTests f)) (imageLength f) (size-of t .image-size .ensures) ∙ ap (λ (n : ℕ). sized n (imageLength f)) z in
     let l = pixels-length f (a .buf .now) (writable t .accepted .described) ∙ sym (count-is k) in
+    let p = c .before .before .transfer-rows .ensures
+    ∙ ap (λ (g : Frame). transferred f (a .buf .now) g (maskedRun (size g) 0 (part k))) (c .before .before .before .in-file .ensures)
+    ∙ over-zeros f (a .buf .now) (part k) (lent k) in
     accepted-written f (a .buf .now) (a .out .now) (number t) r refl
-    (ap₂ (λ (o p : List ℕ). take (w .result) o ++ (p ++ drop (count k) (drop (w .result) o))) (w .ensures .1) (c .before .before .write-pixels .ensures)
+    (ap₂ (λ (o p : List ℕ). take (w .result) o ++ (p ++ drop (count k) (drop (w .result) o))) (w .ensures .1) p
     ∙ in-part (a .out .now) (header f) (pixels f (a .buf .now)) (w .result) (count k) (start k) l (omega (arith, start k, end t, t .if3 .left)))
 
 pub write-image-spec : {M : Type 1} → statement M
@@ -147,9 +162,10 @@ write-image-spec =
     cast-end
     returns-3
     write-header-requires
-    sub-write-pixels
-    part-write-pixels-start
-    part-write-pixels-end
-    write-pixels-requires
+    sub-transfer-rows
+    part-transfer-rows-start
+    part-transfer-rows-end
+    in-file-requires
+    transfer-rows-requires
     same-length
     returns-4)

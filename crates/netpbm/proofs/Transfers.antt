@@ -1,0 +1,63 @@
+-- A frame and the file's frame of the same size and depth, and what it is to take a picture over from the one into the other: over zeros, and over a frame's own bytes.
+-- Assumes nothing.
+use mathlib.Core.Path.{_≡_, refl, sym, ap, _∙_}
+use mathlib.Core.List.{List}
+use Prim.Native.Nat.{ℕ, _≤_}
+use native.Mathlib.Nat.{mod-eq-of-lt}
+use lib.Bits.{and-mask, and-zero-r}
+use lib.ListN.{length, getD, replicate, length-replicate}
+use Rattle.layout.specs.Layout.{shown}
+use Rattle.layout.proofs.Runs.{run-cong, run-is}
+use Rattle.layout.proofs.Bytes.{Bytes}
+use Rattle.layout.proofs.Pictures.{rendered-length, getD-zeros}
+use Rattle.framebuffer.specs.declared.Frame.{Frame}
+use Rattle.framebuffer.specs.Description.{raster, size}
+use Rattle.framebuffer.specs.Judged.{Described}
+use Rattle.framebuffer.proofs.Refusals.{sound}
+use Rattle.netpbm.specs.Image.{bigFirst, pixels}
+use Rattle.netpbm.specs.Written.{Writable}
+use Rattle.netpbm.specs.Words.{Alike, transferred, maskedRun}
+use Rattle.netpbm.proofs.Rows.{run-over}
+
+pub big-described : (f : Frame) → Described f → Described (bigFirst f)
+big-described f D = record { depth = D .depth; width = D .width; height = D .height }
+
+pub pixels-length : (f : Frame) (a : List ℕ) → Described f → length (pixels f a) ≡ size (bigFirst f)
+unfolding pixels
+pixels-length f a D =
+    rendered-length (raster (bigFirst f)) (sound (bigFirst f) (big-described f D)) (shown (raster f) a) (replicate (size (bigFirst f)) 0)
+    ∙ length-replicate (size (bigFirst f)) 0
+
+-- ---- into a file
+pub into-file : (f : Frame) {len n : ℕ} → Writable f len → size (bigFirst f) ≤ n → Alike f len (bigFirst f) n
+into-file f W o =
+    record {
+      source = W .accepted;
+      target = record { accepted = record { described = big-described f (W .accepted .described); room = o }; format = W .format };
+      width = refl;
+      height = refl;
+      depth = refl;
+    }
+
+-- no bit of the output is kept
+pub over-zeros : (f : Frame) (a part : List ℕ) → length part ≡ size (bigFirst f) → transferred f a (bigFirst f) (maskedRun (size (bigFirst f)) 0 part) ≡ pixels f a
+unfolding pixels
+over-zeros f a part e =
+    let n = size (bigFirst f) in
+    ap (transferred f a (bigFirst f)) (sym (run-is n _ part (replicate n 0) e (length-replicate n 0) (λ j h. getD-zeros n j ∙ sym (and-zero-r (getD part j 0)))))
+
+-- ---- out of a file
+pub out-of-file : (f : Frame) {len n : ℕ} → Writable f len → size (bigFirst f) ≤ n → Alike (bigFirst f) n f len
+out-of-file f W o =
+    record {
+      source = record { described = big-described f (W .accepted .described); room = o };
+      target = W;
+      width = refl;
+      height = refl;
+      depth = refl;
+    }
+
+-- every bit of the frame is kept
+pub over-own : (n : ℕ) (b : List ℕ) → n ≤ length b → Bytes b → maskedRun n 255 b ≡ b
+over-own n b o v =
+    run-cong 0 n _ _ b (λ j h. and-mask (getD b j 0) 8 ∙ mod-eq-of-lt (v j)) ∙ run-over n b b o refl (λ j h. refl)

@@ -1,0 +1,103 @@
+-- `netpbm::file_refusal` asks its tests in their order. Assumes nothing.
+use mathlib.Core.Path.{_≡_, sym, ap, _∙_}
+use mathlib.Core.Bool.{false}
+use Prim.Native.Nat.{_≤_}
+use native.Mathlib.Omega.{arith}
+use lib.ListN.{length}
+use borrow.Author.Needs.{needs}
+use borrow.Author.Tests.{not-false}
+use Rattle.headers.specs.declared.Header.{Header}
+use Rattle.headers.proofs.Forms.{header-ends}
+use Rattle.framebuffer.specs.declared.Frame.{Frame}
+use Rattle.framebuffer.specs.Answer.{sized}
+use Rattle.framebuffer.specs.Description.{size, descriptionTests}
+use Rattle.refusals.specs.First.{first}
+use Rattle.netpbm.specs.Image.{bigFirst}
+use Rattle.netpbm.specs.Written.{noFormat}
+use Rattle.netpbm.proofs.Answers.{described-size}
+use Rattle.netpbm.proofs.Transfers.{big-described}
+use Rattle.netpbm.proofs.Loads.{no-format, no-header, other-size, too-few, enough-pixels}
+use Rattle.netpbm.proofs.file_refusal.Statement.{statement}
+use Rattle.netpbm.proofs.file_refusal.Tie as tie
+
+-- behind the test for the format, and for the header, which ends within the file
+formatted : (c : tie.Else1) → noFormat (c .before .before .before .args .frame) ≡ false
+formatted c = sym (c .before .has-no-format .ensures) ∙ c .if1 .left
+
+starts : (c : tie.Else2) → (let a = c .before .before .before .before .before .args in a .header .start ≤ length (a .file .now))
+starts c =
+    let a = c .before .before .before .before .before .args in
+    let e = c .before .before .before .before .before .pre .1 in
+    let k = sym (ap (λ (h : Header). h .ok) e) ∙ not-false (a .header .ok) (c .if2 .left) in
+    omega (arith, ap (λ (h : Header). h .start) e, header-ends (a .frame .depth) (a .file .now) k)
+
+-- the bytes of the pixels
+abbrev tested : tie.After-buffer-size-bpp → tie.Else2
+tested c = c .before .before .before .before .before .before .before
+
+abbrev begin : tie.After-buffer-size-bpp → tie.Start
+begin c = tested c .before .before .before .before .before
+
+pixels : (c : tie.After-buffer-size-bpp) → c .buffer-size-bpp .result .bytes ≡ size (bigFirst (begin c .args .frame))
+pixels c =
+    let f = begin c .args .frame in
+    described-size (bigFirst f) (big-described f (begin c .pre .0))
+    (c .buffer-size-bpp .ensures ∙ ap (λ (g : Frame). sized (first (descriptionTests g)) (size g)) (c .before .in-file .ensures))
+
+has-no-format-requires : tie.Need-has-no-format-requires
+has-no-format-requires c κs = search needs
+
+returns : tie.Need-returns
+returns c = let s = c .before .before .before in no-format (s .args .frame) (s .args .file .now) (s .pre .1) (sym (c .before .has-no-format .ensures) ∙ c .if1 .taken)
+
+returns-2 : tie.Need-returns-2
+returns-2 c = let s = c .before .before .before .before .before in no-header (s .args .frame) (s .args .file .now) (s .pre .1) (formatted (c .before .before)) (c .if2 .taken)
+
+returns-3 : tie.Need-returns-3
+returns-3 c =
+    let k = c .before .before .before .before .before in
+    let s = k .before .before .before .before .before in
+    other-size (s .args .frame) (s .args .file .now) (s .pre .1) (formatted (k .before .before)) (k .if2 .left) (c .if3 .taken)
+
+in-file-requires : tie.Need-in-file-requires
+in-file-requires c κs = search needs
+
+buffer-size-bpp-requires : tie.Need-buffer-size-bpp-requires
+buffer-size-bpp-requires c κs = search needs
+
+sub-if4 : tie.Need-sub-if4
+sub-if4 c = starts (c .before .before .before .before .before .before .before .before)
+
+cast-if4 : tie.Need-cast-if4
+cast-if4 c = search needs
+
+returns-4 : tie.Need-returns-4
+returns-4 c =
+    let b = c .before .before .before in
+    let k = tested b in
+    let s = begin b in
+    too-few (s .args .frame) (s .args .file .now) (s .pre .1) (formatted (k .before .before)) (k .if2 .left) (b .before .before .if3 .left)
+    (omega (arith, c .if4 .taken, starts k, pixels b))
+
+returns-5 : tie.Need-returns-5
+returns-5 c =
+    let b = c .before .before .before in
+    let k = tested b in
+    let s = begin b in
+    enough-pixels (s .args .frame) (s .args .file .now) (s .pre .1) (formatted (k .before .before)) (k .if2 .left) (b .before .before .if3 .left)
+    (omega (arith, c .if4 .left, starts k, pixels b))
+
+pub file-refusal-spec : {M : Type 1} → statement M
+file-refusal-spec =
+    tie.close
+    (tie.spec
+    has-no-format-requires
+    returns
+    returns-2
+    returns-3
+    in-file-requires
+    buffer-size-bpp-requires
+    sub-if4
+    cast-if4
+    returns-4
+    returns-5)

@@ -23,6 +23,7 @@ use Rattle.framebuffer.specs.Drawing.{fillDrawing}
 use Rattle.drawing.specs.Drawing.{lineDrawing, connectedDrawing, outlineDrawing, triangleDrawing, circleDrawing}
 use Rattle.netpbm.specs.Image.{imageLength}
 use Rattle.netpbm.specs.Written.{imageSizeTests, written}
+use Rattle.netpbm.specs.Reading.{loaded}
 use Rattle.beamacorn.specs.Plain.{frameOf, plainStep, outcomeOn, placedOn, pixelOn, litOn}
 use Rattle.beamacorn.proofs.beamacorn_line_length.Reads as line-length
 use Rattle.beamacorn.proofs.beamacorn_line_point.Reads as line-point
@@ -47,6 +48,7 @@ use Rattle.beamacorn.proofs.beamacorn_draw_circle.Reads as draw-circle
 use Rattle.beamacorn.proofs.beamacorn_lit.Reads as lit
 use Rattle.beamacorn.proofs.beamacorn_image_size.Reads as image-size
 use Rattle.beamacorn.proofs.beamacorn_write_image.Reads as write-image
+use Rattle.beamacorn.proofs.beamacorn_read_image.Reads as read-image
 
 -- ---- questions: two or three points, each x first; a circle is left, top, diameter; what is asked of them comes last
 pub line-length-at : (κs : _) (a : _) (r : _) (s : _) → line-length.Post κs a r s
@@ -155,7 +157,7 @@ pub draw-circle-at : (κs : _) (a : _) (r : _) (s : _) → draw-circle.Post κs 
     (circleDrawing (a .1 .1 .1 .1 .1 .0, a .1 .1 .1 .1 .1 .1 .0) (a .1 .1 .1 .1 .1 .1 .1 .0) (a .1 .1 .1 .1 .1 .1 .1 .1 .0)) (a .0 .now))
 draw-circle-at κs a r s h = h
 
--- ---- image files: the same of the frame, and the output comes last
+-- ---- image files: the same of the frame, and the output or the file comes last
 pub image-size-at : (κs : _) (a : _) (r : _) (s : _) → image-size.Post κs a r s
     → r ≡ sized (first (imageSizeTests (frameOf (a .0) (a .1 .0) (a .1 .1 .0) 0))) (imageLength (frameOf (a .0) (a .1 .0) (a .1 .1 .0) 0))
 image-size-at κs a r s h = h
@@ -164,3 +166,7 @@ pub write-image-at : (κs : _) (a : _) (r : _) (s : _) → write-image.Post κs 
     → _≡_ {A = Size × List ℕ} (r, s .1 .1 .1 .1 .1 .0 .now)
     (written (frameOf (a .1 .0) (a .1 .1 .0) (a .1 .1 .1 .0) (a .1 .1 .1 .1 .0)) (a .0 .now) (a .1 .1 .1 .1 .1 .0 .now))
 write-image-at κs a r s h = h
+
+pub read-image-at : (κs : _) (a : _) (r : _) (s : _) → read-image.Post κs a r s
+    → _≡_ {A = ℕ × List ℕ} (r, s .0 .now) (loaded (frameOf (a .1 .0) (a .1 .1 .0) (a .1 .1 .1 .0) (a .1 .1 .1 .1 .0)) (a .1 .1 .1 .1 .1 .0 .now) (a .0 .now))
+read-image-at κs a r s h = h

@@ -18,6 +18,7 @@ ghost use Rattle.framebuffer.specs.Drawing.{fillDrawing};
 ghost use Rattle.drawing.specs.Drawing.{lineDrawing, connectedDrawing, outlineDrawing, triangleDrawing, circleDrawing};
 ghost use Rattle.netpbm.specs.Image.{imageLength};
 ghost use Rattle.netpbm.specs.Written.{imageSizeTests, written};
+ghost use Rattle.netpbm.specs.Reading.{loaded};
 ghost use Rattle.beamacorn.specs.Plain.{frameOf, plainStep, outcomeOn, placedOn, pixelOn, litOn};
 use framebuffer::Drawn;
 use framebuffer::Frame;
@@ -414,4 +415,19 @@ pub extern "C" fn beamacorn_write_image(
     ensures { λ r. ⌜ (r, now (out .exit)) ≡ written (frameOf width height depth order) (now (buf .entry)) (now (out .entry)) ⌝ }
 {
     netpbm::write_image(buf, frame(width, height, depth, order), out)
+}
+
+// Reads an image file of the frame's size into the frame, and answers a number.
+#[no_mangle]
+pub extern "C" fn beamacorn_read_image(
+    buf: &mut [u8],
+    width: u32,
+    height: u32,
+    depth: u32,
+    order: u32,
+    file: &[u8],
+) -> u32
+    ensures { λ r. ⌜ (r, now (buf .exit)) ≡ loaded (frameOf width height depth order) (now (file .entry)) (now (buf .entry)) ⌝ }
+{
+    netpbm::read_image(buf, frame(width, height, depth, order), file)
 }

@@ -1,4 +1,4 @@
--- "Its colour is that of the last accepted call whose figure contains it, or 0 if none." Assumes nothing.
+-- "Its colour is that of the last accepted call whose figure contains it, or 0 if none", a read being a call that contains every pixel. Assumes nothing.
 use mathlib.Core.Path.{_≡_, refl, ap, subst, sym, _∙_}
 use mathlib.Core.Bool.{Bool, true, false, cond}
 use mathlib.Core.List.{List, [], _∷_, _++_}
@@ -9,7 +9,8 @@ use borrow.Author.Tests.{eq-eqb, eqb-true}
 use Rattle.layout.specs.Layout.{Picture}
 use Rattle.framebuffer.specs.declared.Frame.{Frame}
 use Rattle.framebuffer.specs.Drawing.{Drawing}
-use Rattle.picture.specs.Calls.{Call, Change, draws, changeOf, numberOf, blank, shownAfter, pictureAfter}
+use Rattle.netpbm.specs.Reading.{filePicture}
+use Rattle.picture.specs.Calls.{Call, readImage, Change, draws, changeOf, numberOf, blank, shownAfter, pictureAfter}
 
 module _ (f : Frame) (n x y : ℕ) where
   -- whatever the picture was, the call leaves the pixel as it is
@@ -37,17 +38,27 @@ module _ (f : Frame) (n x y : ℕ) where
   after-both [] ys g = refl
   after-both (o ∷ xs) ys g = after-both xs ys (shownAfter f n o g)
 
+  -- an accepted call changes the pixel as it says, and those after it leave it so
+  last-change : (xs ys : List Call) (o : Call) → numberOf f n o ≡ 0 → AllLeave ys
+      → (g : Picture) → pictureAfter f n (xs ++ (o ∷ ys)) g x y ≡ changeOf o .changes f (pictureAfter f n xs g) x y
+  last-change xs ys o z a g =
+      let before = pictureAfter f n xs g in
+      ap (λ (k : Picture). k x y) (after-both xs (o ∷ ys) g)
+      ∙ calls-leave ys (shownAfter f n o before) a
+      ∙ ap (λ (t : Bool). cond t (changeOf o .changes f before x y) (before x y)) (eq-eqb (numberOf f n o) 0 z)
+
   -- the last accepted call whose figure contains the pixel gives it its colour
   pub last-colour : (xs ys : List Call) (o : Call) (d : Drawing) → changeOf o ≡ draws d → numberOf f n o ≡ 0 → d .figure (pos x) (pos y) ≡ true → AllLeave ys
       → (g : Picture) → pictureAfter f n (xs ++ (o ∷ ys)) g x y ≡ d .colour
   last-colour xs ys o d e z h a g =
       let before = pictureAfter f n xs g in
-      ap (λ (k : Picture). k x y) (after-both xs (o ∷ ys) g)
-      ∙ calls-leave ys (shownAfter f n o before) a
-      ∙ ap (λ (t : Bool). cond t (changeOf o .changes f before x y) (before x y)) (eq-eqb (numberOf f n o) 0 z)
-      ∙ ap (λ (c : Change). c .changes f before x y) e
-      ∙ ap (λ (t : Bool). cond t (d .colour) (before x y)) h
+      last-change xs ys o z a g ∙ ap (λ (c : Change). c .changes f before x y) e ∙ ap (λ (t : Bool). cond t (d .colour) (before x y)) h
 
-  -- where no accepted call contains it, it has 0
+  -- or the last accepted read, which gives every pixel the file's
+  pub last-read : (xs ys : List Call) (s : List ℕ) → numberOf f n (readImage s) ≡ 0 → AllLeave ys
+      → (g : Picture) → pictureAfter f n (xs ++ (readImage s ∷ ys)) g x y ≡ filePicture f s x y
+  last-read xs ys s z a g = last-change xs ys (readImage s) z a g
+
+  -- where no accepted call contains it, and no file was read, it has 0
   pub no-colour : (os : List Call) → AllLeave os → pictureAfter f n os blank x y ≡ 0
   no-colour os a = calls-leave os blank a

@@ -8,7 +8,7 @@ use Prim.Native.Nat.{ℕ, _^_, _≤_, _<_}
 use native.Mathlib.Nat.{one-le-pow}
 use lib.Dec.{eqb}
 use lib.IntN.{pos}
-use lib.ListN.{length, replicate, length-replicate}
+use lib.ListN.{length, drop, replicate, length-replicate}
 use lib.Pow.{pow-pos}
 use borrow.Author.Tests.{eqb-true, eqb-false, ne-eqb, leb-false}
 use Rattle.refusals.specs.First.{first}
@@ -26,9 +26,12 @@ use Rattle.framebuffer.specs.Description.{raster, size, noColour, frameTests}
 use Rattle.framebuffer.specs.Drawing.{Drawing, pixelDrawing, fillDrawing}
 use Rattle.framebuffer.specs.Judged.{Described, Accepted}
 use Rattle.framebuffer.proofs.Refusals.{is-accepted, frame-numbered, sound}
+use Rattle.headers.specs.Header.{headerOf}
+use Rattle.netpbm.specs.Image.{bigFirst}
+use Rattle.netpbm.proofs.Transfers.{big-described}
 use Rattle.drawing.specs.Drawing.{lineDrawing, triangleDrawing, outlineDrawing, circleDrawing, connectedDrawing}
-use Rattle.picture.specs.Calls.{Call, setPixel, fillFrame, drawLine, drawTriangle, drawOutline, drawCircle, drawConnectedLine, Change}
-use Rattle.picture.specs.Calls.{draws, changeOf, numberOf, blank, shownAfter, pictureAfter, afterCall, afterCalls}
+use Rattle.picture.specs.Calls.{Call, setPixel, fillFrame, drawLine, drawTriangle, drawOutline, drawCircle, drawConnectedLine, readImage, Change}
+use Rattle.picture.specs.Calls.{draws, loads, changeOf, numberOf, blank, shownAfter, pictureAfter, afterCall, afterCalls}
 
 -- a zero-filled buffer of n bytes
 abbrev pub zeros : ℕ → List ℕ
@@ -62,6 +65,14 @@ draws-lawful f d =
     one true a b = a
     one false a b = b
 
+-- a file's pixels have colours of its depth, and so of the frame's
+loads-lawful : (f : Frame) (s : List ℕ) → Lawful f (loads s)
+loads-lawful f s =
+    record {
+      local = λ g h a x y hx hy. refl;
+      colours = λ D z g c x y hx hy. shown-colour (raster (bigFirst f)) (sound (bigFirst f) (big-described f D)) (drop (headerOf (f .depth) s .start) s) x y;
+    }
+
 pub lawful : (f : Frame) (o : Call) → Lawful f (changeOf o)
 lawful f (setPixel p c) = draws-lawful f (pixelDrawing p c)
 lawful f (fillFrame c) = draws-lawful f (fillDrawing c)
@@ -70,6 +81,7 @@ lawful f (drawTriangle v1 v2 v3 c) = draws-lawful f (triangleDrawing v1 v2 v3 c)
 lawful f (drawOutline v1 v2 v3 c) = draws-lawful f (outlineDrawing v1 v2 v3 c)
 lawful f (drawCircle l d c) = draws-lawful f (circleDrawing l d c)
 lawful f (drawConnectedLine s e c) = draws-lawful f (connectedDrawing s e c)
+lawful f (readImage s) = loads-lawful f s
 
 module _ (f : Frame) (n : ℕ) where
   -- ---- an accepted description with room in the buffer

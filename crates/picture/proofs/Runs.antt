@@ -1,4 +1,4 @@
--- The theorem about runs of the code: a run is a list of calls, each made by the compiled function, whose contract is all that is known of it.
+-- The theorem about runs of the code: a run is a list of calls and of reads, each made by the compiled function, whose contract is all that is known of it.
 -- Assumes nothing.
 use mathlib.Core.Path.{_≡_, refl, sym, ap, _∙_}
 use mathlib.Core.List.{List, [], _∷_}
@@ -14,10 +14,12 @@ use Rattle.drawing.proofs.draw_triangle.Reads as draw-triangle
 use Rattle.drawing.proofs.draw_outline.Reads as draw-outline
 use Rattle.drawing.proofs.draw_circle.Reads as draw-circle
 use Rattle.drawing.proofs.draw_connected_line.Reads as draw-connected-line
-use Rattle.picture.specs.Calls.{Call, setPixel, fillFrame, drawLine, drawTriangle, drawOutline, drawCircle, drawConnectedLine}
+use Rattle.netpbm.proofs.read_image.Reads as read-image
+use Rattle.picture.specs.Calls.{Call, setPixel, fillFrame, drawLine, drawTriangle, drawOutline, drawCircle, drawConnectedLine, readImage}
 use Rattle.picture.specs.Calls.{blank, pictureAfter, afterCalls}
 use Rattle.picture.proofs.Picture.{zeros, one-picture-one-frame}
 use Rattle.picture.proofs.Ties.{Does, set-pixel-does, fill-does, draw-line-does, draw-triangle-does, draw-outline-does, draw-circle-does, draw-connected-line-does}
+use Rattle.picture.proofs.Ties.{read-image-does}
 
 -- a call made by its function: the arguments, the answer, whose number is kept, and the bytes afterwards are as the function's contract says
 pub data Made : Frame → Call → List ℕ → ℕ → List ℕ → Type 0 where
@@ -33,6 +35,7 @@ pub data Made : Frame → Call → List ℕ → ℕ → List ℕ → Type 0 wher
       → Made (a .1 .0) (drawCircle (a .1 .1 .0) (a .1 .1 .1 .0) (a .1 .1 .1 .1 .0)) (now (a .0)) (r .number) (now (s .0))
   by-draw-connected-line : (κs : _) (a : _) (r : _) (s : _) → draw-connected-line.Post κs a r s
       → Made (a .1 .0) (drawConnectedLine (a .1 .1 .0) (a .1 .1 .1 .0) (a .1 .1 .1 .1 .0)) (now (a .0)) (r .number) (now (s .0))
+  by-read-image : (κs : _) (a : _) (r : _) (s : _) → read-image.Post κs a r s → Made (a .1 .0) (readImage (now (a .1 .1 .0))) (now (a .0)) r (now (s .0))
 
 -- calls made one after the other on one frame, from the bytes at the start to those at the end
 pub data Run (f : Frame) : List Call → List ℕ → List ℕ → Type 0 where
@@ -47,6 +50,7 @@ made-does (by-draw-triangle κs a r s h) = draw-triangle-does κs a r s h
 made-does (by-draw-outline κs a r s h) = draw-outline-does κs a r s h
 made-does (by-draw-circle κs a r s h) = draw-circle-does κs a r s h
 made-does (by-draw-connected-line κs a r s h) = draw-connected-line-does κs a r s h
+made-does (by-read-image κs a r s h) = read-image-does κs a r s h
 
 -- a run leaves what its list of calls leaves
 pub run-leaves : {f : Frame} {os : List Call} {b c : List ℕ} → Run f os b c → c ≡ afterCalls f os b

@@ -29,7 +29,9 @@ use Rattle.drawing.proofs.draw_triangle.Reads as draw-triangle
 use Rattle.drawing.proofs.draw_outline.Reads as draw-outline
 use Rattle.drawing.proofs.draw_circle.Reads as draw-circle
 use Rattle.drawing.proofs.draw_connected_line.Reads as draw-connected-line
-use Rattle.picture.specs.Calls.{Call, setPixel, fillFrame, drawLine, drawTriangle, drawOutline, drawCircle, drawConnectedLine}
+use Rattle.netpbm.specs.Reading.{loadTests, loaded}
+use Rattle.netpbm.proofs.read_image.Reads as read-image
+use Rattle.picture.specs.Calls.{Call, setPixel, fillFrame, drawLine, drawTriangle, drawOutline, drawCircle, drawConnectedLine, readImage}
 use Rattle.picture.specs.Calls.{Change, draws, changeOf, numberOf, afterCall}
 
 -- what a call o on the frame f is to do: its answer's number, and the bytes afterwards
@@ -111,3 +113,11 @@ draw-circle-does κs a r s h = counts-does _ _ _ _ refl h
 pub draw-connected-line-does : (κs : _) (a : _) (r : _) (s : _) → draw-connected-line.Post κs a r s
     → Does (a .1 .0) (drawConnectedLine (a .1 .1 .0) (a .1 .1 .1 .0) (a .1 .1 .1 .1 .0)) (now (a .0)) (r .number) (now (s .0))
 draw-connected-line-does κs a r s h = counts-does _ _ _ _ refl h
+
+-- a read, which is such a change by its definition
+loads-does : (f : Frame) (s b : List ℕ) {n : ℕ} {after : List ℕ} → _≡_ {A = ℕ × List ℕ} (n, after) (loaded f s b) → Does f (readImage s) b n after
+unfolding loadTests loaded
+loads-does f s b h = record { number = ap (λ (p : ℕ × List ℕ). p .0) h; bytes = ap (λ (p : ℕ × List ℕ). p .1) h }
+
+pub read-image-does : (κs : _) (a : _) (r : _) (s : _) → read-image.Post κs a r s → Does (a .1 .0) (readImage (now (a .1 .1 .0))) (now (a .0)) r (now (s .0))
+read-image-does κs a r s h = loads-does _ _ _ h

@@ -1,4 +1,4 @@
--- Lists of calls on one frame: what each call tests and changes, the picture that a list leaves, and the bytes ("One picture, one frame").
+-- Lists of calls and of reads on one frame: what each tests and changes, the picture that a list leaves, and the bytes ("One picture, one frame").
 use mathlib.Core.Bool.{cond}
 use mathlib.Core.List.{List, [], _∷_, _++_}
 use Prim.Native.Nat.{ℕ}
@@ -10,9 +10,10 @@ use Rattle.layout.specs.Layout.{Picture, shown, coloured, rendered}
 use Rattle.framebuffer.specs.declared.Frame.{Frame}
 use Rattle.framebuffer.specs.Description.{raster, noColour, frameTests}
 use Rattle.framebuffer.specs.Drawing.{Drawing, pixelDrawing, fillDrawing}
+use Rattle.netpbm.specs.Reading.{fileTests, filePicture}
 use Rattle.drawing.specs.Drawing.{lineDrawing, triangleDrawing, outlineDrawing, circleDrawing, connectedDrawing}
 
--- a call, by its arguments; the colour comes last
+-- a call, by its arguments; the colour comes last. A read is a call too, by the bytes of its file
 pub data Call : Type 0 where
   setPixel : Point → ℕ → Call
   fillFrame : ℕ → Call
@@ -21,6 +22,7 @@ pub data Call : Type 0 where
   drawOutline : Point → Point → Point → ℕ → Call
   drawCircle : Point → ℕ → ℕ → Call
   drawConnectedLine : Point → Point → ℕ → Call
+  readImage : List ℕ → Call
 
 -- what a call is on a frame: its own tests, which come behind those of the frame, and what it changes of a picture where no test holds
 pub record Change : Type 0 where
@@ -31,6 +33,11 @@ pub record Change : Type 0 where
 abbrev pub draws : Drawing → Change
 draws d = record { own = λ f. (4, noColour f (d .colour)) ∷ d .own; changes = λ f. coloured (d .figure) (d .colour) }
 
+-- of a read: the file is tested, and every pixel gets the file's colour there, whatever it was before (02, T-06: "treats an accepted read as setting every
+-- pixel")
+abbrev pub loads : List ℕ → Change
+loads s = record { own = λ f. fileTests f s; changes = λ f before. filePicture f s }
+
 abbrev pub changeOf : Call → Change
 changeOf (setPixel p c) = draws (pixelDrawing p c)
 changeOf (fillFrame c) = draws (fillDrawing c)
@@ -39,6 +46,7 @@ changeOf (drawTriangle v1 v2 v3 c) = draws (triangleDrawing v1 v2 v3 c)
 changeOf (drawOutline v1 v2 v3 c) = draws (outlineDrawing v1 v2 v3 c)
 changeOf (drawCircle l d c) = draws (circleDrawing l d c)
 changeOf (drawConnectedLine s e c) = draws (connectedDrawing s e c)
+changeOf (readImage s) = loads s
 
 -- the number that it answers on a frame over n bytes
 abbrev pub numberOf : Frame → ℕ → Call → ℕ

@@ -2,3 +2,4 @@ pub mod Words
 pub mod Fields
 pub mod Reply
 pub mod Dump
+pub mod Bytes

@@ -5,6 +5,7 @@ mod reply;
 mod words;
 
 pub use digits::dump;
+pub use digits::put_hex;
 pub use fields::NextCircle;
 pub use fields::NextEnds;
 pub use fields::NextPoint;

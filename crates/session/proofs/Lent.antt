@@ -38,7 +38,7 @@ response-lent : (word said : List ℕ) (at : ℕ) (s : Screen) (m : List ℕ) �
 response-lent word said at s m h = meant-each (λ t. t .0 .screen .lent ≤ 65536) word (turnTable said at s m) _ (frame-lent said at s m h, (h, (h, (h, (h, tt))))) h
 
 act-lent : (word said : List ℕ) (at : ℕ) (s : Screen) (m : Buffers) → s .lent ≤ 65536 → act word said at s m .0 .screen .lent ≤ 65536
-act-lent word said at s m h = meant-each (λ t. t .0 .screen .lent ≤ 65536) word (fileTable said at s m) _ (h, (h, tt)) (response-lent word said at s (m .0) h)
+act-lent word said at s m h = meant-each (λ t. t .0 .screen .lent ≤ 65536) word (fileTable said at s m) _ (h, (h, (h, (h, tt)))) (response-lent word said at s (m .0) h)
 
 pub answer-lent : (said : List ℕ) (l : Left) → l .0 .lent ≤ 65536 → answer said l .1 .0 .lent ≤ 65536
 unfolding answer

@@ -1,21 +1,22 @@
--- The file buffer: what `image` and `wipe` answer and leave (02, T-01).
-use mathlib.Core.Bool.{cond, _&&_}
+-- The file buffer: what `image` and `wipe` (02, T-01), `bytes` and `load` (02, T-06) answer and leave.
+use mathlib.Core.Bool.{Bool, cond}
 use mathlib.Core.List.{List, [], _∷_, _++_}
 use Prim.Native.Nat.{ℕ}
-use lib.Dec.{leb}
 use lib.ListN.{take, drop}
 use Rattle.framebuffer.specs.declared.Frame.{Frame}
 use Rattle.framebuffer.specs.declared.Size.{Size}
+use Rattle.netpbm.specs.Reading.{loaded}
 use Rattle.netpbm.specs.Written.{written}
 use Rattle.text.specs.Fields.{nextU32}
 use Rattle.protocol.specs.declared.reply.Reply.{Reply}
-use Rattle.protocol.specs.declared.reply.Reply.the-variants.{Bad}
-use Rattle.protocol.specs.Fields.{isLast, ofOne}
+use Rattle.protocol.specs.declared.reply.Reply.the-variants.{Bad, Number}
+use Rattle.protocol.specs.Bytes.{hexPut}
+use Rattle.protocol.specs.Fields.{ofOne}
 use Rattle.protocol.specs.Words.{meant}
 use Rattle.session.specs.declared.screen.Screen.{Screen}
 use Rattle.session.specs.declared.screen.Turn.{Turn}
-use Rattle.session.specs.Screen.{turn, sizeSaid, presetCall, response}
-use Rattle.session.specs.Words.{imageWord, wipeWord}
+use Rattle.session.specs.Screen.{turn, sizeSaid, ofAtMost, presetCall, lentTurn, response}
+use Rattle.session.specs.Words.{imageWord, wipeWord, bytesWord, loadWord}
 
 -- the bytes of the frame's buffer, and those of the file's
 abbrev pub Buffers : Type 0
@@ -26,8 +27,21 @@ abbrev pub imageSaid : List ℕ → ℕ → Size × List ℕ → Reply × List �
 imageSaid file room w = (sizeSaid (w .0), w .1 ++ drop room file)
 
 unfoldable pub imageCall : List ℕ → ℕ → Frame → List ℕ → List ℕ → Reply × List ℕ
-imageCall said at f b file =
-    ofOne (λ n. cond (isLast said (n .next) && leb (n .value) 65536) (imageSaid file (n .value) (written f b (take (n .value) file))) (Bad, file)) (nextU32 said at)
+imageCall said at f b file = ofAtMost 65536 (λ n. imageSaid file n (written f b (take n file))) file said at
+
+-- `bytes AT HEX`: the file buffer's bytes from AT on become HEX, the rest of the line; behind an AT that is no number, or the last field, there is no rest
+abbrev pub bytesSaid : Bool × List ℕ → Reply × List ℕ
+bytesSaid w = (cond (w .0) (Number 0) Bad, w .1)
+
+unfoldable pub bytesCall : List ℕ → ℕ → List ℕ → Reply × List ℕ
+bytesCall said at file = ofOne (λ n. bytesSaid (hexPut (drop (n .next) said) (n .value) file)) (nextU32 said at)
+
+-- `load LENGTH`: the first LENGTH bytes of the file buffer, at most 65,536, read into the frame
+abbrev pub loadSaid : ℕ × List ℕ → Reply × List ℕ
+loadSaid w = (Number (w .0), w .1)
+
+unfoldable pub loadCall : List ℕ → ℕ → Frame → List ℕ → List ℕ → Reply × List ℕ
+loadCall said at f file b = ofAtMost 65536 (λ n. loadSaid (loaded f (take n file) b)) b said at
 
 -- ---- a line by its word, all but those that show bytes: a turn on the file leaves the screen and its buffer
 abbrev pub fileTurn : Screen → List ℕ → Reply × List ℕ → Turn × Buffers
@@ -41,6 +55,8 @@ abbrev pub fileTable : List ℕ → ℕ → Screen → Buffers → List (List �
 fileTable said at s m =
     (imageWord, fileTurn s (m .0) (imageCall said at (s .frame) (take (s .lent) (m .0)) (m .1)))
     ∷ (wipeWord, fileTurn s (m .0) (presetCall said at (m .1)))
+    ∷ (bytesWord, fileTurn s (m .0) (bytesCall said at (m .1)))
+    ∷ (loadWord, screenTurn (m .1) (lentTurn s (m .0) (loadCall said at (s .frame) (m .1) (take (s .lent) (m .0)))))
     ∷ []
 
 abbrev pub act : List ℕ → List ℕ → ℕ → Screen → Buffers → Turn × Buffers

@@ -71,9 +71,13 @@ framed d s m = cond (d .ok) (turn (d .screen) (sizeOf (d .screen .frame)), allSe
 unfoldable pub frameTurn : List ℕ → ℕ → Screen → List ℕ → Turn × List ℕ
 frameTurn said at s m = ofOne (λ d. framed d s m) (nextScreen said at)
 
+-- a line of one number, which is at most so much: what is made of it, and else `bad line` and what was there
+abbrev pub ofAtMost : ℕ → (ℕ → Reply × List ℕ) → List ℕ → List ℕ → ℕ → Reply × List ℕ
+ofAtMost most made m said at = ofOne (λ n. cond (isLast said (n .next) && leb (n .value) most) (made (n .value)) (Bad, m)) (nextU32 said at)
+
 -- ---- `preset V`: every byte of the buffer becomes V, 0 to 255
 unfoldable pub presetCall : List ℕ → ℕ → List ℕ → Reply × List ℕ
-presetCall said at m = ofOne (λ v. cond (isLast said (v .next) && leb (v .value) 255) (Number 0, allSet (v .value) m) (Bad, m)) (nextU32 said at)
+presetCall said at m = ofAtMost 255 (λ v. (Number 0, allSet v m)) m said at
 
 -- ---- `read X Y`: number, colour
 abbrev pub readSaid : Read → Reply

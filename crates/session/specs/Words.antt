@@ -37,3 +37,11 @@ fileWord = 102 ∷ 105 ∷ 108 ∷ 101 ∷ []
 -- `wipe`
 abbrev pub wipeWord : List ℕ
 wipeWord = 119 ∷ 105 ∷ 112 ∷ 101 ∷ []
+
+-- `bytes`
+abbrev pub bytesWord : List ℕ
+bytesWord = 98 ∷ 121 ∷ 116 ∷ 101 ∷ 115 ∷ []
+
+-- `load`
+abbrev pub loadWord : List ℕ
+loadWord = 108 ∷ 111 ∷ 97 ∷ 100 ∷ []

@@ -7,7 +7,7 @@ use native.Mathlib.Omega.{arith}
 use lib.Dec.{leb}
 use lib.ListN.{length, take, drop, length-set, length-take}
 use borrow.Author.Needs.{needs}
-use borrow.Author.Tests.{le-leb, lt-leb, not-true, not-false, leb-true}
+use borrow.Author.Tests.{le-leb, lt-leb, not-true, not-false}
 use Rattle.text.specs.declared.NextU32.{NextU32}
 use Rattle.text.specs.Fields.{nextU32}
 use Rattle.text.proofs.Writing.{wrote-byte, wrote-as}
@@ -15,8 +15,8 @@ use Rattle.protocol.specs.Fields.{isLast}
 use Rattle.protocol.specs.Reply.{badLine}
 use Rattle.protocol.specs.Dump.{hexText, dumpBy, dumpLine}
 use Rattle.protocol.proofs.Hexadecimal.{hex-count}
-use Rattle.text.proofs.And.{and-second, and-false}
-use Rattle.protocol.proofs.Replies.{two-read}
+use Rattle.text.proofs.And.{and-false}
+use Rattle.protocol.proofs.Replies.{is-within, two-read}
 use Rattle.protocol.proofs.digits.dump.Statement.{statement}
 use Rattle.protocol.proofs.digits.dump.Tie as tie
 
@@ -32,9 +32,7 @@ module _ (c : tie.Else1) where
   count = c .before .before .next-u322 .result .value
 
   few : count ≤ 4096
-  few =
-      let next = c .before .before .next-u322 .result .next in
-      leb-true count 4096 (and-second (isLast (entry .args .said .now) next) (leb count 4096) (sym (c .before .ends-within .ensures) ∙ not-false _ (c .if1 .left)))
+  few = is-within (entry .args .said .now) (c .before .before .next-u322 .result .next) count 4096 (c .before .ends-within .ensures) (c .if1 .left)
 
   digits : length (hexText (take (from + count - from) (drop from (entry .args .memory .now)))) ≤ 8192
   digits =

@@ -22,6 +22,18 @@ image-requires c κs = search needs
 preset-requires : tie.Need-preset-requires
 preset-requires c κs = search needs
 
+bytes-requires : tie.Need-bytes-requires
+bytes-requires c κs = search needs
+
+slice-relend-prefix-load : tie.Need-slice-relend-prefix-load
+slice-relend-prefix-load c = search needs
+
+slice-aggregate-load : tie.Need-slice-aggregate-load
+slice-aggregate-load c = search file-words
+
+load-requires : tie.Need-load-requires
+load-requires c κs = search needs
+
 respond-requires : tie.Need-respond-requires
 respond-requires c κs = search needs
 
@@ -46,6 +58,21 @@ same-length-4 c = search needs
 returns-3 : tie.Need-returns-3
 returns-3 c = search file-words
 
+same-length-5 : tie.Need-same-length-5
+same-length-5 c = search needs
+
+same-length-6 : tie.Need-same-length-6
+same-length-6 c = search needs
+
+returns-4 : tie.Need-returns-4
+returns-4 c = search file-words
+
+same-length-7 : tie.Need-same-length-7
+same-length-7 c = search needs
+
+returns-5 : tie.Need-returns-5
+returns-5 c = search file-words
+
 pub take-turn-spec : {M : Type 1} → statement M
 take-turn-spec =
     tie.close
@@ -56,6 +83,10 @@ take-turn-spec =
     slice-aggregate-image
     image-requires
     preset-requires
+    bytes-requires
+    slice-relend-prefix-load
+    slice-aggregate-load
+    load-requires
     respond-requires
     same-length
     same-length-2
@@ -63,4 +94,9 @@ take-turn-spec =
     same-length-3
     returns-2
     same-length-4
-    returns-3)
+    returns-3
+    same-length-5
+    same-length-6
+    returns-4
+    same-length-7
+    returns-5)

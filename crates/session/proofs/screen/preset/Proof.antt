@@ -1,11 +1,7 @@
 -- `session::screen::preset` sets every byte, where the line is the value alone. Assumes nothing.
-use mathlib.Core.Path.{sym, _∙_}
 use native.Mathlib.Omega.{arith}
-use lib.Dec.{leb}
 use borrow.Author.Needs.{needs}
-use borrow.Author.Tests.{not-false, leb-true}
-use Rattle.text.proofs.And.{and-second}
-use Rattle.protocol.specs.Fields.{isLast}
+use Rattle.protocol.proofs.Replies.{is-within}
 use Rattle.session.specs.Screen.{presetCall}
 use Rattle.session.proofs.Turns.{turns}
 use Rattle.session.proofs.screen.preset.Statement.{statement}
@@ -23,12 +19,9 @@ returns c = search turns
 
 cast-set-all : tie.Need-cast-set-all
 cast-set-all c =
+    let said = c .before .before .before .before .before .before .before .args .said .now in
     let v = c .before .before .before .before .next-u32 .result in
-    omega (
-      arith,
-      leb-true (v .value) 255 (and-second (isLast (c .before .before .before .before .before .before .before .args .said .now) (v .next)) (leb (v .value) 255)
-          (sym (c .before .before .before .ends-within .ensures) ∙ not-false _ (c .before .before .if1 .left))),
-    )
+    omega (arith, is-within said (v .next) (v .value) 255 (c .before .before .before .ends-within .ensures) (c .before .before .if1 .left))
 
 set-all-requires : tie.Need-set-all-requires
 set-all-requires c κs = search needs

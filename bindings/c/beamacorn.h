@@ -25,10 +25,10 @@
 #include <stdint.h>
 
 /* The version of this header and of the library, as in CHANGELOG.md. */
-#define BEAMACORN_VERSION "0.3.1"
+#define BEAMACORN_VERSION "0.3.2"
 #define BEAMACORN_VERSION_MAJOR 0
 #define BEAMACORN_VERSION_MINOR 3
-#define BEAMACORN_VERSION_PATCH 1
+#define BEAMACORN_VERSION_PATCH 2
 
 #if defined BEAMACORN_STRICT && defined __GNUC__ && !defined __cplusplus
 #define BEAMACORN_BEHIND_THE_NUMBER __attribute__((deprecated("no with a refusal too: ask beamacorn_says")))
@@ -52,7 +52,10 @@ enum {
     BEAMACORN_PAST_LAST_STEP = 7, /* a point of a line is asked at a step or an index past its last */
     BEAMACORN_OUTSIDE_FRAME = 8,  /* a pixel is read outside the frame */
     BEAMACORN_SHORT_OUTPUT = 9,   /* the output is shorter than what is written into it */
-    BEAMACORN_UNFIT_FRAME = 10    /* the operation takes no frame of this depth, or none without pixels */
+    BEAMACORN_UNFIT_FRAME = 10,   /* the operation takes no frame of this depth, or none without pixels */
+    BEAMACORN_BAD_HEADER = 11,    /* the file does not begin with a header of the frame's format */
+    BEAMACORN_SHORT_FILE = 12,    /* the file has fewer bytes of pixels than its picture takes */
+    BEAMACORN_OTHER_SIZE = 13     /* the file's picture is not as wide and as high as the frame */
 };
 
 /* ---- Questions on lines, triangles and circles ---- */
@@ -386,7 +389,7 @@ beamacorn_drawn beamacorn_draw_circle(uint8_t *buf, size_t len, uint32_t width, 
  * alone: whatever the frame's byte order, padding and tail, the same picture has the same file. The pixel value 1 is black in a P4.
  *
  * `out` points to `out_len` bytes that the caller lends for the file and that are no part of `buf`; they may be more than the file takes. Where
- * `out_len` is 0 it may be any pointer, NULL too.
+ * `out_len` is 0 it may be any pointer, NULL too. So it is with the `file_len` bytes of `file`, which are read and not changed.
  */
 
 /*
@@ -408,6 +411,23 @@ beamacorn_size beamacorn_image_size(uint32_t width, uint32_t height, uint32_t de
  */
 beamacorn_size beamacorn_write_image(const uint8_t *buf, size_t len, uint32_t width, uint32_t height, uint32_t depth, uint32_t order,
                                      uint8_t *out, size_t out_len);
+
+/*
+ * Reads an image file into the frame: sets every pixel to the colour that it has in the file. What beamacorn_write_image wrote reads back to the same picture.
+ * The padding of the frame and the bytes past it stay; the file's padding and the bytes past its pixels are not looked at. There is no value beside the number,
+ * so it is answered as it is: 0, or why the file was refused.
+ *
+ * The header is the magic, the width, the height and, but for a P4, the maximum. Before each of these numbers stand one or more of space, tab, CR and LF, behind the
+ * last one exactly one of them, and then the pixels begin. A number has one to four digits, leading zeros among them. Comments are not taken: README.md says
+ * what takes them out.
+ * Refused with 1, 2, 3, 10, 11, 13 and 12, in this order: 10 as above; 11 where the magic is not the depth's, a number is none, the maximum is not 255 or the
+ * file ends within its header; 13 where the file's width or height is another than the frame's; 12 where its pixels are not all there.
+ *
+ *     uint32_t number = beamacorn_read_image(buf, len, 320, 200, 1, 0, file, file_len);
+ *     if (number != 0) { return refused(number); }
+ */
+uint32_t beamacorn_read_image(uint8_t *buf, size_t len, uint32_t width, uint32_t height, uint32_t depth, uint32_t order,
+                              const uint8_t *file, size_t file_len);
 
 #ifdef __cplusplus
 }

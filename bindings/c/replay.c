@@ -13,14 +13,14 @@
 
 #include "beamacorn.h"
 
-enum { BYTES = 65536, MOST_DUMPED = 4096, LONGEST_LINE = 128, FRAME = 4, MOST_NUMBERS = FRAME + 7 };
+enum { BYTES = 65536, MOST_DUMPED = 4096, MOST_PUT = 48, LONGEST_LINE = 128, FRAME = 4, MOST_NUMBERS = FRAME + 7 };
 
 /* The frame described last: width, height, depth and order, and the part of the buffer that is lent. */
 static uint8_t buffer[BYTES];
 static int64_t frame[FRAME] = {0, 0, 1, 0};
 static size_t lent;
 
-/* The file buffer, and how much of it an image is given. */
+/* The file buffer, and how much of it is lent to write an image into, or to read one from. */
 static uint8_t file[BYTES];
 static size_t room;
 
@@ -63,6 +63,7 @@ static void draw_outline(const int64_t *n) { say_drawn(beamacorn_draw_outline(ON
 static void draw_circle(const int64_t *n) { say_drawn(beamacorn_draw_circle(ON_FRAME, n[4], n[5], n[6], n[7])); }
 static void image_size(const int64_t *n) { say_size(beamacorn_image_size(n[0], n[1], n[2])); }
 static void write_image(const int64_t *n) { say_size(beamacorn_write_image(ON_FRAME, file, room)); }
+static void read_image(const int64_t *n) { say(beamacorn_read_image(ON_FRAME, file, room)); }
 
 /* A line's word, the numbers that follow it (s signed, u unsigned), and the function: with the frame's numbers first, if it is asked of the frame. */
 typedef struct {
@@ -95,9 +96,10 @@ static const question questions[] = {
     {"imagesize", "", "beamacorn_image_size", image_size, true},
 };
 
-/* The functions of `frame`, whose line has an order and a length besides, and of `image`, whose line has the length of the output. */
+/* The functions of `frame`, whose line has an order and a length besides, and of `image` and `load`, whose line has the length of the file. */
 static const question size_of_frame = {"frame", "uuu", "beamacorn_frame_size", frame_size, false};
 static const question image_of_frame = {"image", "", "beamacorn_write_image", write_image, true};
+static const question image_into_frame = {"load", "", "beamacorn_read_image", read_image, true};
 
 /* Which numbers of which function are changed over, if any. */
 static const char *swapped = "";
@@ -164,7 +166,8 @@ static bool describe(char *fields)
     return true;
 }
 
-static bool image(char *fields)
+/* `image` and `load`. */
+static bool with_file(const question *asked, char *fields)
 {
     int64_t given;
 
@@ -172,7 +175,30 @@ static bool image(char *fields)
         return false;
     }
     room = (size_t)given;
-    answer(&image_of_frame, &given);
+    answer(asked, &given);
+    return true;
+}
+
+/* `bytes`: a place in the file buffer, and two digits a byte. */
+static bool put(char *fields)
+{
+    int64_t at;
+    char *digits = fields == NULL ? NULL : strchr(fields, '\t');
+
+    if (digits == NULL) {
+        return false;
+    }
+    *digits++ = '\0';
+    size_t length = strlen(digits);
+    if (!read_number(fields, 'u', &at) || length == 0 || length % 2 != 0 || length > 2 * MOST_PUT || strspn(digits, "0123456789abcdef") != length
+        || at + (int64_t)length / 2 > BYTES) {
+        return false;
+    }
+    for (; *digits != '\0'; digits += 2) {
+        char pair[] = {digits[0], digits[1], '\0'};
+        file[at++] = (uint8_t)strtoul(pair, NULL, 16);
+    }
+    say(0);
     return true;
 }
 
@@ -226,7 +252,13 @@ static bool answer_line(char *line, size_t length)
         return show(buffer, fields);
     }
     if (strcmp(line, "image") == 0) {
-        return image(fields);
+        return with_file(&image_of_frame, fields);
+    }
+    if (strcmp(line, "load") == 0) {
+        return with_file(&image_into_frame, fields);
+    }
+    if (strcmp(line, "bytes") == 0) {
+        return put(fields);
     }
     if (strcmp(line, "wipe") == 0) {
         return set_all(file, fields);
@@ -276,6 +308,7 @@ int main(int argc, char **argv)
     if (argc == 2 && strcmp(argv[1], "--functions") == 0) {
         list(&size_of_frame);
         list(&image_of_frame);
+        list(&image_into_frame);
         for (size_t i = 0; i < sizeof questions / sizeof *questions; ++i) {
             list(&questions[i]);
         }

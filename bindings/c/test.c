@@ -305,6 +305,73 @@ static void image_files(void)
     CHECK(is_size(beamacorn_write_image(one_bit, 6, 10, 3, 1, 0, NULL, 0), 9, 0));
 }
 
+/* Reads the first n bytes of a file into a frame of 2 by 1 grey pixels that has 1 and 2, with a byte behind them. */
+static bool reads(const char *file, size_t n, uint32_t number, uint8_t left, uint8_t right)
+{
+    uint8_t buf[] = {1, 2, 0xa5};
+
+    return beamacorn_read_image(buf, 3, 2, 1, 8, 0, (const uint8_t *)file, n) == number && buf[0] == left && buf[1] == right && buf[2] == 0xa5;
+}
+
+/* A string literal with its length, its closing NUL left aside. */
+#define ALL(text) (text), sizeof(text) - 1
+
+static void files_read(void)
+{
+    static const char p4[] = "P4\r\n0010\t 3\n\x80\x3f\x00\x40\xff\xc0", p6[] = "P6\n1 1\n255\n\x01\x02\x03";
+    const uint8_t *one_bit = (const uint8_t *)p4, *colour = (const uint8_t *)p6;
+    uint8_t buf[8], out[16];
+
+    /* The file's padding is ignored, and the frame's kept, as is the tail. */
+    memset(buf, 0xff, sizeof buf);
+    CHECK(beamacorn_read_image(buf, 8, 10, 3, 1, 0, one_bit, sizeof p4 - 1) == 0);
+    CHECK(memcmp(buf, "\x80\x3f\x00\x7f\xff\xff\xff\xff", 8) == 0);
+    memset(buf, 0, sizeof buf);
+    CHECK(beamacorn_read_image(buf, 8, 10, 3, 1, 4294967295u, one_bit, sizeof p4) == 0);
+    CHECK(memcmp(buf, "\x80\x00\x00\x40\xff\xc0\x00\x00", 8) == 0);
+
+    /* Red first in the file, and in each order of the frame what was written. */
+    CHECK(beamacorn_read_image(buf, 3, 1, 1, 24, 0, colour, 14) == 0);
+    CHECK(buf[0] == 3 && buf[1] == 2 && buf[2] == 1);
+    CHECK(is_size(beamacorn_write_image(buf, 3, 1, 1, 24, 0, out, 16), 0, 14));
+    CHECK(beamacorn_read_image(buf, 4, 1, 1, 24, 1, out, 14) == 0);
+    CHECK(buf[0] == 1 && buf[1] == 2 && buf[2] == 3 && buf[3] == 0x40);
+
+    /* White space, leading zeros, and pixels that look like white space. */
+    CHECK(reads(ALL("P5\n2 1\n255\n\x07\xc8"), 0, 7, 200));
+    CHECK(reads(ALL("P5 2\t\t1\r255\r\n "), 0, 10, 32));
+    CHECK(reads(ALL("P5\n0002 01 0255\n9# and more"), 0, '9', '#'));
+
+    /* A bad header. */
+    CHECK(reads(ALL("P5\n# by hand\n2 1\n255\n\x07\xc8"), 11, 1, 2));
+    CHECK(reads(ALL("P5\n2 1#\n255\n\x07\xc8"), 11, 1, 2));
+    CHECK(reads(ALL("P5\n00002 1\n255\n\x07\xc8"), 11, 1, 2));
+    CHECK(reads(ALL("P5\n2 1\n254\n\x07\xc8"), 11, 1, 2));
+    CHECK(reads(ALL("P5\n2 1 \v255\n\x07\xc8"), 11, 1, 2));
+    CHECK(reads(ALL("P52 1\n255\n\x07\xc8"), 11, 1, 2));
+    CHECK(reads(ALL("P6\n2 1\n255\n\x07\xc8"), 11, 1, 2));
+    CHECK(reads(ALL("P5\n9 9\n25\n"), 11, 1, 2));
+    CHECK(reads(ALL("P5\n2 1\n255"), 11, 1, 2));
+    CHECK(reads(NULL, 0, 11, 1, 2));
+
+    /* Another size before too few pixels. */
+    CHECK(reads(ALL("P5\n1 2\n255\n\x07\xc8"), 13, 1, 2));
+    CHECK(reads(ALL("P5\n9 9\n255\n"), 13, 1, 2));
+    CHECK(reads(ALL("P5\n2 1\n255\n"), 12, 1, 2));
+    CHECK(reads(ALL("P5\n2 1\n255\n\x07"), 12, 1, 2));
+
+    /* The frame first: 1, 2, 3 and 10, whatever the file is. */
+    memset(buf, 0xa5, sizeof buf);
+    CHECK(beamacorn_read_image(buf, 0, 2049, 0, 3, 0, NULL, 0) == 1);
+    CHECK(beamacorn_read_image(buf, 0, 2049, 0, 2, 0, NULL, 0) == 2);
+    CHECK(beamacorn_read_image(buf, 5, 10, 3, 1, 0, NULL, 0) == 3);
+    CHECK(beamacorn_read_image(buf, 2, 3, 3, 2, 0, NULL, 0) == 3);
+    CHECK(beamacorn_read_image(buf, 3, 3, 3, 2, 0, NULL, 0) == 10);
+    CHECK(beamacorn_read_image(buf, 8, 0, 3, 1, 0, one_bit, sizeof p4 - 1) == 10);
+    CHECK(beamacorn_read_image(NULL, 0, 0, 0, 1, 0, NULL, 0) == 10);
+    CHECK(all(buf, 8, 0xa5));
+}
+
 int main(void)
 {
     lines();
@@ -316,6 +383,7 @@ int main(void)
     drawing();
     lit_pixels();
     image_files();
+    files_read();
     printf("%d checks, %d failed\n", checks, failures);
     return failures != 0;
 }

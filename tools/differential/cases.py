@@ -2,11 +2,12 @@
 
 from itertools import product
 
-from . import corners, frames, grids, lights
+from . import corners, frames, grids, lights, readings
 from .figures import Figures
 from .frames import Drawings
 from .images import Images
 from .lights import Lights
+from .readings import Readings
 from .refusals import Limits
 
 FRAMES = [*product((0, 1, 2, 3, 5, 8, 9, 13, 17, 24, 33), (0, 1, 2, 5, 12, 20)), (100, 80), (320, 9), (2, 2_048), (2_048, 2)]
@@ -56,11 +57,16 @@ def wide_and_high(sizes):
     return [size for size in sizes if max(size) >= LONG_SIDE]
 
 
+def once_by_model(random):
+    """Kinds and their batches, beyond what the Rust can answer."""
+    return {"every spoiled header of image files": readings.every_spoiled_header(random)}
+
+
 def round_by_model(random):
     """Kinds and what makes a batch, beyond what the Rust can answer."""
     far = Figures(random, -131_072, 131_071, -(2**31), 2**31 - 1)
     drawings = Drawings(random, FRAMES, far.low, far.high, with_fill=True, refused=0.2)
-    limits, files, lit = Limits(random), Images(random), Lights(random)
+    limits, files, read, lit = Limits(random), Images(random), Readings(random), Lights(random)
     return {
         "far lines": lambda: far.lines(1_000),
         "far connected lines": lambda: far.connected_lines(1_000),
@@ -68,6 +74,7 @@ def round_by_model(random):
         "far circles": lambda: far.circles(100),
         "drawing, fills and refused calls": lambda: drawings.sequences(300),
         "image files": lambda: files.sequences(150),
+        "image files read back": lambda: read.sequences(200),
         "lit pixels": lambda: lit.sequences(5),
         "questions at their limits": lambda: limits.questions(3_000),
         "calls at their limits": lambda: limits.calls(300),

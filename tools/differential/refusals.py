@@ -11,6 +11,8 @@ OTHER_DEPTHS = [0, 3, 5, 12, 33, 64, 2**32 - 1]
 DIAMETERS = [0, 1, 2, 131_071, 131_072, 131_073, 262_143, 262_144, 262_145, 2**31, 2**32 - 1]
 NUMBERS_NOT_TAKEN = ["", "-", "+1", " 1", "1 ", "1.0", "0x1", "--1", "12345678901", "4294967296", "-2147483649", "1\r", "é"]
 NUMBERS_TAKEN = ["-0", "0000000001", "-000000001", "2147483647", "-2147483648", "4294967295", "2147483648", "-1"]
+BYTES_NOT_TAKEN = ["0", "000", "0A", "0g", "0x00", "00 ", "é0", "ab" * 49]
+BYTES_TAKEN = ["0f", "ab" * 48]
 WORDS = {word: len(numbers) for word, numbers in FIELDS.items()}
 DRAWING = ["pixel", "fill", "line", "trace", "triangle", "outline", "circle"]
 QUESTIONS = ["length", "point", "online", "tracelength", "tracepoint", "ontrace", "inside", "span", "rows", "disc", "discspan"]
@@ -77,25 +79,28 @@ class Limits:
 
     def bad_line(self):
         """A line with one thing about it that may make it bad."""
-        word, count = self.random.choice(list(WORDS.items()))
-        numbers = [str(self.random.randrange(9)) for _ in range(count)]
-        changes = [self.other_word, self.other_number, self.other_last_number, self.other_fields, self.other_ending]
-        return self.random.choice(changes)(word, numbers)
+        word, kinds = self.random.choice(list(FIELDS.items()))
+        fields = [self.random.randbytes(self.random.randint(1, 4)).hex() if kind == "h" else str(self.random.randrange(9)) for kind in kinds]
+        changes = [self.other_word, self.other_field, self.other_first_number, self.other_last_number, self.other_fields, self.other_ending]
+        return self.random.choice(changes)(word, fields)
 
-    def other_word(self, word, numbers):
+    def other_word(self, word, fields):
         words = ["", "Line", "lines", "spanx", "circl\0", word + " ", " " + word, word.upper()]
-        return asked(self.random.choice(words), *numbers)
+        return asked(self.random.choice(words), *fields)
 
-    def other_number(self, word, numbers):
-        numbers = numbers or [""]
-        numbers[self.random.randrange(len(numbers))] = self.random.choice(NUMBERS_NOT_TAKEN + NUMBERS_TAKEN)
-        return asked(word, *numbers)
+    def other_field(self, word, fields):
+        fields = fields or [""]
+        fields[self.random.randrange(len(fields))] = self.random.choice(NUMBERS_NOT_TAKEN + NUMBERS_TAKEN + BYTES_NOT_TAKEN + BYTES_TAKEN)
+        return asked(word, *fields)
 
-    def other_last_number(self, word, numbers):
-        return asked(word, *numbers[:-1], self.random.choice([2, 255, 256, 4_096, 4_097, 65_536, 65_537]))
+    def other_first_number(self, word, fields):
+        return asked(word, self.random.choice([255, 256, 65_535, 65_536, 65_537, 2**32 - 1]), *fields[1:])
 
-    def other_fields(self, word, numbers):
-        return self.random.choice([asked(word, *numbers[:-1]), asked(word, *numbers, 1), asked(word, *numbers, ""), ""])
+    def other_last_number(self, word, fields):
+        return asked(word, *fields[:-1], self.random.choice([2, 255, 256, 4_096, 4_097, 65_536, 65_537]))
 
-    def other_ending(self, word, numbers):
-        return asked(word, *numbers) + self.random.choice([" ", "\t", "\r", "0" * self.random.randint(1, 130)])
+    def other_fields(self, word, fields):
+        return self.random.choice([asked(word, *fields[:-1]), asked(word, *fields, 1), asked(word, *fields, ""), ""])
+
+    def other_ending(self, word, fields):
+        return asked(word, *fields) + self.random.choice([" ", "\t", "\r", "0" * self.random.randint(1, 130)])

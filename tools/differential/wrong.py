@@ -1,5 +1,5 @@
-"""Models that are wrong in one way each: the errors that look right of 01 (docs/RULES.md) and others of their kind, in image files, counts, outlines and
-connected lines too, which a run must find."""
+"""Models that are wrong in one way each: the errors that look right of 01 (docs/RULES.md) and others of their kind, in image files, counts, outlines,
+connected lines and files that are read back too, which a run must find."""
 
 from contextlib import contextmanager
 from dataclasses import replace
@@ -93,6 +93,40 @@ def models():
         WrongModel("the extra points drawn on the left", Connected, "extra", on_the_left(Connected.extra), "every figure on a small frame"),
         WrongModel("an extra point drawn after the last", Connected, "moves_after", carried_on, "every figure on a small frame"),
         WrongModel("the extra points not drawn", Connected, "contains", lambda self, x, y: self.line.contains(x, y), "every figure on a small frame"),
+        WrongModel("CR not taken for white space", images, "shape", with_other(rb"\r", b""), "image files read back"),
+        WrongModel("tabs not taken for white space", images, "shape", with_other(rb"\t", b""), "every spoiled header of image files"),
+        WrongModel("C's white space taken, six kinds", images, "shape", with_other(rb"\r", rb"\r\v\f"), "image files read back"),
+        WrongModel("one byte of white space alone taken", images, "shape", with_other(b"]+", b"]"), "image files read back"),
+        WrongModel("no white space asked for behind the magic", images, "shape", with_other(b"]+", b"]*", 1), "image files read back"),
+        WrongModel("a comment taken", images, "shape", with_other(images.SPACE, rb"(?:[ \t\r\n]|#[^\n]*\n)"), "image files read back"),
+        WrongModel("five digits taken", images, "shape", with_other(b",4}", b",5}"), "image files read back"),
+        WrongModel("three digits at most", images, "shape", with_other(b",4}", b",3}"), "every spoiled header of image files"),
+        WrongModel("leading zeros refused", images, "shape", with_other(b"[0-9]{1,4}", b"(?!0[0-9])[0-9]{1,4}"), "image files read back"),
+        WrongModel("a plus taken before a field", images, "shape", with_other(b"([0-9]", b"([+]?[0-9]"), "image files read back"),
+        WrongModel("another byte taken behind a field", images, "shape", with_other(b"{1,4})", rb"{1,4})[^0-9 \t\r\n]?"), "image files read back"),
+        WrongModel("any magic taken", images, "shape", any_magic(images.shape), "image files read back"),
+        WrongModel("two bytes skipped behind the header", images, "shape", closed_by(rb"[ \t\r\n][\0-\xff]"), "image files read back"),
+        WrongModel("all white space skipped behind the header", images, "shape", closed_by(rb"[ \t\r\n]+"), "image files read back"),
+        WrongModel("any byte closes the header", images, "shape", closed_by(rb"[\0-\xff]"), "image files read back"),
+        WrongModel("a header that the file's end closes", images, "shape", closed_by(rb"(?:[ \t\r\n]|\Z)"), "every spoiled header of image files"),
+        WrongModel("a maximum of 254 taken", images, "MAXIMA", [254, 255], "image files read back"),
+        WrongModel("any maximum taken", images, "MAXIMA", range(10_000), "every spoiled header of image files"),
+        WrongModel("12 before 13", numbers, "file", in_order(12, 13), "image files read back"),
+        WrongModel("the size before the maximum", numbers, "file", size_first(numbers.file), "image files read back"),
+        WrongModel("the width alone compared", numbers, "file", compared_by(lambda width, height, frame: width == frame.width), "image files read back"),
+        WrongModel("a file of the same area taken", numbers, "file", compared_by(same_area), "image files read back"),
+        WrongModel("a pixel byte too few taken", numbers, "file", enough_by(lambda given, right: given >= right - 1), "image files read back"),
+        WrongModel("bytes behind the pixels refused", numbers, "file", enough_by(int.__eq__), "image files read back"),
+        WrongModel("10 behind 11", Replay, "load", asked_in_order(DESCRIPTION, BUFFER, FILE, FORMAT), "image files read back"),
+        WrongModel("10 before 3 in reading", Replay, "load", asked_in_order(DESCRIPTION, FORMAT, BUFFER, FILE), "image files read back"),
+        WrongModel("padding taken from the file", images, "read_into", byte_by_byte(1, images.read_into), "image files read back"),
+        WrongModel("the file's byte order kept", images, "read_into", byte_by_byte(24, images.read_into), "image files read back"),
+        WrongModel("padding cleared by reading", images, "read_into", over_zeros(images.read_into), "image files read back"),
+        WrongModel("bytes behind the pixels read into the tail", images, "read_into", into_the_tail(images.read_into), "image files read back"),
+        WrongModel("a short file read as far as it goes", Replay, "load", as_far_as_it_goes(Replay.load), "image files read back"),
+        WrongModel("the whole file buffer read", Replay, "load", whole_buffer(Replay.load), "image files read back"),
+        WrongModel("bytes put to the file buffer's begin", Replay, "bytes", to_the_begin(Replay.bytes), "every spoiled header of image files"),
+        WrongModel("bytes past the file buffer's end cut off", Replay, "bytes", cut_off(Replay.bytes), "bad lines"),
     ]
 
 
@@ -390,3 +424,146 @@ def wrapped(self, k):
 
 def by_steps(figure, k):
     return {7: k > (figure.line if isinstance(figure, Connected) else figure).major}
+
+
+def with_other(old, new, count=-1, shape=images.shape):
+    """Headers with some of their expression changed for another."""
+    return lambda depth: shape(depth).replace(old, new, count)
+
+
+def any_magic(shape):
+    return lambda depth: b"P[456]" + shape(depth)[2:]
+
+
+def closed_by(end, shape=images.shape):
+    """Headers with another end in the place of one byte of white space."""
+    return lambda depth: shape(depth).removesuffix(images.SPACE) + end
+
+
+def in_order(*order, tests=numbers.file):
+    def replacement(frame, file):
+        given = tests(frame, file)
+        return given if 11 in given else {number: given[number] for number in order}
+
+    return replacement
+
+
+def size_first(tests):
+    def replacement(frame, file):
+        with patch.object(images, "MAXIMA", range(10_000)):
+            other_size = tests(frame, file).get(13, False)
+        return {13: other_size} | tests(frame, file)
+
+    return replacement
+
+
+def same_area(width, height, frame):
+    return width * height == frame.width * frame.height
+
+
+def compared_by(alike, tests=numbers.file):
+    """The header's size held to the frame's in another way."""
+
+    def replacement(frame, file):
+        given = tests(frame, file)
+        if 13 in given:
+            width, height, _ = images.headed(frame.depth, file)
+            given[13] = not alike(width, height, frame)
+        return given
+
+    return replacement
+
+
+def enough_by(enough, tests=numbers.file):
+    """The bytes of pixels that are there held to those of the frame in another way."""
+
+    def replacement(frame, file):
+        given = tests(frame, file)
+        if 12 in given:
+            *_, pixels = images.headed(frame.depth, file)
+            given[12] = not enough(len(pixels), frame.size())
+        return given
+
+    return replacement
+
+
+def DESCRIPTION(self, file):
+    return numbers.description(self.now)
+
+
+def BUFFER(self, file):
+    return numbers.buffer(self.now, self.lent_bytes)
+
+
+def FORMAT(self, file):
+    return numbers.image(self.now)
+
+
+def FILE(self, file):
+    return numbers.file(self.now, file)
+
+
+def asked_in_order(*tests):
+    """Reading that asks its tests in another order."""
+
+    def replacement(self, length):
+        if length > replay.BYTES:
+            raise replay.BadLine
+        file = self.file_buffer[:length]
+        number = numbers.first(*(test(self, file) for test in tests))
+        if number == 0:
+            images.read_into(self.now, self.buffer, images.headed(self.now.depth, file)[-1])
+        return [number]
+
+    return replacement
+
+
+def byte_by_byte(depth, read_into):
+    """The frame's bytes copied from the file at a depth."""
+
+    def replacement(frame, buffer, pixels):
+        if frame.depth == depth:
+            buffer[:frame.size()] = pixels[:frame.size()]
+        else:
+            read_into(frame, buffer, pixels)
+
+    return replacement
+
+
+def over_zeros(read_into):
+    def replacement(frame, buffer, pixels):
+        buffer[:frame.size()] = bytes(frame.size())
+        read_into(frame, buffer, pixels)
+
+    return replacement
+
+
+def into_the_tail(read_into):
+    def replacement(frame, buffer, pixels):
+        read_into(frame, buffer, pixels)
+        behind = pixels[frame.size():frame.size() + 4]
+        buffer[frame.size():frame.size() + len(behind)] = behind
+
+    return replacement
+
+
+def as_far_as_it_goes(load):
+    def replacement(self, length):
+        answer = load(self, length)
+        if answer == [12]:
+            images.read_into(self.now, self.buffer, images.headed(self.now.depth, self.file_buffer[:length])[-1])
+        return answer
+
+    return replacement
+
+
+def whole_buffer(load):
+    return lambda self, length: load(self, max(length, replay.BYTES))
+
+
+def to_the_begin(put):
+    return lambda self, start, given: put(self, 0, given)
+
+
+def cut_off(put):
+    return lambda self, start, given: put(self, start, given[:max(replay.BYTES - start, 0)])

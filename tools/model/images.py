@@ -1,10 +1,14 @@
-"""02 (docs/RULES.md), "Image files": a frame as a Netpbm file."""
+"""02 (docs/RULES.md), "Image files" and "Image files read back": a frame as a Netpbm file, and a Netpbm file into a frame."""
 
 import re
+from dataclasses import replace
 
-from .frames import Frame
+from .frames import Frame, everywhere
 
 MAGIC = {1: "P4", 8: "P5", 24: "P6"}
+# What may stand between the fields of a header that is read, and a field: one to four digits.
+SPACE, FIELD = rb"[ \t\r\n]", rb"([0-9]{1,4})"
+MAXIMA = [255]
 
 
 def has_format(frame):
@@ -45,3 +49,25 @@ def picture(file):
                 raise ValueError(f"{len(pixels)} bytes of pixels where {frame.size()} are right")
             return frame, [frame.read(pixels, x, y) for y in range(frame.height) for x in range(frame.width)]
     raise ValueError(f"no header: {file[:16]}")
+
+
+def shape(depth):
+    """Every header that is taken for the depth, as a regular expression: the magic, white space before each field, and one byte of it more."""
+    fields = 2 if depth == 1 else 3
+    return MAGIC[depth].encode() + (SPACE + b"+" + FIELD) * fields + SPACE
+
+
+def headed(depth, file):
+    """Width and height as the header says them, and the bytes behind it; none if it is bad."""
+    taken = depth in MAGIC and re.match(shape(depth), file)
+    if not taken:
+        return None
+    width, height, *maximum = map(int, taken.groups())
+    return (width, height, file[taken.end():]) if all(number in MAXIMA for number in maximum) else None
+
+
+def read_into(frame, buffer, pixels):
+    """Sets every pixel of the frame to the colour that it has in the file's rows, which are those of a frame with its big end first."""
+    rows = replace(frame, big=True)
+    for x, y in frame.pixels(everywhere):
+        frame.set(buffer, x, y, rows.read(pixels, x, y))

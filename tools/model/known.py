@@ -1,5 +1,5 @@
 """The known answers 1 to 14 of 01 (docs/RULES.md), the listing of `spans`, errors that look right, and what was worked out by hand from 02's words: image
-files, counts of pixels, outlines over their fills, connected lines."""
+files, counts of pixels, outlines over their fills, connected lines, image files that are read back."""
 
 # Under each number the lines that ask for it and, behind ->, the answers.
 KNOWN = """
@@ -274,12 +274,123 @@ traced frame 8 4 1 0 4 -> 0 4
     trace 0 0 131072 0 2 -> 2 0
     frame 2049 4 3 0 3 -> 1 0
     trace 0 0 131072 0 2 -> 1 0
+read-back frame 10 3 1 0 8 -> 0 6
+    preset 255 -> 0
+    bytes 0 50340d0a303031300920330a803f0040ffc0 -> 0
+    load 0 -> 11
+    load 1 -> 11
+    load 11 -> 11
+    load 12 -> 12
+    load 17 -> 12
+    dump 0 8 -> ffffffffffffffff
+    load 18 -> 0
+    dump 0 8 -> 803f007fffffffff
+    preset 0 -> 0
+    load 65536 -> 0
+    dump 0 8 -> 80000040ffc00000
+    load 65537 -> bad line
+    file 0 20 -> 50340d0a303031300920330a803f0040ffc00000
+    frame 10 4 1 0 8 -> 0 8
+    load 11 -> 11
+    load 12 -> 13
+    load 65536 -> 13
+    frame 11 3 1 0 6 -> 0 6
+    load 18 -> 13
+    frame 3 10 1 0 10 -> 0 10
+    load 18 -> 13
+    frame 10 3 8 0 30 -> 0 30
+    load 18 -> 11
+    frame 10 3 2 0 9 -> 0 9
+    load 0 -> 10
+    frame 0 3 1 0 0 -> 0 0
+    load 0 -> 10
+    frame 10 0 1 0 0 -> 0 0
+    load 18 -> 10
+    frame 10 3 2 0 8 -> 0 9
+    load 18 -> 3
+    frame 2049 3 1 0 8 -> 2 0
+    load 18 -> 2
+    frame 2049 3 3 0 8 -> 1 0
+    load 18 -> 1
+red-first frame 1 1 24 0 4 -> 0 3
+    preset 9 -> 0
+    bytes 0 50360a3120310a3235350a010203 -> 0
+    load 14 -> 0
+    read 0 0 -> 0 66051
+    dump 0 5 -> 0302010909
+    frame 1 1 24 1 4 -> 0 3
+    load 14 -> 0
+    read 0 0 -> 0 66051
+    dump 0 4 -> 01020300
+    pixel 0 0 5 -> 0 1
+    image 65536 -> 0 14
+    pixel 0 0 9 -> 0 1
+    load 14 -> 0
+    dump 0 3 -> 000005
+shown bytes 65535 a5 -> 0
+    bytes 65535 a5a5 -> bad line
+    bytes 65536 00 -> bad line
+    file 65534 2 -> 00a5
+    bytes 65534 0a -> 0
+    bytes 0 0A -> bad line
+    bytes 0 0 -> bad line
+    bytes 0 000 -> bad line
+    bytes 0 ababababababababababababababababababababababababababababababababababababababababababababababababab -> bad line
+    bytes 1 abababababababababababababababababababababababababababababababababababababababababababababababab -> 0
+    bytes 3 0102 -> 0
+    file 0 50 -> 50abab0102abababababababababababababababababababababababababababababababababababababababababababab00
+    file 65534 2 -> 0aa5
 """
+
+# Files for a grey frame of 2 by 1 pixels, what reading each answers, and the frame's bytes after it.
+FILES = [
+    (b"P5\n2 1\n255\n\x07\xc8", 0, "07c8"),
+    (b"P5 2\t\t1\r255\r\n ", 0, "0a20"),
+    (b"P5\n0002 01 0255\n9#", 0, "3923"),
+    (b"P5\n2 1\n255\n78 and more", 0, "3738"),
+    # Comments, signs and white space that is none of the four.
+    (b"P5\n# by hand\n2 1\n255\n\x07\xc8", 11, "3738"),
+    (b"P5\n2 1#\n255\n\x07\xc8", 11, "3738"),
+    (b"P5\n-2 1\n255\n\x07\xc8", 11, "3738"),
+    (b"P5\n+2 1\n255\n\x07\xc8", 11, "3738"),
+    (b"P5\n2 1 \v255\n\x07\xc8", 11, "3738"),
+    (b"P5\n2\x001\n255\n\x07\xc8", 11, "3738"),
+    # The magic: of another format, in lower case, behind a space, without white space behind it.
+    (b"P6\n2 1\n255\n\x07\xc8", 11, "3738"),
+    (b"P2\n2 1\n255\n7 200\n", 11, "3738"),
+    (b"p5\n2 1\n255\n\x07\xc8", 11, "3738"),
+    (b" P5\n2 1\n255\n\x07\xc8", 11, "3738"),
+    (b"P52 1\n255\n\x07\xc8", 11, "3738"),
+    # Five digits, and none.
+    (b"P5\n00002 1\n255\n\x07\xc8", 11, "3738"),
+    (b"P5\n2 1\n00255\n\x07\xc8", 11, "3738"),
+    (b"P5\n2 1\n65535\n\x07\xc8", 11, "3738"),
+    (b"P5\n2 1\n \n\x07\xc8", 11, "3738"),
+    (b"P5\n", 11, "3738"),
+    # The maximum, before the size is looked at.
+    (b"P5\n2 1\n254\n\x07\xc8", 11, "3738"),
+    (b"P5\n2 1\n256\n\x07\xc8", 11, "3738"),
+    (b"P5\n9 9\n25\n", 11, "3738"),
+    # The size, before the pixels are counted.
+    (b"P5\n1 2\n255\n\x07\xc8", 13, "3738"),
+    (b"P5\n0 1\n255\n\x07\xc8", 13, "3738"),
+    (b"P5\n9999 1\n255\n\x07\xc8", 13, "3738"),
+    (b"P5\n9 9\n255\n", 13, "3738"),
+    # The end: within the maximum, behind it, behind the byte that closes the header, within the pixels.
+    (b"P5\n2 1\n25", 11, "3738"),
+    (b"P5\n2 1\n255", 11, "3738"),
+    (b"P5\n2 1\n255\n", 12, "3738"),
+    (b"P5\n2 1\n255\n\x07", 12, "3738"),
+    (b"P5\n2 1\n255\n\x07\xc8", 0, "07c8"),
+]
 
 
 def known():
-    """The lines and answers of KNOWN, with tabs."""
+    """The lines and answers of KNOWN and of FILES, with tabs."""
     for row in KNOWN.strip().splitlines():
         head = "" if row[0] == " " else row.split()[0]
         asked, answer = row.removeprefix(head).strip().split(" -> ")
-        yield asked.replace(" ", "\t"), answer.replace(" ", "\t")
+        yield asked.replace(" ", "\t"), answer if answer == "bad line" else answer.replace(" ", "\t")
+    yield "frame\t2\t1\t8\t0\t2", "0\t2"
+    for file, number, shown in FILES:
+        yield from [(f"bytes\t0\t{file.hex()}", "0"), (f"load\t{len(file)}", str(number)), ("dump\t0\t2", shown)]

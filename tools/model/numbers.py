@@ -47,3 +47,11 @@ def lights(frame):
 
 def output(frame, room):
     return {9: room < images.length(frame)}
+
+
+def file(frame, file):
+    header = images.headed(frame.depth, file)
+    if header is None:
+        return {11: True}
+    width, height, pixels = header
+    return {13: (width, height) != (frame.width, frame.height), 12: len(pixels) < frame.size()}

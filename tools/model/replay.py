@@ -14,18 +14,18 @@ BYTES = 65_536
 MOST_DUMPED = 4_096
 LONGEST_LINE = 128
 
-# The numbers that follow each word: s signed, u unsigned, of 32 bits.
+# The fields that follow each word: numbers of 32 bits, s signed and u unsigned, and h for bytes as hexadecimal digits.
 FIELDS = {
     "frame": "uuuuu", "preset": "u", "read": "ss", "dump": "uu", "lit": "",
-    "image": "u", "imagesize": "", "file": "uu", "wipe": "u",
+    "image": "u", "imagesize": "", "file": "uu", "wipe": "u", "bytes": "uh", "load": "u",
     "pixel": "ssu", "fill": "u", "line": "ssssu", "trace": "ssssu", "triangle": "ssssssu", "outline": "ssssssu", "circle": "ssuu",
     "length": "ssss", "point": "ssssu", "online": "ssssss", "tracelength": "ssss", "tracepoint": "ssssu", "ontrace": "ssssss",
     "inside": "ssssssss", "span": "sssssss", "rows": "ssssss", "disc": "ssuss", "discspan": "ssus",
 }
-NUMBER = {"s": "(-?[0-9]{1,10})", "u": "([0-9]{1,10})"}
+FIELD = {"s": "(-?[0-9]{1,10})", "u": "([0-9]{1,10})", "h": "((?:[0-9a-f]{2}){1,48})"}
 RANGE = {"s": range(-(2**31), 2**31), "u": range(2**32)}
 SHAPE = {
-    word: re.compile("\t".join([word, *(NUMBER[kind] for kind in kinds)]).encode()) for word, kinds in FIELDS.items()
+    word: re.compile("\t".join([word, *(FIELD[kind] for kind in kinds)]).encode()) for word, kinds in FIELDS.items()
 }
 
 # Questions on one figure often stand together.
@@ -100,6 +100,22 @@ class Replay:
     def wipe(self, value):
         self.file_buffer = filled(value)
         return [0]
+
+    def bytes(self, start, given):
+        if start + len(given) > BYTES:
+            raise BadLine
+        self.file_buffer[start:start + len(given)] = given
+        return [0]
+
+    def load(self, length):
+        if length > BYTES:
+            raise BadLine
+        file = self.file_buffer[:length]
+        number = numbers.first(*self.lent(), numbers.image(self.now), numbers.file(self.now, file))
+        if number == 0:
+            *_, pixels = images.headed(self.now.depth, file)
+            images.read_into(self.now, self.buffer, pixels)
+        return [number]
 
     # Drawing calls.
 
@@ -223,7 +239,13 @@ def parsed(text):
     taken = word in FIELDS and len(text) <= LONGEST_LINE and SHAPE[word].fullmatch(text)
     if not taken:
         raise BadLine
-    given = [int(field) for field in taken.groups()]
-    if not all(number in RANGE[kind] for number, kind in zip(given, FIELDS[word])):
+    return word, [valued(kind, field) for kind, field in zip(FIELDS[word], taken.groups())]
+
+
+def valued(kind, field):
+    if kind == "h":
+        return bytes.fromhex(field.decode())
+    number = int(field)
+    if number not in RANGE[kind]:
         raise BadLine
-    return word, given
+    return number

@@ -25,6 +25,12 @@ impl Refusal {
     pub const SHORT_OUTPUT: Refusal = Refusal(NonZeroU32::new(9).unwrap());
     /// 10: the operation takes no frame of this depth, or none without pixels. No question is refused with it.
     pub const UNFIT_FRAME: Refusal = Refusal(NonZeroU32::new(10).unwrap());
+    /// 11: an image file does not begin with a header of the frame's format. No question is refused with it.
+    pub const BAD_HEADER: Refusal = Refusal(NonZeroU32::new(11).unwrap());
+    /// 12: an image file has fewer bytes of pixels than its picture takes. No question is refused with it.
+    pub const SHORT_FILE: Refusal = Refusal(NonZeroU32::new(12).unwrap());
+    /// 13: the picture of an image file is not as wide and as high as the frame. No question is refused with it.
+    pub const OTHER_SIZE: Refusal = Refusal(NonZeroU32::new(13).unwrap());
 
     /// The number in the library's table.
     pub const fn number(self) -> u32 {
@@ -48,6 +54,9 @@ impl fmt::Display for Refusal {
             Refusal::PAST_LAST_STEP => "the step is past the line's last",
             Refusal::SHORT_OUTPUT => "the output is too short",
             Refusal::UNFIT_FRAME => "the frame's depth or size is not taken",
+            Refusal::BAD_HEADER => "the file's header is not taken",
+            Refusal::SHORT_FILE => "the file has too few pixels",
+            Refusal::OTHER_SIZE => "the file's picture has another size",
             _ => "see the library's table",
         };
         write!(f, "refused with {}: {why}", self.0)

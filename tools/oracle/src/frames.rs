@@ -109,7 +109,7 @@ fn boxed<F: Frame + 'static>(new: fn() -> F) -> Box<dyn Frame> {
 }
 
 /// What may change the bytes.
-const CHANGES: [&str; 8] = ["preset", "pixel", "fill", "line", "trace", "triangle", "outline", "circle"];
+const CHANGES: [&str; 9] = ["preset", "pixel", "fill", "line", "trace", "triangle", "outline", "circle", "load"];
 
 /// The frame described last; none if the Rust can't have it.
 #[derive(Default)]

@@ -60,6 +60,8 @@ extern "C" {
     fn beamacorn_image_size(width: u32, height: u32, depth: u32) -> Size;
     fn beamacorn_write_image(buf: *const u8, len: usize, width: u32, height: u32, depth: u32, order: u32,
         out: *mut u8, out_len: usize) -> Size;
+    fn beamacorn_read_image(buf: *mut u8, len: usize, width: u32, height: u32, depth: u32, order: u32,
+        file: *const u8, file_len: usize) -> u32;
 }
 
 pub type Place = (i32, i32);
@@ -86,6 +88,12 @@ pub fn image_size(width: u32, height: u32, depth: u32) -> usize {
 /// Writes it, and says the same.
 pub fn write_image(buf: &[u8], width: u32, height: u32, depth: u32, order: u32, out: &mut [u8]) -> usize {
     accepted(unsafe { beamacorn_write_image(buf.as_ptr(), buf.len(), width, height, depth, order, out.as_mut_ptr(), out.len()) })
+}
+
+/// Reads the file into the frame.
+pub fn read_image(buf: &mut [u8], width: u32, height: u32, depth: u32, order: u32, file: &[u8]) {
+    let number = unsafe { beamacorn_read_image(buf.as_mut_ptr(), buf.len(), width, height, depth, order, file.as_ptr(), file.len()) };
+    assert_eq!(number, 0, "our library refused");
 }
 
 /// How many pixels of a one-bit frame are lit.

@@ -29,6 +29,7 @@ use Rattle.beamacorn.proofs.beamacorn_draw_circle.Reads as draw-circle
 use Rattle.beamacorn.proofs.beamacorn_lit.Reads as lit
 use Rattle.beamacorn.proofs.beamacorn_image_size.Reads as image-size
 use Rattle.beamacorn.proofs.beamacorn_write_image.Reads as write-image
+use Rattle.beamacorn.proofs.beamacorn_read_image.Reads as read-image
 
 -- ---- questions
 pub line-length-one : One line-length.Post
@@ -103,3 +104,7 @@ image-size-one κs args r q s t = same
 pub write-image-one : (κs : _) (args : _) (r q : _) (s t : _) → write-image.Post κs args r s → write-image.Post κs args q t
     → _≡_ {A = Size × List ℕ} (r, now (s .1 .1 .1 .1 .1 .0)) (q, now (t .1 .1 .1 .1 .1 .0))
 write-image-one κs args r q s t = same
+
+pub read-image-one : (κs : _) (args : _) (r q : _) (s t : _) → read-image.Post κs args r s → read-image.Post κs args q t
+    → _≡_ {A = ℕ × List ℕ} (r, now (s .0)) (q, now (t .0))
+read-image-one κs args r q s t = same

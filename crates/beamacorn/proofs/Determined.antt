@@ -102,7 +102,7 @@ image-size-one κs args r q s t = same
 
 -- the output is lent last
 pub write-image-one : (κs : _) (args : _) (r q : _) (s t : _) → write-image.Post κs args r s → write-image.Post κs args q t
-    → _≡_ {A = Size × List ℕ} (r, now (s .1 .1 .1 .1 .1 .0)) (q, now (t .1 .1 .1 .1 .1 .0))
+    → _≡_ {A = Size × List ℕ} (r, now (s .1 .1 .1 .1 .1 .1 .0)) (q, now (t .1 .1 .1 .1 .1 .1 .0))
 write-image-one κs args r q s t = same
 
 pub read-image-one : (κs : _) (args : _) (r q : _) (s t : _) → read-image.Post κs args r s → read-image.Post κs args q t

@@ -109,64 +109,64 @@ pub circle-row-span-at : (κs : _) (a : _) (r : _) (s : _) → circle-row-span.P
     (circle.spanEnd (a .0, a .1 .0) (a .1 .1 .0) (a .1 .1 .1 .0))
 circle-row-span-at κs a r s h = h
 
--- ---- frames: width, height, depth, and but for the size order; the buffer comes first, the colour last
+-- ---- frames: width, height, depth, but for the size order, and the distance; the buffer comes first, the colour last
 pub frame-size-at : (κs : _) (a : _) (r : _) (s : _) → frame-size.Post κs a r s
-    → r ≡ sized (first (descriptionTests (frameOf (a .0) (a .1 .0) (a .1 .1 .0) 0))) (size (frameOf (a .0) (a .1 .0) (a .1 .1 .0) 0))
+    → r ≡ sized (first (descriptionTests (frameOf (a .0) (a .1 .0) (a .1 .1 .0) 0 (a .1 .1 .1 .0)))) (size (frameOf (a .0) (a .1 .0) (a .1 .1 .0) 0 (a .1 .1 .1 .0)))
 frame-size-at κs a r s h = h
 
 pub pixel-at : (κs : _) (a : _) (r : _) (s : _) → pixel.Post κs a r s
-    → r ≡ pixelOn (a .1 .0) (a .1 .1 .0) (a .1 .1 .1 .0) (a .1 .1 .1 .1 .0) (a .1 .1 .1 .1 .1 .0, a .1 .1 .1 .1 .1 .1 .0) (a .0 .now)
+    → r ≡ pixelOn (a .1 .0) (a .1 .1 .0) (a .1 .1 .1 .0) (a .1 .1 .1 .1 .0) (a .1 .1 .1 .1 .1 .0) (a .1 .1 .1 .1 .1 .1 .0, a .1 .1 .1 .1 .1 .1 .1 .0) (a .0 .now)
 pixel-at κs a r s h = h
 
-pub lit-at : (κs : _) (a : _) (r : _) (s : _) → lit.Post κs a r s → r ≡ litOn (a .1 .0) (a .1 .1 .0) (a .1 .1 .1 .0) (a .1 .1 .1 .1 .0) (a .0 .now)
+pub lit-at : (κs : _) (a : _) (r : _) (s : _) → lit.Post κs a r s → r ≡ litOn (a .1 .0) (a .1 .1 .0) (a .1 .1 .1 .0) (a .1 .1 .1 .1 .0) (a .1 .1 .1 .1 .1 .0) (a .0 .now)
 lit-at κs a r s h = h
 
 pub set-pixel-at : (κs : _) (a : _) (r : _) (s : _) → set-pixel.Post κs a r s
     → _≡_ {A = Placed × List ℕ} (r, s .0 .now)
-    (placedOn (a .1 .0) (a .1 .1 .0) (a .1 .1 .1 .0) (a .1 .1 .1 .1 .0) (a .1 .1 .1 .1 .1 .0, a .1 .1 .1 .1 .1 .1 .0) (a .1 .1 .1 .1 .1 .1 .1 .0) (a .0 .now))
+    (placedOn (a .1 .0) (a .1 .1 .0) (a .1 .1 .1 .0) (a .1 .1 .1 .1 .0) (a .1 .1 .1 .1 .1 .0) (a .1 .1 .1 .1 .1 .1 .0, a .1 .1 .1 .1 .1 .1 .1 .0) (a .1 .1 .1 .1 .1 .1 .1 .1 .0) (a .0 .now))
 set-pixel-at κs a r s h = h
 
 pub fill-at : (κs : _) (a : _) (r : _) (s : _) → fill.Post κs a r s
-    → _≡_ {A = Drawn × List ℕ} (r, s .0 .now) (outcomeOn (a .1 .0) (a .1 .1 .0) (a .1 .1 .1 .0) (a .1 .1 .1 .1 .0) (fillDrawing (a .1 .1 .1 .1 .1 .0)) (a .0 .now))
+    → _≡_ {A = Drawn × List ℕ} (r, s .0 .now) (outcomeOn (a .1 .0) (a .1 .1 .0) (a .1 .1 .1 .0) (a .1 .1 .1 .1 .0) (a .1 .1 .1 .1 .1 .0) (fillDrawing (a .1 .1 .1 .1 .1 .1 .0)) (a .0 .now))
 fill-at κs a r s h = h
 
 pub draw-line-at : (κs : _) (a : _) (r : _) (s : _) → draw-line.Post κs a r s
-    → _≡_ {A = Drawn × List ℕ} (r, s .0 .now) (outcomeOn (a .1 .0) (a .1 .1 .0) (a .1 .1 .1 .0) (a .1 .1 .1 .1 .0)
-    (lineDrawing (a .1 .1 .1 .1 .1 .0, a .1 .1 .1 .1 .1 .1 .0) (a .1 .1 .1 .1 .1 .1 .1 .0, a .1 .1 .1 .1 .1 .1 .1 .1 .0) (a .1 .1 .1 .1 .1 .1 .1 .1 .1 .0)) (a .0 .now))
+    → _≡_ {A = Drawn × List ℕ} (r, s .0 .now) (outcomeOn (a .1 .0) (a .1 .1 .0) (a .1 .1 .1 .0) (a .1 .1 .1 .1 .0) (a .1 .1 .1 .1 .1 .0)
+    (lineDrawing (a .1 .1 .1 .1 .1 .1 .0, a .1 .1 .1 .1 .1 .1 .1 .0) (a .1 .1 .1 .1 .1 .1 .1 .1 .0, a .1 .1 .1 .1 .1 .1 .1 .1 .1 .0) (a .1 .1 .1 .1 .1 .1 .1 .1 .1 .1 .0)) (a .0 .now))
 draw-line-at κs a r s h = h
 
 pub draw-connected-line-at : (κs : _) (a : _) (r : _) (s : _) → draw-connected-line.Post κs a r s
-    → _≡_ {A = Drawn × List ℕ} (r, s .0 .now) (outcomeOn (a .1 .0) (a .1 .1 .0) (a .1 .1 .1 .0) (a .1 .1 .1 .1 .0)
-    (connectedDrawing (a .1 .1 .1 .1 .1 .0, a .1 .1 .1 .1 .1 .1 .0) (a .1 .1 .1 .1 .1 .1 .1 .0, a .1 .1 .1 .1 .1 .1 .1 .1 .0) (a .1 .1 .1 .1 .1 .1 .1 .1 .1 .0)) (a .0 .now))
+    → _≡_ {A = Drawn × List ℕ} (r, s .0 .now) (outcomeOn (a .1 .0) (a .1 .1 .0) (a .1 .1 .1 .0) (a .1 .1 .1 .1 .0) (a .1 .1 .1 .1 .1 .0)
+    (connectedDrawing (a .1 .1 .1 .1 .1 .1 .0, a .1 .1 .1 .1 .1 .1 .1 .0) (a .1 .1 .1 .1 .1 .1 .1 .1 .0, a .1 .1 .1 .1 .1 .1 .1 .1 .1 .0) (a .1 .1 .1 .1 .1 .1 .1 .1 .1 .1 .0)) (a .0 .now))
 draw-connected-line-at κs a r s h = h
 
 pub draw-triangle-at : (κs : _) (a : _) (r : _) (s : _) → draw-triangle.Post κs a r s
-    → _≡_ {A = Drawn × List ℕ} (r, s .0 .now) (outcomeOn (a .1 .0) (a .1 .1 .0) (a .1 .1 .1 .0) (a .1 .1 .1 .1 .0)
-    (triangleDrawing (a .1 .1 .1 .1 .1 .0, a .1 .1 .1 .1 .1 .1 .0) (a .1 .1 .1 .1 .1 .1 .1 .0, a .1 .1 .1 .1 .1 .1 .1 .1 .0)
-    (a .1 .1 .1 .1 .1 .1 .1 .1 .1 .0, a .1 .1 .1 .1 .1 .1 .1 .1 .1 .1 .0) (a .1 .1 .1 .1 .1 .1 .1 .1 .1 .1 .1 .0)) (a .0 .now))
+    → _≡_ {A = Drawn × List ℕ} (r, s .0 .now) (outcomeOn (a .1 .0) (a .1 .1 .0) (a .1 .1 .1 .0) (a .1 .1 .1 .1 .0) (a .1 .1 .1 .1 .1 .0)
+    (triangleDrawing (a .1 .1 .1 .1 .1 .1 .0, a .1 .1 .1 .1 .1 .1 .1 .0) (a .1 .1 .1 .1 .1 .1 .1 .1 .0, a .1 .1 .1 .1 .1 .1 .1 .1 .1 .0)
+    (a .1 .1 .1 .1 .1 .1 .1 .1 .1 .1 .0, a .1 .1 .1 .1 .1 .1 .1 .1 .1 .1 .1 .0) (a .1 .1 .1 .1 .1 .1 .1 .1 .1 .1 .1 .1 .0)) (a .0 .now))
 draw-triangle-at κs a r s h = h
 
 pub draw-outline-at : (κs : _) (a : _) (r : _) (s : _) → draw-outline.Post κs a r s
-    → _≡_ {A = Drawn × List ℕ} (r, s .0 .now) (outcomeOn (a .1 .0) (a .1 .1 .0) (a .1 .1 .1 .0) (a .1 .1 .1 .1 .0)
-    (outlineDrawing (a .1 .1 .1 .1 .1 .0, a .1 .1 .1 .1 .1 .1 .0) (a .1 .1 .1 .1 .1 .1 .1 .0, a .1 .1 .1 .1 .1 .1 .1 .1 .0)
-    (a .1 .1 .1 .1 .1 .1 .1 .1 .1 .0, a .1 .1 .1 .1 .1 .1 .1 .1 .1 .1 .0) (a .1 .1 .1 .1 .1 .1 .1 .1 .1 .1 .1 .0)) (a .0 .now))
+    → _≡_ {A = Drawn × List ℕ} (r, s .0 .now) (outcomeOn (a .1 .0) (a .1 .1 .0) (a .1 .1 .1 .0) (a .1 .1 .1 .1 .0) (a .1 .1 .1 .1 .1 .0)
+    (outlineDrawing (a .1 .1 .1 .1 .1 .1 .0, a .1 .1 .1 .1 .1 .1 .1 .0) (a .1 .1 .1 .1 .1 .1 .1 .1 .0, a .1 .1 .1 .1 .1 .1 .1 .1 .1 .0)
+    (a .1 .1 .1 .1 .1 .1 .1 .1 .1 .1 .0, a .1 .1 .1 .1 .1 .1 .1 .1 .1 .1 .1 .0) (a .1 .1 .1 .1 .1 .1 .1 .1 .1 .1 .1 .1 .0)) (a .0 .now))
 draw-outline-at κs a r s h = h
 
 pub draw-circle-at : (κs : _) (a : _) (r : _) (s : _) → draw-circle.Post κs a r s
-    → _≡_ {A = Drawn × List ℕ} (r, s .0 .now) (outcomeOn (a .1 .0) (a .1 .1 .0) (a .1 .1 .1 .0) (a .1 .1 .1 .1 .0)
-    (circleDrawing (a .1 .1 .1 .1 .1 .0, a .1 .1 .1 .1 .1 .1 .0) (a .1 .1 .1 .1 .1 .1 .1 .0) (a .1 .1 .1 .1 .1 .1 .1 .1 .0)) (a .0 .now))
+    → _≡_ {A = Drawn × List ℕ} (r, s .0 .now) (outcomeOn (a .1 .0) (a .1 .1 .0) (a .1 .1 .1 .0) (a .1 .1 .1 .1 .0) (a .1 .1 .1 .1 .1 .0)
+    (circleDrawing (a .1 .1 .1 .1 .1 .1 .0, a .1 .1 .1 .1 .1 .1 .1 .0) (a .1 .1 .1 .1 .1 .1 .1 .1 .0) (a .1 .1 .1 .1 .1 .1 .1 .1 .1 .0)) (a .0 .now))
 draw-circle-at κs a r s h = h
 
 -- ---- image files: the same of the frame, and the output or the file comes last
 pub image-size-at : (κs : _) (a : _) (r : _) (s : _) → image-size.Post κs a r s
-    → r ≡ sized (first (imageSizeTests (frameOf (a .0) (a .1 .0) (a .1 .1 .0) 0))) (imageLength (frameOf (a .0) (a .1 .0) (a .1 .1 .0) 0))
+    → r ≡ sized (first (imageSizeTests (frameOf (a .0) (a .1 .0) (a .1 .1 .0) 0 (a .1 .1 .1 .0)))) (imageLength (frameOf (a .0) (a .1 .0) (a .1 .1 .0) 0 (a .1 .1 .1 .0)))
 image-size-at κs a r s h = h
 
 pub write-image-at : (κs : _) (a : _) (r : _) (s : _) → write-image.Post κs a r s
-    → _≡_ {A = Size × List ℕ} (r, s .1 .1 .1 .1 .1 .0 .now)
-    (written (frameOf (a .1 .0) (a .1 .1 .0) (a .1 .1 .1 .0) (a .1 .1 .1 .1 .0)) (a .0 .now) (a .1 .1 .1 .1 .1 .0 .now))
+    → _≡_ {A = Size × List ℕ} (r, s .1 .1 .1 .1 .1 .1 .0 .now)
+    (written (frameOf (a .1 .0) (a .1 .1 .0) (a .1 .1 .1 .0) (a .1 .1 .1 .1 .0) (a .1 .1 .1 .1 .1 .0)) (a .0 .now) (a .1 .1 .1 .1 .1 .1 .0 .now))
 write-image-at κs a r s h = h
 
 pub read-image-at : (κs : _) (a : _) (r : _) (s : _) → read-image.Post κs a r s
-    → _≡_ {A = ℕ × List ℕ} (r, s .0 .now) (loaded (frameOf (a .1 .0) (a .1 .1 .0) (a .1 .1 .1 .0) (a .1 .1 .1 .1 .0)) (a .1 .1 .1 .1 .1 .0 .now) (a .0 .now))
+    → _≡_ {A = ℕ × List ℕ} (r, s .0 .now) (loaded (frameOf (a .1 .0) (a .1 .1 .0) (a .1 .1 .1 .0) (a .1 .1 .1 .1 .0) (a .1 .1 .1 .1 .1 .0)) (a .1 .1 .1 .1 .1 .1 .0 .now) (a .0 .now))
 read-image-at κs a r s h = h

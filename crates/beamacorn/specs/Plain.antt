@@ -21,24 +21,24 @@ use Rattle.lights.specs.Answer.{litTests, lights}
 use Rattle.beamacorn.specs.declared.Step.{Step}
 
 -- 01, "Packed frames", "little or big end first as the description says": 0 is little, anything else big
-abbrev pub frameOf : ℕ → ℕ → ℕ → ℕ → Frame
-frameOf width height depth order = described width height depth (not (eqb order 0))
+abbrev pub frameOf : ℕ → ℕ → ℕ → ℕ → ℕ → Frame
+frameOf width height depth order distance = described width height depth (not (eqb order 0)) distance
 
 -- what a call that draws on the whole of that frame answers and leaves
-abbrev pub outcomeOn : ℕ → ℕ → ℕ → ℕ → Drawing → List ℕ → Drawn × List ℕ
-outcomeOn width height depth order d b = let f = frameOf width height depth order in outcome f (wholeWindow f) d b
+abbrev pub outcomeOn : ℕ → ℕ → ℕ → ℕ → ℕ → Drawing → List ℕ → Drawn × List ℕ
+outcomeOn width height depth order distance d b = let f = frameOf width height depth order distance in outcome f (wholeWindow f) d b
 
 -- what setting a pixel of it answers and leaves
-abbrev pub placedOn : ℕ → ℕ → ℕ → ℕ → Point → ℕ → List ℕ → Placed × List ℕ
-placedOn width height depth order p colour b = let f = frameOf width height depth order in pixelOutcome f (wholeWindow f) p colour b
+abbrev pub placedOn : ℕ → ℕ → ℕ → ℕ → ℕ → Point → ℕ → List ℕ → Placed × List ℕ
+placedOn width height depth order distance p colour b = let f = frameOf width height depth order distance in pixelOutcome f (wholeWindow f) p colour b
 
 -- what counting its lit pixels answers
-abbrev pub litOn : ℕ → ℕ → ℕ → ℕ → List ℕ → Lights
-litOn width height depth order b = let f = frameOf width height depth order in lights (first (litTests f (length b))) (litIn (raster f) b)
+abbrev pub litOn : ℕ → ℕ → ℕ → ℕ → ℕ → List ℕ → Lights
+litOn width height depth order distance b = let f = frameOf width height depth order distance in lights (first (litTests f (length b))) (litIn (raster f) b)
 
 -- what reading a pixel of it answers
-abbrev pub pixelOn : ℕ → ℕ → ℕ → ℕ → Point → List ℕ → Read
-pixelOn width height depth order p b = let f = frameOf width height depth order in read (first (readTests f (length b) p)) (colourAt f p b)
+abbrev pub pixelOn : ℕ → ℕ → ℕ → ℕ → ℕ → Point → List ℕ → Read
+pixelOn width height depth order distance p b = let f = frameOf width height depth order distance in read (first (readTests f (length b) p)) (colourAt f p b)
 
 -- the point's coordinates beside its number
 abbrev pub plainStep : line.Step → Step

@@ -186,18 +186,23 @@ pub extern "C" fn beamacorn_circle_row_span(
 // ---- frames and drawing
 
 // The description of a frame. The order is 0 where the little end comes first; anything else says that the big end does.
-fn frame(width: u32, height: u32, depth: u32, order: u32) -> Frame
-    ensures { λ r. ⌜ r ≡ frameOf width height depth order ⌝ }
+fn frame(width: u32, height: u32, depth: u32, order: u32, distance: u32) -> Frame
+    ensures { λ r. ⌜ r ≡ frameOf width height depth order distance ⌝ }
 {
-    Frame::new(width, height, depth, order != 0)
+    Frame::new(width, height, depth, order != 0, distance)
 }
 
 // The bytes that a buffer for the frame must have.
 #[no_mangle]
-pub extern "C" fn beamacorn_frame_size(width: u32, height: u32, depth: u32) -> framebuffer::Size
-    ensures { λ r. ⌜ r ≡ sized (first (descriptionTests (frameOf width height depth 0))) (size (frameOf width height depth 0)) ⌝ }
+pub extern "C" fn beamacorn_frame_size(
+    width: u32,
+    height: u32,
+    depth: u32,
+    distance: u32,
+) -> framebuffer::Size
+    ensures { λ r. ⌜ r ≡ sized (first (descriptionTests (frameOf width height depth 0 distance))) (size (frameOf width height depth 0 distance)) ⌝ }
 {
-    framebuffer::buffer_size_bpp(frame(width, height, depth, 0))
+    framebuffer::buffer_size_bpp(frame(width, height, depth, 0, distance))
 }
 
 // The pixel at (x, y) gets the colour; outside the frame nothing changes, and the answer says so.
@@ -208,13 +213,19 @@ pub extern "C" fn beamacorn_set_pixel(
     height: u32,
     depth: u32,
     order: u32,
+    distance: u32,
     x: i32,
     y: i32,
     colour: u32,
 ) -> framebuffer::Placed
-    ensures { λ r. ⌜ (r, now (buf .exit)) ≡ placedOn width height depth order (x, y) colour (now (buf .entry)) ⌝ }
+    ensures { λ r. ⌜ (r, now (buf .exit)) ≡ placedOn width height depth order distance (x, y) colour (now (buf .entry)) ⌝ }
 {
-    framebuffer::set_pixel(buf, frame(width, height, depth, order), Point(x, y), colour)
+    framebuffer::set_pixel(
+        buf,
+        frame(width, height, depth, order, distance),
+        Point(x, y),
+        colour,
+    )
 }
 
 // The colour of the pixel at (x, y).
@@ -225,12 +236,17 @@ pub extern "C" fn beamacorn_pixel(
     height: u32,
     depth: u32,
     order: u32,
+    distance: u32,
     x: i32,
     y: i32,
 ) -> framebuffer::Read
-    ensures { λ r. ⌜ r ≡ pixelOn width height depth order (x, y) (now (buf .entry)) ⌝ }
+    ensures { λ r. ⌜ r ≡ pixelOn width height depth order distance (x, y) (now (buf .entry)) ⌝ }
 {
-    framebuffer::pixel(buf, frame(width, height, depth, order), Point(x, y))
+    framebuffer::pixel(
+        buf,
+        frame(width, height, depth, order, distance),
+        Point(x, y),
+    )
 }
 
 // Every pixel of the frame gets the colour.
@@ -241,11 +257,12 @@ pub extern "C" fn beamacorn_fill(
     height: u32,
     depth: u32,
     order: u32,
+    distance: u32,
     colour: u32,
 ) -> Drawn
-    ensures { λ r. ⌜ (r, now (buf .exit)) ≡ outcomeOn width height depth order (fillDrawing colour) (now (buf .entry)) ⌝ }
+    ensures { λ r. ⌜ (r, now (buf .exit)) ≡ outcomeOn width height depth order distance (fillDrawing colour) (now (buf .entry)) ⌝ }
 {
-    framebuffer::fill(buf, frame(width, height, depth, order), colour)
+    framebuffer::fill(buf, frame(width, height, depth, order, distance), colour)
 }
 
 // Draws the line from (x1, y1) to (x2, y2).
@@ -256,17 +273,18 @@ pub extern "C" fn beamacorn_draw_line(
     height: u32,
     depth: u32,
     order: u32,
+    distance: u32,
     x1: i32,
     y1: i32,
     x2: i32,
     y2: i32,
     colour: u32,
 ) -> Drawn
-    ensures { λ r. ⌜ (r, now (buf .exit)) ≡ outcomeOn width height depth order (lineDrawing (x1, y1) (x2, y2) colour) (now (buf .entry)) ⌝ }
+    ensures { λ r. ⌜ (r, now (buf .exit)) ≡ outcomeOn width height depth order distance (lineDrawing (x1, y1) (x2, y2) colour) (now (buf .entry)) ⌝ }
 {
     drawing::draw_line(
         buf,
-        frame(width, height, depth, order),
+        frame(width, height, depth, order, distance),
         Point(x1, y1),
         Point(x2, y2),
         colour,
@@ -281,17 +299,18 @@ pub extern "C" fn beamacorn_draw_connected_line(
     height: u32,
     depth: u32,
     order: u32,
+    distance: u32,
     x1: i32,
     y1: i32,
     x2: i32,
     y2: i32,
     colour: u32,
 ) -> Drawn
-    ensures { λ r. ⌜ (r, now (buf .exit)) ≡ outcomeOn width height depth order (connectedDrawing (x1, y1) (x2, y2) colour) (now (buf .entry)) ⌝ }
+    ensures { λ r. ⌜ (r, now (buf .exit)) ≡ outcomeOn width height depth order distance (connectedDrawing (x1, y1) (x2, y2) colour) (now (buf .entry)) ⌝ }
 {
     drawing::draw_connected_line(
         buf,
-        frame(width, height, depth, order),
+        frame(width, height, depth, order, distance),
         Point(x1, y1),
         Point(x2, y2),
         colour,
@@ -306,6 +325,7 @@ pub extern "C" fn beamacorn_draw_triangle(
     height: u32,
     depth: u32,
     order: u32,
+    distance: u32,
     x1: i32,
     y1: i32,
     x2: i32,
@@ -314,11 +334,11 @@ pub extern "C" fn beamacorn_draw_triangle(
     y3: i32,
     colour: u32,
 ) -> Drawn
-    ensures { λ r. ⌜ (r, now (buf .exit)) ≡ outcomeOn width height depth order (triangleDrawing (x1, y1) (x2, y2) (x3, y3) colour) (now (buf .entry)) ⌝ }
+    ensures { λ r. ⌜ (r, now (buf .exit)) ≡ outcomeOn width height depth order distance (triangleDrawing (x1, y1) (x2, y2) (x3, y3) colour) (now (buf .entry)) ⌝ }
 {
     drawing::draw_triangle(
         buf,
-        frame(width, height, depth, order),
+        frame(width, height, depth, order, distance),
         Point(x1, y1),
         Point(x2, y2),
         Point(x3, y3),
@@ -334,6 +354,7 @@ pub extern "C" fn beamacorn_draw_outline(
     height: u32,
     depth: u32,
     order: u32,
+    distance: u32,
     x1: i32,
     y1: i32,
     x2: i32,
@@ -342,11 +363,11 @@ pub extern "C" fn beamacorn_draw_outline(
     y3: i32,
     colour: u32,
 ) -> Drawn
-    ensures { λ r. ⌜ (r, now (buf .exit)) ≡ outcomeOn width height depth order (outlineDrawing (x1, y1) (x2, y2) (x3, y3) colour) (now (buf .entry)) ⌝ }
+    ensures { λ r. ⌜ (r, now (buf .exit)) ≡ outcomeOn width height depth order distance (outlineDrawing (x1, y1) (x2, y2) (x3, y3) colour) (now (buf .entry)) ⌝ }
 {
     drawing::draw_outline(
         buf,
-        frame(width, height, depth, order),
+        frame(width, height, depth, order, distance),
         Point(x1, y1),
         Point(x2, y2),
         Point(x3, y3),
@@ -362,16 +383,17 @@ pub extern "C" fn beamacorn_draw_circle(
     height: u32,
     depth: u32,
     order: u32,
+    distance: u32,
     left: i32,
     top: i32,
     diameter: u32,
     colour: u32,
 ) -> Drawn
-    ensures { λ r. ⌜ (r, now (buf .exit)) ≡ outcomeOn width height depth order (circleDrawing (left, top) diameter colour) (now (buf .entry)) ⌝ }
+    ensures { λ r. ⌜ (r, now (buf .exit)) ≡ outcomeOn width height depth order distance (circleDrawing (left, top) diameter colour) (now (buf .entry)) ⌝ }
 {
     drawing::draw_circle(
         buf,
-        frame(width, height, depth, order),
+        frame(width, height, depth, order, distance),
         Point(left, top),
         diameter,
         colour,
@@ -386,20 +408,26 @@ pub extern "C" fn beamacorn_lit(
     height: u32,
     depth: u32,
     order: u32,
+    distance: u32,
 ) -> lights::Lights
-    ensures { λ r. ⌜ r ≡ litOn width height depth order (now (buf .entry)) ⌝ }
+    ensures { λ r. ⌜ r ≡ litOn width height depth order distance (now (buf .entry)) ⌝ }
 {
-    lights::lit(buf, frame(width, height, depth, order))
+    lights::lit(buf, frame(width, height, depth, order, distance))
 }
 
 // ---- image files
 
 // The bytes that the image file of a frame takes.
 #[no_mangle]
-pub extern "C" fn beamacorn_image_size(width: u32, height: u32, depth: u32) -> framebuffer::Size
-    ensures { λ r. ⌜ r ≡ sized (first (imageSizeTests (frameOf width height depth 0))) (imageLength (frameOf width height depth 0)) ⌝ }
+pub extern "C" fn beamacorn_image_size(
+    width: u32,
+    height: u32,
+    depth: u32,
+    distance: u32,
+) -> framebuffer::Size
+    ensures { λ r. ⌜ r ≡ sized (first (imageSizeTests (frameOf width height depth 0 distance))) (imageLength (frameOf width height depth 0 distance)) ⌝ }
 {
-    netpbm::image_size(frame(width, height, depth, 0))
+    netpbm::image_size(frame(width, height, depth, 0, distance))
 }
 
 // Writes the frame as an image file into the output, from its first byte on, and answers how many bytes that were.
@@ -410,11 +438,12 @@ pub extern "C" fn beamacorn_write_image(
     height: u32,
     depth: u32,
     order: u32,
+    distance: u32,
     out: &mut [u8],
 ) -> framebuffer::Size
-    ensures { λ r. ⌜ (r, now (out .exit)) ≡ written (frameOf width height depth order) (now (buf .entry)) (now (out .entry)) ⌝ }
+    ensures { λ r. ⌜ (r, now (out .exit)) ≡ written (frameOf width height depth order distance) (now (buf .entry)) (now (out .entry)) ⌝ }
 {
-    netpbm::write_image(buf, frame(width, height, depth, order), out)
+    netpbm::write_image(buf, frame(width, height, depth, order, distance), out)
 }
 
 // Reads an image file of the frame's size into the frame, and answers a number.
@@ -425,9 +454,10 @@ pub extern "C" fn beamacorn_read_image(
     height: u32,
     depth: u32,
     order: u32,
+    distance: u32,
     file: &[u8],
 ) -> u32
-    ensures { λ r. ⌜ (r, now (buf .exit)) ≡ loaded (frameOf width height depth order) (now (file .entry)) (now (buf .entry)) ⌝ }
+    ensures { λ r. ⌜ (r, now (buf .exit)) ≡ loaded (frameOf width height depth order distance) (now (file .entry)) (now (buf .entry)) ⌝ }
 {
-    netpbm::read_image(buf, frame(width, height, depth, order), file)
+    netpbm::read_image(buf, frame(width, height, depth, order, distance), file)
 }

@@ -10,7 +10,7 @@ use Rattle.refusals.specs.First.{first}
 use Rattle.layout.specs.Packed.{rowBytes}
 use Rattle.framebuffer.specs.declared.Size.{Size}
 use Rattle.framebuffer.specs.Answer.{sized}
-use Rattle.framebuffer.specs.Description.{size, descriptionTests, frameTests}
+use Rattle.framebuffer.specs.Description.{packedDistance, size, descriptionTests, frameTests}
 use Rattle.framebuffer.specs.Judged.{Described}
 use Rattle.netpbm.specs.Image.{header, imageBytes, imageLength}
 use Rattle.netpbm.specs.Written.{writeTests, written}
@@ -26,10 +26,11 @@ use Rattle.chart.specs.Told.{Handed}
 
 -- ---- the file of the picture
 described : Described picture
-described = record { depth = refl; width = omega arith; height = omega arith }
+unfolding packedDistance rowBytes
+described = record { depth = refl; width = omega arith; height = omega arith; apart = omega arith; near = omega arith }
 
 length-is : imageLength picture ≡ 691215
-unfolding imageLength header size shown rowBytes
+unfolding imageLength header size shown packedDistance rowBytes
 length-is = refl
 
 bytes-are : (b : List ℕ) → length (imageBytes picture b) ≡ 691215
@@ -37,7 +38,7 @@ bytes-are b = file-length picture b described ∙ length-is
 
 -- no test holds
 accepted : first (writeTests picture 691200 691215) ≡ 0
-unfolding writeTests frameTests descriptionTests imageLength header size shown rowBytes
+unfolding writeTests frameTests descriptionTests imageLength header size shown packedDistance rowBytes
 accepted = refl
 
 file-written : (b out : List ℕ) → length b ≡ 691200 → length out ≡ 691215 → written picture b out ≡ (sized 0 691215, sets out 0 (imageBytes picture b))

@@ -17,7 +17,7 @@ use Rattle.line.specs.Answer.{endTests}
 use Rattle.triangle.specs.Answer.{vertexTests}
 use Rattle.circle.specs.Refusal.{circleTests}
 use Rattle.layout.specs.Packed.{rowBytes}
-use Rattle.framebuffer.specs.Description.{size, descriptionTests, frameTests, drawTests}
+use Rattle.framebuffer.specs.Description.{packedDistance, size, descriptionTests, frameTests, drawTests}
 use Rattle.framebuffer.specs.Drawing.{Drawing, callTests}
 use Rattle.drawing.specs.Drawing.{circleDrawing}
 use Rattle.framebuffer.proofs.Calls.{number-own}
@@ -79,13 +79,13 @@ disc-within e p =
     rw (near-coord (discCorner e p .0) x, near-coord (discCorner e p .1) y, near-edge (discCorner e p .0) x, near-edge (discCorner e p .1) y)
 
 either : (t : Bool) → first (drawTests picture 691200 (cond t outside inside)) ≡ 0
-unfolding drawTests frameTests descriptionTests size rowBytes
+unfolding drawTests frameTests descriptionTests size packedDistance rowBytes
 either true = refl
 either false = refl
 
 -- ---- the day
 under-done : (e : Extent) (v : Vertices) → Done (under e v)
-unfolding under drawTests frameTests descriptionTests size rowBytes vertexTests endTests
+unfolding under drawTests frameTests descriptionTests size packedDistance rowBytes vertexTests endTests
 under-done e v =
     one refl
     (one (accepted (wedgeDrawing e v) refl (three-within (onPicture e (corner1 v)) (onPicture e (corner2 v)) (onPicture e (corner3 v))

@@ -4,12 +4,12 @@ use Prim.Native.Nat.{ℕ}
 use lib.IntN.{ℤ, pos, _+ℤ_, _-ℤ_}
 use Rattle.geometry.specs.declared.Point.{Point}
 use Rattle.framebuffer.specs.declared.Frame.{Frame}
-use Rattle.framebuffer.specs.Description.{described}
+use Rattle.framebuffer.specs.Description.{packed}
 use Rattle.charts.specs.declared.Extent.{Extent}
 use Rattle.charts.specs.Scale.{scaled}
 
 abbrev pub picture : Frame
-picture = described 640 360 24 true
+picture = packed 640 360 24 true
 
 -- the colours of the ground, the wedge, the axes, and of a sample that the wedge contains, and another
 abbrev pub ground : ℕ

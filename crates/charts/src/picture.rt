@@ -12,7 +12,7 @@ use geometry::Point;
 pub fn frame() -> Frame
     ensures { λ r. ⌜ r ≡ picture ⌝ }
 {
-    Frame::new(640, 360, 24, true)
+    Frame::packed(640, 360, 24, true)
 }
 
 // How many pixels from 0 a number stands on a line of `size` pixels that ends at `most`, held at 130,000.

@@ -16,7 +16,7 @@ use Rattle.layout.proofs.Spans.{columns}
 use Rattle.layout.proofs.Painted.{span-then}
 use Rattle.layout.proofs.Bytes.{Bytes, byte-at, head, tail, inner, full-one, groups-filled}
 use Rattle.framebuffer.specs.declared.Frame.{Frame}
-use Rattle.framebuffer.specs.Description.{packed, raster, size}
+use Rattle.framebuffer.specs.Description.{arranged, raster, size}
 use Rattle.packing.specs.Words.{bitsFrom, mergedAt}
 use Rattle.framebuffer.specs.Judged.{Drawable}
 use Rattle.framebuffer.proofs.Refusals.{spaced, sound}
@@ -29,7 +29,7 @@ module _ (f : Frame) (len colour : ℕ) (A : Drawable f len colour) (s : f .dept
   n = per d
 
   abbrev row : ℕ
-  row = packed f .distance
+  row = f .distance
 
   thin : (field d ≡ d) × (parts d ≡ 1)
   thin = small d (le-of-lt s) (depth-pos d (A .accepted .described .depth))
@@ -39,7 +39,7 @@ module _ (f : Frame) (len colour : ℕ) (A : Drawable f len colour) (s : f .dept
 
   -- a pixel's byte in its row
   pub byte-col : (x : ℕ) → x * d / 8 ≡ x / n
-  byte-col = byte-at (packed f) (spaced f (A .accepted .described)) colour (thin .1) low
+  byte-col = byte-at (arranged f) (spaced f (A .accepted .described)) colour (thin .1) low
 
   -- where a span ends within a byte, or with one
   pub ends-in : (x y : ℕ) → x ≤ f .width → y < f .height → (x * d % 8 ≡ 0 → ⊥) → y * row + x * d / 8 < len
@@ -91,23 +91,23 @@ module _ (f : Frame) (len colour : ℕ) (A : Drawable f len colour) (s : f .dept
         → mergedAt (y * row + x * d / 8) p (bitsFrom d x) b ≡ painted (raster f) (columns y x ((x * d / 8 + 1) * n)) colour b
     head-is x l w =
         sym (ap (λ (i : ℕ). painted (raster f) (columns y x ((i + 1) * n)) colour b) (byte-col x)
-        ∙ head (packed f) (spaced f (A .accepted .described)) colour (thin .1) low y x b hy l v (subst (λ (i : ℕ). (i + 1) * n ≤ f .width) (byte-col x) w))
+        ∙ head (arranged f) (spaced f (A .accepted .described)) colour (thin .1) low y x b hy l v (subst (λ (i : ℕ). (i + 1) * n ≤ f .width) (byte-col x) w))
 
     pub tail-is : (x : ℕ) → y * row + x * d / 8 < length b → x ≤ f .width
         → mergedAt (y * row + x * d / 8) p (255 - bitsFrom d x) b ≡ painted (raster f) (columns y (x * d / 8 * n) x) colour b
     tail-is x l w =
         sym (ap (λ (i : ℕ). painted (raster f) (columns y (i * n) x) colour b) (byte-col x)
-        ∙ tail (packed f) (spaced f (A .accepted .described)) colour (thin .1) low y x b hy l v w)
+        ∙ tail (arranged f) (spaced f (A .accepted .described)) colour (thin .1) low y x b hy l v w)
 
     pub inner-is : (x z : ℕ) → y * row + x * d / 8 < length b → x < z → z ≤ f .width → x * d / 8 ≡ z * d / 8
         → mergedAt (y * row + x * d / 8) p (bitAnd (bitsFrom d x) (255 - bitsFrom d z)) b ≡ painted (raster f) (columns y x z) colour b
     inner-is x z l h w e =
-        sym (inner (packed f) (spaced f (A .accepted .described)) colour (thin .1) low y x b hy l v z (omega arith) w (sym (byte-col x) ∙ e ∙ byte-col z))
+        sym (inner (arranged f) (spaced f (A .accepted .described)) colour (thin .1) low y x b hy l v z (omega arith) w (sym (byte-col x) ∙ e ∙ byte-col z))
 
     pub whole-is : (x z : ℕ) (s s′ : List ℕ) (a k : ℕ) → x ≤ z → z * n ≤ f .width → a ≡ y * row + x → a + k ≡ y * row + z → a + k ≤ length b
         → s ≡ take k (drop a b) → s′ ≡ setRun 0 (length s) (λ j. p) s → take a b ++ (s′ ++ drop k (drop a b)) ≡ painted (raster f) (columns y (x * n) (z * n)) colour b
     whole-is x z s s′ a k h w ea ek l e e′ =
-        groups-filled (packed f) (spaced f (A .accepted .described)) colour (A .below) y x z b s s′ a k h w hy (ea ∙ bytes x) (ek ∙ bytes z) l v e
+        groups-filled (arranged f) (spaced f (A .accepted .described)) colour (A .below) y x z b s s′ a k h w hy (ea ∙ bytes x) (ek ∙ bytes z) l v e
         (e′ ∙ run-cong 0 (length s) _ _ s (λ j i. sym (full-one d (f .big) colour j (thin .1) low)))
       where
         bytes : (i : ℕ) → y * row + i ≡ y * row + i * parts d
@@ -134,16 +134,16 @@ module _ (f : Frame) (len colour : ℕ) (A : Drawable f len colour) (s : 8 ≤ f
       ∙ ap (λ (k : ℕ). k * parts (f .depth)) (div-one x)
 
   -- columns take up room for a pixel at least
-  pub pixels-apart : (y x z : ℕ) {a e : ℕ} → x < z → a ≡ y * packed f .distance + x * f .depth / 8 → e ≡ y * packed f .distance + z * f .depth / 8 → a + parts (f .depth) ≤ e
+  pub pixels-apart : (y x z : ℕ) {a e : ℕ} → x < z → a ≡ y * f .distance + x * f .depth / 8 → e ≡ y * f .distance + z * f .depth / 8 → a + parts (f .depth) ≤ e
   pixels-apart y x z h ea ee =
       let l : (x + 1) * parts (f .depth) ≤ z * parts (f .depth) = mul-le-mul-right (parts (f .depth)) (omega arith) in
       omega (arith, place x, place z)
 
   pub pixels-are : (y x z : ℕ) (b t t′ : List ℕ) (a k : ℕ) → y < f .height → Bytes b → x ≤ z → z ≤ f .width
-      → a ≡ y * packed f .distance + x * f .depth / 8 → a + k ≡ y * packed f .distance + z * f .depth / 8 → a + k ≤ length b
+      → a ≡ y * f .distance + x * f .depth / 8 → a + k ≡ y * f .distance + z * f .depth / 8 → a + k ≤ length b
       → t ≡ take k (drop a b) → t′ ≡ setRun 0 (length t) (fullByte (f .depth) (f .big) colour) t
       → take a b ++ (t′ ++ drop k (drop a b)) ≡ painted (raster f) (columns y x z) colour b
   pixels-are y x z b t t′ a k hy v h w ea ek l e e′ =
-      groups-filled (packed f) (spaced f (A .accepted .described)) colour (A .below) y x z b t t′ a k h (subst (λ (i : ℕ). i ≤ f .width) (sym (one z)) w) hy
-      (ea ∙ ap (λ (i : ℕ). y * packed f .distance + i) (place x)) (ek ∙ ap (λ (i : ℕ). y * packed f .distance + i) (place z)) l v e e′
+      groups-filled (arranged f) (spaced f (A .accepted .described)) colour (A .below) y x z b t t′ a k h (subst (λ (i : ℕ). i ≤ f .width) (sym (one z)) w) hy
+      (ea ∙ ap (λ (i : ℕ). y * f .distance + i) (place x)) (ek ∙ ap (λ (i : ℕ). y * f .distance + i) (place z)) l v e e′
       ∙ ap₂ (λ (i j : ℕ). painted (raster f) (columns y i j) colour b) (one x) (one z)

@@ -1,21 +1,21 @@
 -- The tests of a frame: what it says that none of them holds, and what comes with it. Assumes nothing.
 use mathlib.Core.Path.{_≡_, refl, ap, _∙_}
-use mathlib.Core.Bool.{Bool, true, false}
+use mathlib.Core.Bool.{Bool, true, false, cond}
 use mathlib.Core.List.{[], _∷_}
 use Prim.Native.Nat.{ℕ, zero, suc, _+_, _*_, _/_, _%_, _^_, _≤_, _<_}
-use native.Mathlib.Nat.{mul-le-mul, mul-zero, le-refl, mod-eq-of-lt, mul-le-mul-right}
+use native.Mathlib.Nat.{mul-le-mul, mul-zero, mod-eq-of-lt, mul-le-mul-right}
 use native.Mathlib.Omega.{arith}
 use lib.Pow.{pow-mono}
-use borrow.Author.Tests.{ltb-false, leb-false, not-false}
+use borrow.Author.Tests.{ltb-false, le-leb, leb-false, not-false}
 use Rattle.whole.proofs.Tests.{or-false}
 use Rattle.refusals.specs.First.{first, numbered}
 use Rattle.refusals.proofs.First.{exactly-0, both-pass, fails-alone}
-use Rattle.layout.specs.Packed.{rowBytes, parts}
+use Rattle.layout.specs.Packed.{goodDepth, rowBytes, parts}
 use Rattle.layout.proofs.Placing.{Placing}
 use Rattle.layout.proofs.Places.{Sound, placing, depth-le, pixel-in}
 use Rattle.framebuffer.specs.declared.Frame.{Frame}
 use Rattle.framebuffer.specs.Answer.{sized, drawn, wasInside, read}
-use Rattle.framebuffer.specs.Description.{packed, raster, size, tooShort, noColour, descriptionTests, frameTests, drawTests}
+use Rattle.framebuffer.specs.Description.{packedDistance, arranged, raster, size, tooShort, noColour, descriptionTests, frameTests, drawTests}
 use Rattle.framebuffer.specs.Judged.{Described, Accepted, Drawable}
 
 -- ---- no number is 0
@@ -37,7 +37,14 @@ unfolding descriptionTests
 is-described f z =
     let t = exactly-0 (descriptionTests f) refl .0 z in
     let w = or-false _ _ (t .1 .0) in
-    record { depth = not-false _ (t .0); width = ltb-false _ _ (w .0); height = ltb-false _ _ (w .1) }
+    let n = or-false _ _ (t .1 .1 .0) in
+    record {
+      depth = not-false _ (t .0);
+      width = ltb-false _ _ (w .0);
+      height = ltb-false _ _ (w .1);
+      apart = ltb-false _ _ (n .0);
+      near = ltb-false _ _ (n .1);
+    }
 
 pub is-accepted : (f : Frame) (len : ℕ) → first (frameTests f len) ≡ 0 → Accepted f len
 unfolding frameTests
@@ -53,32 +60,33 @@ is-drawable f len colour z =
 
 -- ---- what comes with an accepted description
 -- its rows are far enough apart
-pub spaced : (f : Frame) → Described f → Sound (packed f)
-spaced f D = record { depth = D .depth; apart = le-refl (rowBytes (f .width) (f .depth)) }
+pub spaced : (f : Frame) → Described f → Sound (arranged f)
+spaced f D = record { depth = D .depth; apart = D .apart }
 
 pub sound : (f : Frame) → Described f → Placing (raster f)
-sound f D = placing (packed f) (spaced f D)
+sound f D = placing (arranged f) (spaced f D)
 
 pub product : (f : Frame) → Described f → f .width * f .depth ≤ 65536
 product f D = mul-le-mul (D .width) (depth-le (f .depth) (D .depth))
 
-pub row-fits : (f : Frame) → Described f → packed f .distance ≤ 8192
-unfolding rowBytes
-row-fits f D = omega (arith, product f D)
+-- so that a row is short, and 32 bits hold the distance of rows without a gap
+pub packed-apart : (w d : ℕ) → goodDepth d ≡ true → w ≤ 2048 → (packedDistance w d ≡ rowBytes w d) × (rowBytes w d ≤ 8192)
+unfolding packedDistance rowBytes
+packed-apart w d G hw =
+    let m : w * d ≤ 2048 * 32 = mul-le-mul hw (depth-le d G) in
+    (ap (λ (t : Bool). cond t (rowBytes w d) 0) (le-leb (rowBytes w d) 4294967295 (omega arith)), omega arith)
 
-pub size-fits : (f : Frame) → Described f → size f ≤ 16777216
+pub size-fits : (f : Frame) → Described f → size f ≤ 33554432
 unfolding size
-size-fits f D =
-    let p : packed f .distance * f .height ≤ 8192 * 2048 = mul-le-mul (row-fits f D) (D .height) in
-    omega arith
+size-fits f D = let p : f .distance * f .height ≤ 16384 * 2048 = mul-le-mul (D .near) (D .height) in omega arith
 
 -- a pixel's bytes are in the buffer, and the numbers of its place are small
 module _ (f : Frame) (len x y : ℕ) (A : Accepted f len) (hx : x < f .width) (hy : y < f .height) where
-  pub pixel-room : {at : ℕ} → at ≡ y * packed f .distance + x * f .depth / 8 → at + parts (f .depth) ≤ len
+  pub pixel-room : {at : ℕ} → at ≡ y * f .distance + x * f .depth / 8 → at + parts (f .depth) ≤ len
   unfolding size
   pixel-room e =
       let r = A .room in
-      let p = pixel-in (packed f) (spaced f (A .described)) x y hx hy in
+      let p = pixel-in (arranged f) (spaced f (A .described)) x y hx hy in
       omega arith
 
   pub pixel-small : (x ≤ 2048) × (y ≤ 2048)
@@ -92,7 +100,7 @@ place-small f D hx hy =
     (D, omega arith, omega arith)
 
 -- a span ends in its row, or with it
-pub along-row : (f : Frame) (x : ℕ) → Described f → x ≤ f .width → x * f .depth / 8 ≤ packed f .distance
+pub along-row : (f : Frame) (x : ℕ) → Described f → x ≤ f .width → x * f .depth / 8 ≤ f .distance
 unfolding rowBytes
 along-row f x D hx =
     let m : x * f .depth ≤ f .width * f .depth = mul-le-mul-right (f .depth) hx in
@@ -100,32 +108,23 @@ along-row f x D hx =
     omega arith
 
 -- and so in the buffer, or with it
-pub end-room : (f : Frame) (len x y : ℕ) → Accepted f len → x ≤ f .width → y < f .height → y * packed f .distance + x * f .depth / 8 ≤ len
+pub end-room : (f : Frame) (len x y : ℕ) → Accepted f len → x ≤ f .width → y < f .height → y * f .distance + x * f .depth / 8 ≤ len
 unfolding size
 end-room f len x y A hx hy =
     let a = along-row f x (A .described) hx in
-    let l : (y + 1) * packed f .distance ≤ f .height * packed f .distance = mul-le-mul-right (packed f .distance) (omega arith) in
+    let l : (y + 1) * f .distance ≤ f .height * f .distance = mul-le-mul-right (f .distance) (omega arith) in
     let r = A .room in
     omega arith
 
 -- rows without padding that take bytes take those of a pixel
-pub one-pixel : (f : Frame) → packed f .distance * 8 ≡ f .width * f .depth → 0 < size f → parts (f .depth) ≤ size f
+pub one-pixel : (f : Frame) → f .distance * 8 ≡ f .width * f .depth → 0 < size f → parts (f .depth) ≤ size f
 unfolding size parts
-one-pixel f e h = go (packed f .distance) (f .width) (f .height) e h
+one-pixel f e h = go (f .distance) (f .width) (f .height) e h
   where
     go : (d w t : ℕ) → d * 8 ≡ w * f .depth → 0 < d * t → (f .depth + 7) / 8 ≤ d * t
     go d w zero e l = absurd (let z : d * 0 ≡ 0 = mul-zero d in omega arith)
     go d zero (suc t) e l = absurd (let z : d ≡ 0 = omega arith in let k : d * suc t ≡ 0 * suc t = ap (λ (n : ℕ). n * suc t) z in omega arith)
     go d (suc w) (suc t) e l = let a : f .depth ≤ suc w * f .depth = omega arith in let b : d * 1 ≤ d * suc t = omega arith in omega arith
-
--- rows with padding have pixels
-pub padded : (f : Frame) → (packed f .distance * 8 ≡ f .width * f .depth → ⊥) → 0 < f .width
-unfolding rowBytes
-padded f h = go (f .width) h
-  where
-    go : (w : ℕ) → ((w * f .depth + 7) / 8 * 8 ≡ w * f .depth → ⊥) → 0 < w
-    go zero h = absurd (h (omega arith))
-    go (suc w) h = omega arith
 
 -- a power of two, as the machine makes it
 pub one-shifted : (d : ℕ) → d ≤ 32 → (1 * 2 ^ d) % 18446744073709551616 ≡ 2 ^ d

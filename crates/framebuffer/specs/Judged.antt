@@ -5,7 +5,7 @@ use mathlib.Core.List.{List}
 use Prim.Native.Nat.{ℕ, _^_, _≤_, _<_}
 use lib.IntN.{ℤ}
 use Rattle.layout.specs.Count.{marked}
-use Rattle.layout.specs.Packed.{goodDepth}
+use Rattle.layout.specs.Packed.{goodDepth, rowBytes}
 use Rattle.framebuffer.specs.declared.Frame.{Frame}
 use Rattle.framebuffer.specs.declared.Window.{Window}
 use Rattle.framebuffer.specs.declared.Brush.{Brush}
@@ -17,6 +17,8 @@ pub record Described (f : Frame) : Type 0 where
   pub depth : goodDepth (f .depth) ≡ true
   pub width : f .width ≤ 2048
   pub height : f .height ≤ 2048
+  pub apart : rowBytes (f .width) (f .depth) ≤ f .distance
+  pub near : f .distance ≤ 16384
 
 -- over a buffer of len bytes
 pub record Accepted (f : Frame) (len : ℕ) : Type 0 where

@@ -1,6 +1,7 @@
 // Packed frames in a lent buffer: the description of a frame and its refusals, setting, reading and filling. Figures reach the bytes through
 // put_point, paint_span and read_point, which do not judge the frame again.
 ghost use mathlib.Core.Path.{_≡_};
+ghost use mathlib.Core.Bool.{true};
 ghost use Prim.Native.Nat.{_+_, _*_, _/_, _≤_, _<_};
 ghost use lib.IntN.{pos};
 ghost use lib.ListN.{length};
@@ -11,16 +12,18 @@ ghost use Rattle.layout.specs.Layout.{putPixel, getPixel, painted};
 ghost use Rattle.layout.specs.Packed.{goodDepth};
 ghost use Rattle.framebuffer.specs.Answer.{sized, read};
 ghost use Rattle.framebuffer.specs.Window.{inWindow, heldBy, wholeWindow, clipped};
-ghost use Rattle.framebuffer.specs.Description.{described, packed, raster, size, descriptionTests, frameTests, drawTests, readTests, colourAt};
+ghost use Rattle.framebuffer.specs.Description.{described, packedDistance, packed, raster, noDistance, size, descriptionTests, frameTests, drawTests, readTests, colourAt};
 ghost use Rattle.framebuffer.specs.Judged.{Described, Accepted, Drawable, Within, Ready, wholeBrush, brushed};
 ghost use Rattle.framebuffer.specs.Drawing.{fillDrawing, outcome, pixelOutcome};
 
-// A frame as its owner describes it. It is made by Frame::new and by nothing else outside this crate.
+// A frame as its owner describes it; `distance` is the number of bytes from a row to the next. It is made by Frame::new and Frame::packed and by nothing
+// else outside this crate.
 pub struct Frame {
     pub width: u32,
     pub height: u32,
     pub depth: u32,
     pub big: bool,
+    pub distance: u32,
 }
 
 // The bytes that a frame takes; with a refusal its number and 0.
@@ -66,17 +69,36 @@ pub struct Brush {
     pub colour: u32,
 }
 
+// The bytes that a row takes, or 0 where they pass 32 bits.
+fn packed_distance(width: u32, depth: u32) -> u32
+    ensures { λ r. ⌜ r ≡ packedDistance width depth ⌝ }
+{
+    let bytes = (width as u64 * depth as u64 + 7) / 8;
+    if bytes <= 4294967295 {
+        return bytes as u32;
+    }
+    0
+}
+
 impl Frame {
-    // The description of a frame, which any four values make; each operation judges it.
-    pub fn new(width: u32, height: u32, depth: u32, big: bool) -> Self
-        ensures { λ r. ⌜ r ≡ described width height depth big ⌝ }
+    // The description of a frame, which any five values make; each operation judges it.
+    pub fn new(width: u32, height: u32, depth: u32, big: bool, distance: u32) -> Self
+        ensures { λ r. ⌜ r ≡ described width height depth big distance ⌝ }
     {
         Self {
             width,
             height,
             depth,
             big,
+            distance,
         }
+    }
+
+    // The description of a frame whose rows have no gap between them.
+    pub fn packed(width: u32, height: u32, depth: u32, big: bool) -> Self
+        ensures { λ r. ⌜ r ≡ packed width height depth big ⌝ }
+    {
+        Self::new(width, height, depth, big, packed_distance(width, depth))
     }
 
     // The rectangle of the whole frame.
@@ -118,6 +140,14 @@ fn depth_ok(depth: u32) -> bool
         | (depth == 32)
 }
 
+// Whether the rows are too close to one another, or too far apart.
+fn has_no_distance(frame: Frame) -> bool
+    requires { ⌜ (goodDepth (frame .depth) ≡ true) × (frame .width ≤ 2048) ⌝ }
+    ensures { λ r. ⌜ r ≡ noDistance frame ⌝ }
+{
+    (frame.distance < (frame.width * frame.depth + 7) / 8) | (16384 < frame.distance)
+}
+
 fn description_refusal(frame: Frame) -> u32
     ensures { λ r. ⌜ r ≡ first (descriptionTests frame) ⌝ }
 {
@@ -130,22 +160,17 @@ fn description_refusal(frame: Frame) -> u32
     if 2048 < frame.height {
         return 2;
     }
+    if has_no_distance(frame) {
+        return 14;
+    }
     0
-}
-
-// The bytes from a row to the next.
-fn row_distance(frame: Frame) -> u32
-    requires { ⌜ Described frame ⌝ }
-    ensures { λ r. ⌜ r ≡ packed frame .distance ⌝ }
-{
-    (frame.width * frame.depth + 7) / 8
 }
 
 fn frame_bytes(frame: Frame) -> u32
     requires { ⌜ Described frame ⌝ }
     ensures { λ r. ⌜ r ≡ size frame ⌝ }
 {
-    row_distance(frame) * frame.height
+    frame.distance * frame.height
 }
 
 // The bytes that a buffer for the frame must have.
@@ -162,7 +187,7 @@ pub fn buffer_size_bpp(frame: Frame) -> Size
     }
 }
 
-// Inside the library: the refusal of a frame over a buffer of `len` bytes, 1 to 3, or 0.
+// Inside the library: the refusal of a frame over a buffer of `len` bytes, 1, 2, 14 or 3, or 0.
 pub fn frame_refusal(frame: Frame, len: usize) -> u32
     ensures { λ r. ⌜ r ≡ first (frameTests frame len) ⌝ }
 {
@@ -176,7 +201,7 @@ pub fn frame_refusal(frame: Frame, len: usize) -> u32
     0
 }
 
-// Inside the library: the refusal, 1 to 4, of a call that draws in a colour on a frame over a buffer of `len` bytes, or 0. A drawing call asks it once; its
+// Inside the library: the refusal, one of these or 4, of a call that draws in a colour on a frame over a buffer of `len` bytes, or 0. A drawing call asks it once; its
 // own tests come after.
 pub fn draw_refusal(frame: Frame, len: usize, colour: u32) -> u32
     ensures { λ r. ⌜ r ≡ first (drawTests frame len colour) ⌝ }
@@ -196,9 +221,9 @@ pub fn draw_refusal(frame: Frame, len: usize, colour: u32) -> u32
 // The byte of pixel (x, y) at which its bits start.
 fn byte_of(frame: Frame, x: u32, y: u32) -> usize
     requires { ⌜ Described frame × (x ≤ 2048) × (y ≤ 2048) ⌝ }
-    ensures { λ r. ⌜ r ≡ y * packed frame .distance + x * frame .depth / 8 ⌝ }
+    ensures { λ r. ⌜ r ≡ y * frame .distance + x * frame .depth / 8 ⌝ }
 {
-    (y * row_distance(frame) + x * frame.depth / 8) as usize
+    (y * frame.distance + x * frame.depth / 8) as usize
 }
 
 fn put_at(buf: &mut [u8], frame: Frame, x: u32, y: u32, colour: u32)
@@ -383,7 +408,7 @@ pub fn paint_span(buf: &mut [u8], brush: Brush, y: i32, start: i32, end: i32) ->
 
 // Rows without padding follow one another, and are one run.
 fn fill_run(buf: &mut [u8], frame: Frame, colour: u32)
-    requires { ⌜ Drawable frame (length (now buf)) colour × (packed frame .distance * 8 ≡ frame .width * frame .depth) ⌝ }
+    requires { ⌜ Drawable frame (length (now buf)) colour × (frame .distance * 8 ≡ frame .width * frame .depth) ⌝ }
     ensures { λ r. ⌜ now (buf .exit) ≡ painted (raster frame) everywhere colour (now (buf .entry)) ⌝ }
 {
     let end = frame_bytes(frame) as usize;
@@ -410,9 +435,9 @@ fn fill_frame(buf: &mut [u8], frame: Frame, colour: u32)
     requires { ⌜ Drawable frame (length (now buf)) colour ⌝ }
     ensures { λ r. ⌜ now (buf .exit) ≡ painted (raster frame) everywhere colour (now (buf .entry)) ⌝ }
 {
-    if row_distance(frame) * 8 == frame.width * frame.depth {
+    if frame.distance * 8 == frame.width * frame.depth {
         fill_run(buf, frame, colour);
-    } else {
+    } else if 0 < frame.width {
         fill_each_row(buf, frame, colour);
     }
 }

@@ -125,7 +125,7 @@ fn try_frame(buf: &mut [u8], frame: Frame)
 fn try_width(buf: &mut [u8], width: u32, height: u32, depth: u32, big: bool)
     requires { ⌜ (0 < depth) × (depth ≤ 32) × (width ≤ 2048) × (height ≤ 2048) ⌝ }
 {
-    let frame = Frame::new(width, height, depth, big);
+    let frame = Frame::packed(width, height, depth, big);
     let len = framebuffer::buffer_size_bpp(frame).bytes as usize + 5;
     if len <= buf.len() {
         try_frame(&mut buf[..len], frame);
@@ -162,9 +162,9 @@ fn try_refused(buf: &mut [u8], frame: Frame, colour: u32) {
 
 // 01's known sizes: 10 by 3 at depth 1, 9 by 5 at depth 2, 7 by 2 at depth 24.
 fn known_sizes() {
-    hex::show(framebuffer::buffer_size_bpp(Frame::new(10, 3, 1, false)).bytes);
-    hex::show(framebuffer::buffer_size_bpp(Frame::new(9, 5, 2, false)).bytes);
-    hex::show(framebuffer::buffer_size_bpp(Frame::new(7, 2, 24, false)).bytes);
+    hex::show(framebuffer::buffer_size_bpp(Frame::packed(10, 3, 1, false)).bytes);
+    hex::show(framebuffer::buffer_size_bpp(Frame::packed(9, 5, 2, false)).bytes);
+    hex::show(framebuffer::buffer_size_bpp(Frame::packed(7, 2, 24, false)).bytes);
     hex::end_line();
 }
 
@@ -178,12 +178,12 @@ fn main() {
     try_depth(&mut buf, 16);
     try_depth(&mut buf, 24);
     try_depth(&mut buf, 32);
-    try_refused(&mut buf, Frame::new(4, 4, 3, false), 0);
-    try_refused(&mut buf, Frame::new(4, 4, 0, true), 9);
-    try_refused(&mut buf, Frame::new(2049, 4, 1, false), 2);
-    try_refused(&mut buf, Frame::new(4294967295, 2048, 32, false), 0);
-    try_refused(&mut buf, Frame::new(4, 2049, 32, true), 0);
-    try_refused(&mut buf, Frame::new(2048, 3, 32, true), 4294967295);
-    try_refused(&mut buf, Frame::new(7, 2, 24, false), 16777216);
-    try_refused(&mut buf, Frame::new(10, 3, 1, false), 2);
+    try_refused(&mut buf, Frame::packed(4, 4, 3, false), 0);
+    try_refused(&mut buf, Frame::packed(4, 4, 0, true), 9);
+    try_refused(&mut buf, Frame::packed(2049, 4, 1, false), 2);
+    try_refused(&mut buf, Frame::packed(4294967295, 2048, 32, false), 0);
+    try_refused(&mut buf, Frame::packed(4, 2049, 32, true), 0);
+    try_refused(&mut buf, Frame::packed(2048, 3, 32, true), 4294967295);
+    try_refused(&mut buf, Frame::packed(7, 2, 24, false), 16777216);
+    try_refused(&mut buf, Frame::packed(10, 3, 1, false), 2);
 }

@@ -3,7 +3,7 @@ use framebuffer::Frame;
 use geometry::Point;
 
 fn size(width: u32, height: u32, depth: u32) {
-    let r = framebuffer::buffer_size_bpp(Frame::new(width, height, depth, false));
+    let r = framebuffer::buffer_size_bpp(Frame::packed(width, height, depth, false));
     hex::show(r.number);
     hex::show(r.bytes);
     hex::end_line();

@@ -1,15 +1,15 @@
--- What packed rows leave alone: every bit behind a row's last pixel, and every byte behind the frame. Assumes nothing.
+-- What packed rows leave alone: every bit behind a row's last pixel, every byte between a row and the next, and every byte behind the frame. Assumes nothing.
 use mathlib.Core.Path.{_≡_, refl, sym, ap, ap₂, _∙_, subst}
 use mathlib.Core.List.{List}
 use Prim.Native.Nat.{ℕ, zero, suc, _+_, _-_, _*_, _/_, _%_, _^_, _≤_, _<_}
-use native.Mathlib.Nat.{div-one, mod-lt, div-add-mod', div-div-eq-div-mul, mul-comm, mul-le-mul-right, not-suc-le-zero, pow-suc}
+use native.Mathlib.Nat.{le-refl, div-one, mod-lt, div-add-mod', div-div-eq-div-mul, mul-comm, mul-le-mul-right, not-suc-le-zero, pow-suc}
 use native.Mathlib.Omega.{arith}
 use lib.Arith.{digits-div, digits-mod, mod-mul}
 use lib.ListN.{getD}
 use lib.Pow.{pow-pos}
 use Rattle.layout.specs.Digits.{digit}
 use Rattle.layout.specs.Layout.{Picture, rendered}
-use Rattle.layout.specs.Packed.{Packed, laid, field, parts, per, turned, byteOf, slotOf}
+use Rattle.layout.specs.Packed.{Packed, laid, rowBytes, field, parts, per, turned, byteOf, slotOf}
 use Rattle.layout.proofs.Pictures.{cell-stays, byte-stays}
 use Rattle.layout.proofs.Places.{Sound, depth-cases, depth-of, field-pos, digits-eq, turned-below, in-row, place-in, placing}
 
@@ -71,6 +71,22 @@ module _ (r : Packed) (S : Sound r) where
           let e₁ : y * r .distance + j ≡ y′ * r .distance + (x * r .depth / 8 + turned (r .big) n k) = omega arith in
           let m : (x + 1) * r .depth ≤ r .width * r .depth = mul-le-mul-right (r .depth) (omega arith) in
           not-behind x j t (turned (r .big) n k) (turned-below (r .big) n k hk) ht (digits-eq (r .distance) y y′ j _ hj (in-row r S x k hx hk) e₁ .1) s (omega arith)
+
+  -- byte j of row y, where it stands behind the row's last byte
+  pub gap-stays : (y j : ℕ) → rowBytes (r .width) (r .depth) ≤ j → j < r .distance
+      → (f : Picture) (b : List ℕ) → getD (rendered (laid r) f b) (y * r .distance + j) 0 ≡ getD b (y * r .distance + j) 0
+  unfolding byteOf
+  gap-stays y j hr hj = byte-stays (laid r) (placing r S) (y * r .distance + j) free
+    where
+      close : Packed
+      close = record { width = r .width; height = r .height; depth = r .depth; distance = rowBytes (r .width) (r .depth); big = r .big }
+
+      free : (x y′ k : ℕ) → x < r .width → y′ < r .height → k < parts (r .depth) → y * r .distance + j ≡ byteOf r x y′ k → ⊥
+      free x y′ k hx hy hk e =
+          let l = in-row close (record { depth = S .depth; apart = le-refl (rowBytes (r .width) (r .depth)) }) x k hx hk in
+          let e₁ : y * r .distance + j ≡ y′ * r .distance + (x * r .depth / 8 + turned (r .big) (parts (r .depth)) k) = omega arith in
+          let q = digits-eq (r .distance) y y′ j _ hj (in-row r S x k hx hk) e₁ .1 in
+          omega arith
 
   pub tail-stays : (i : ℕ) → r .distance * r .height ≤ i → (f : Picture) (b : List ℕ) → getD (rendered (laid r) f b) i 0 ≡ getD b i 0
   tail-stays i h = byte-stays (laid r) (placing r S) i (λ x y k hx hy hk e. no (place-in r S x y k hx hy hk) e)

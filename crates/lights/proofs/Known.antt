@@ -5,7 +5,7 @@ use lib.ListN.{length}
 use Rattle.refusals.specs.First.{first}
 use Rattle.layout.specs.Count.{litIn}
 use Rattle.layout.specs.Packed.{rowBytes, field, parts, per, byteOf, slotOf}
-use Rattle.framebuffer.specs.Description.{raster, size, descriptionTests, frameTests}
+use Rattle.framebuffer.specs.Description.{packedDistance, raster, size, descriptionTests, frameTests}
 use Rattle.lights.specs.declared.Lights.{Lights}
 use Rattle.lights.specs.Answer.{litTests, lights}
 use Rattle.lights.specs.Known.{Case, table}
@@ -14,5 +14,5 @@ abbrev asked : Case → Lights
 asked c = lights (first (litTests (c .frame) (length (c .bytes)))) (litIn (raster (c .frame)) (c .bytes))
 
 pub known : map asked table ≡ map (λ (c : Case). c .answer) table
-unfolding litIn rowBytes field parts per byteOf slotOf size descriptionTests frameTests litTests
+unfolding litIn packedDistance rowBytes field parts per byteOf slotOf size descriptionTests frameTests litTests
 known = refl

@@ -17,7 +17,7 @@ use Rattle.layout.specs.Count.{howMany, litIn}
 use Rattle.layout.proofs.Counts.{many-cong, many-le, many-then}
 use Rattle.layout.proofs.Bytes.{pixel-get}
 use Rattle.framebuffer.specs.declared.Frame.{Frame}
-use Rattle.framebuffer.specs.Description.{packed, raster, size}
+use Rattle.framebuffer.specs.Description.{arranged, raster, size}
 use Rattle.framebuffer.specs.Judged.{Accepted}
 use Rattle.framebuffer.proofs.Refusals.{spaced}
 use Rattle.lights.specs.Bits.{bitAt, litBits}
@@ -32,15 +32,15 @@ litUpTo f n b = howMany n (isLit f b)
 
 module _ (f : Frame) (b : List ℕ) (A : Accepted f (length b)) (one : f .depth ≡ 1) where
   -- ---- what fits
-  pub one-bit-distance : packed f .distance ≡ (f .width + 7) / 8
+  pub row-bits : f .width ≤ f .distance * 8
   unfolding rowBytes
-  one-bit-distance = ap (λ (d : ℕ). (f .width * d + 7) / 8) one ∙ omega arith
+  row-bits = let e : (f .width * f .depth + 7) / 8 ≡ (f .width * 1 + 7) / 8 = ap (λ (d : ℕ). (f .width * d + 7) / 8) one in omega (arith, A .described .apart)
 
   -- a row ends within the buffer
-  pub row-ends : (y : ℕ) {at : ℕ} → y < f .height → at ≡ y * packed f .distance → at + packed f .distance ≤ length b
+  pub row-ends : (y : ℕ) {at : ℕ} → y < f .height → at ≡ y * f .distance → at + f .distance ≤ length b
   unfolding size
   row-ends y l e =
-      let m : (y + 1) * packed f .distance ≤ f .height * packed f .distance = mul-le-mul-right (packed f .distance) (omega arith) in
+      let m : (y + 1) * f .distance ≤ f .height * f .distance = mul-le-mul-right (f .distance) (omega arith) in
       let r = A .room in
       omega arith
 
@@ -48,8 +48,8 @@ module _ (f : Frame) (b : List ℕ) (A : Accepted f (length b)) (one : f .depth 
   pub run-room : (f .width * f .height ≤ 4194304) × (f .width * f .height ≤ length b * 8)
   unfolding size
   run-room =
-      let n = packed f .distance in
-      let m : f .width * f .height ≤ n * 8 * f .height = mul-le-mul-right (f .height) (omega (arith, one-bit-distance)) in
+      let n = f .distance in
+      let m : f .width * f .height ≤ n * 8 * f .height = mul-le-mul-right (f .height) (row-bits) in
       let r = A .room in
       (mul-le-mul (A .described .width) (A .described .height), omega arith)
 
@@ -61,17 +61,17 @@ module _ (f : Frame) (b : List ℕ) (A : Accepted f (length b)) (one : f .depth 
 
   -- ---- row after row
   -- a pixel is a bit of its row
-  bit-is : (x y : ℕ) → eqb (getPixel (raster f) x y b) 1 ≡ bitAt (drop (y * packed f .distance) b) x
+  bit-is : (x y : ℕ) → eqb (getPixel (raster f) x y b) 1 ≡ bitAt (drop (y * f .distance) b) x
   unfolding field parts per slotOf
   bit-is x y =
-      let at = y * packed f .distance in
-      ap (λ (n : ℕ). eqb n 1) (pixel-get (packed f) (spaced f (A .described)) 0 (ap parts one) (pow-pos (field (f .depth))) x y b)
+      let at = y * f .distance in
+      ap (λ (n : ℕ). eqb n 1) (pixel-get (arranged f) (spaced f (A .described)) 0 (ap parts one) (pow-pos (field (f .depth))) x y b)
       ∙ ap (λ (d : ℕ). eqb (digit (2 ^ field d) (slotOf d x) (getD b (at + x * d / 8) 0)) 1) one
       ∙ ap (λ (n : ℕ). eqb (digit 2 (7 - x % 8) (getD b (at + n / 8) 0)) 1) (mul-one x)
       ∙ ap (λ (n : ℕ). eqb (digit 2 (7 - x % 8) n) 1) (sym (getD-drop at b (x / 8) 0))
 
   -- row y, which is lent with all that follows it, behind the rows above it
-  pub row-more : (y : ℕ) {sum k at : ℕ} → sum ≡ litUpTo f (y * f .width) b → at ≡ y * packed f .distance
+  pub row-more : (y : ℕ) {sum k at : ℕ} → sum ≡ litUpTo f (y * f .width) b → at ≡ y * f .distance
       → k ≡ litBits (f .width) (take (length b - at) (drop at b)) → sum + k ≡ litUpTo f ((y + 1) * f .width) b
   unfolding litBits
   row-more y {at = at} a e c =
@@ -90,18 +90,18 @@ module _ (f : Frame) (b : List ℕ) (A : Accepted f (length b)) (one : f .depth 
   rows-lit y e a = a ∙ ap (λ (n : ℕ). litUpTo f (n * f .width) b) e
 
   -- ---- without padding they are one run
-  pub run-lit : packed f .distance * 8 ≡ f .width → litBits (f .width * f .height) b ≡ litIn (raster f) b
+  pub run-lit : f .distance * 8 ≡ f .width → litBits (f .width * f .height) b ≡ litIn (raster f) b
   unfolding litBits litIn
   run-lit d =
       let w = f .width in
       ap (λ (n : ℕ). howMany n (bitAt b)) (mul-comm w (f .height))
       ∙ many-cong (f .height * w) _ _ (λ p l. sym (bit-is (p % w) (p / w) ∙ same p))
     where
-      same : (p : ℕ) → bitAt (drop (p / f .width * packed f .distance) b) (p % f .width) ≡ bitAt b p
+      same : (p : ℕ) → bitAt (drop (p / f .width * f .distance) b) (p % f .width) ≡ bitAt b p
       same p =
           let y = p / f .width in
           let x = p % f .width in
-          let n = packed f .distance in
+          let n = f .distance in
           let e : y * (n * 8) + x ≡ p = ap (λ (w : ℕ). y * w + x) d ∙ div-add-mod' p (f .width) in
           let bit : x % 8 ≡ p % 8 = omega arith in
           let byte : y * n + x / 8 ≡ p / 8 = omega arith in

@@ -43,7 +43,7 @@ fn lit_rows(buf: &[u8], frame: Frame) -> u32
     ensures { λ r. ⌜ r ≡ litIn (raster frame) (now (buf .entry)) ⌝ }
 {
     let height = frame.height;
-    let distance = ((frame.width + 7) / 8) as usize;
+    let distance = frame.distance as usize;
     let mut sum = 0u32;
     let mut at = 0usize;
     let mut y = 0u32;
@@ -55,12 +55,12 @@ fn lit_rows(buf: &[u8], frame: Frame) -> u32
     sum
 }
 
-// The same. Rows without padding follow one another, and are one run.
+// The same. Rows with nothing between them are one run.
 fn lit_frame(buf: &[u8], frame: Frame) -> u32
     requires { ⌜ Accepted frame (length (now buf)) × (frame .depth ≡ 1) ⌝ }
     ensures { λ r. ⌜ r ≡ litIn (raster frame) (now (buf .entry)) ⌝ }
 {
-    if frame.width % 8 == 0 {
+    if frame.distance * 8 == frame.width {
         return lit_bits(buf, frame.width * frame.height);
     }
     lit_rows(buf, frame)

@@ -11,14 +11,16 @@ use borrow.Author.Tests.{lt-ltb, le-ltb, eq-eqb, ne-eqb}
 use Rattle.refusals.specs.First.{first}
 use Rattle.refusals.proofs.First.{exactly-0, refused, passed, both-pass, stops, goes-on, fails-alone}
 use Rattle.text.proofs.Writing.{sets-append}
+use Rattle.layout.specs.Packed.{rowBytes}
 use Rattle.framebuffer.specs.declared.Frame.{Frame}
 use Rattle.framebuffer.specs.declared.Size.{Size}
 use Rattle.framebuffer.specs.Answer.{sized}
-use Rattle.framebuffer.specs.Description.{size, tooLarge, tooShort, descriptionTests, frameTests}
+use Rattle.framebuffer.specs.Description.{size, tooShort, descriptionTests, frameTests}
 use Rattle.framebuffer.specs.Judged.{Described, Accepted}
 use Rattle.framebuffer.proofs.Refusals.{description-numbered, frame-numbered, is-described, is-accepted}
-use Rattle.netpbm.specs.Image.{imageBytes, imageLength}
+use Rattle.netpbm.specs.Image.{bigFirst, imageBytes, imageLength}
 use Rattle.netpbm.specs.Written.{noFormat, noRoom, imageSizeTests, writeTests, written, Writable}
+use Rattle.netpbm.proofs.Transfers.{big-described}
 
 -- ---- an answer by its number
 sized-number : (k b : ℕ) → sized k b .number ≡ k
@@ -44,19 +46,25 @@ module _ {r : Size} (k b : ℕ) (e : r ≡ sized k b) where
       any (suc k) h = refl
 
 -- ---- what is accepted passes
-small : (f : Frame) → Described f → tooLarge f ≡ false
-small f D = ap₂ _||_ (le-ltb 2048 (f .width) (D .width)) (le-ltb 2048 (f .height) (D .height))
-
-pub described-size : (f : Frame) → Described f → {r : Size} → r ≡ sized (first (descriptionTests f)) (size f) → r .bytes ≡ size f
+description-passes : (f : Frame) → Described f → first (descriptionTests f) ≡ 0
 unfolding descriptionTests
-described-size f D e =
-    bytes-of (first (descriptionTests f)) (size f) e
-    (number-of (first (descriptionTests f)) (size f) e ∙ exactly-0 (descriptionTests f) refl .1 (ap not (D .depth), (small f D, tt)))
+description-passes f D =
+    let w = ap₂ _||_ (le-ltb 2048 (f .width) (D .width)) (le-ltb 2048 (f .height) (D .height)) in
+    let n = ap₂ _||_ (le-ltb (f .distance) (rowBytes (f .width) (f .depth)) (D .apart)) (le-ltb 16384 (f .distance) (D .near)) in
+    exactly-0 (descriptionTests f) refl .1 (ap not (D .depth), (w, (n, tt)))
 
 pub frame-passes : (f : Frame) (len : ℕ) → Accepted f len → first (frameTests f len) ≡ 0
-unfolding descriptionTests frameTests
+unfolding frameTests
 frame-passes f len A =
-    exactly-0 (frameTests f len) refl .1 (ap not (A .described .depth), (small f (A .described), (le-ltb len (size f) (A .room), tt)))
+    sym (passed (descriptionTests f) ((3, tooShort f len) ∷ []) (description-numbered f) refl (description-passes f (A .described))
+    (goes-on 3 (tooShort f len) [] (le-ltb len (size f) (A .room)) refl))
+
+-- the bytes of a file's pixels
+pub pixels-size : (f : Frame) → Described f → {g : Frame} {r : Size} → g ≡ bigFirst f → r ≡ sized (first (descriptionTests g)) (size g) → r .bytes ≡ size (bigFirst f)
+pixels-size f D b e =
+    let g = bigFirst f in
+    let i = e ∙ ap (λ (g : Frame). sized (first (descriptionTests g)) (size g)) b in
+    bytes-of (first (descriptionTests g)) (size g) i (number-of (first (descriptionTests g)) (size g) i ∙ description-passes g (big-described f D))
 
 -- ---- the length of a file
 module _ (f : Frame) {r : Size} (e : r ≡ sized (first (descriptionTests f)) (size f)) where
@@ -67,8 +75,8 @@ module _ (f : Frame) {r : Size} (e : r ≡ sized (first (descriptionTests f)) (s
       ∙ ap (λ (k : ℕ). sized k (imageLength f)) (refused (descriptionTests f) _ refl (λ z. h (number-of (first (descriptionTests f)) (size f) e ∙ z)))
 
   module _ (z : r .number ≡ 0) where
-    pub is-one : Described f
-    is-one = is-described f (sym (number-of (first (descriptionTests f)) (size f) e) ∙ z)
+    pub sized-described : Described f
+    sized-described = is-described f (sym (number-of (first (descriptionTests f)) (size f) e) ∙ z)
 
     then-format : {k : ℕ} → k ≡ first ((10, noFormat f) ∷ []) → k ≡ first (imageSizeTests f)
     unfolding imageSizeTests

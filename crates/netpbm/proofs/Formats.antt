@@ -1,25 +1,34 @@
--- What is known of a frame that has a format, and of two that are alike. Assumes nothing.
+-- What is known of a frame that has a format, and of two whose rows are one run. Assumes nothing.
 use mathlib.Core.Path.{_≡_, refl, sym, ap, ap₂, _∙_}
 use mathlib.Core.Logic.{_⊎_, inl, inr, ⊎-elim}
 use mathlib.Core.Bool.{Bool, Bool·beq, true, false, not, _&&_, _||_, true≢false}
-use Prim.Native.Nat.{ℕ, _+_, _*_, _/_, _%_, _≤_, _<_}
+use Prim.Native.Nat.{ℕ, zero, suc, _+_, _*_, _≤_, _<_}
 use native.Mathlib.Nat.{mul-le-mul-right, mul-pos}
 use native.Mathlib.Omega.{arith}
 use lib.Dec.{eqb}
-use borrow.Author.Tests.{eq-eqb, eqb-true, eqb-false, not-false}
+use borrow.Author.Tests.{eq-eqb, eqb-true, eqb-false, not-false, not-true}
 use Rattle.whole.proofs.Tests.{and-true, or-true, or-false}
 use Rattle.layout.specs.Packed.{rowBytes, parts}
 use Rattle.layout.proofs.Places.{depth-pos}
 use Rattle.framebuffer.specs.declared.Frame.{Frame}
-use Rattle.framebuffer.specs.Description.{packed, size}
+use Rattle.framebuffer.specs.Description.{size}
 use Rattle.netpbm.specs.Written.{Writable}
-use Rattle.netpbm.specs.Words.{Alike, isTurned, isRun}
+use Rattle.netpbm.specs.Words.{isTurned, isRun}
 
 module _ (f : Frame) where
-  -- a row ends within the frame
-  pub row-room : (y : ℕ) → y < f .height → y * packed f .distance + packed f .distance ≤ size f
+  -- rows that take bytes are some bytes apart
+  pub row-pos : {i : ℕ} → i < size f → 0 < f .distance
   unfolding size
-  row-room y h = let l : (y + 1) * packed f .distance ≤ f .height * packed f .distance = mul-le-mul-right (packed f .distance) (omega arith) in omega arith
+  row-pos {i} h = go (f .distance) h
+    where
+      go : (n : ℕ) → i < n * f .height → 0 < n
+      go zero h = absurd (omega arith)
+      go (suc n) h = omega arith
+
+  -- a row ends within the frame
+  pub row-room : (y : ℕ) → y < f .height → y * f .distance + f .distance ≤ size f
+  unfolding size
+  row-room y h = let l : (y + 1) * f .distance ≤ f .height * f .distance = mul-le-mul-right (f .distance) (omega arith) in omega arith
 
   module _ {len : ℕ} (W : Writable f len) where
     abbrev depths : Bool
@@ -43,8 +52,8 @@ module _ (f : Frame) where
     pub has-bytes : 0 < size f
     unfolding size rowBytes
     has-bytes =
-        let p : 0 < packed f .distance = omega (arith, has-bits) in
-        let q : 0 < f .height * packed f .distance = mul-pos has-height p in
+        let p : 0 < f .distance = omega (arith, has-bits, W .accepted .described .apart) in
+        let q : 0 < f .height * f .distance = mul-pos has-height p in
         omega (arith, q)
 
     -- unless a pixel's bytes are turned round, it has one byte, or the orders are one
@@ -61,20 +70,26 @@ module _ (f : Frame) where
         one false true e = absurd (true≢false (sym e))
         one false false e = refl
 
--- rows of one width and depth lie equally far apart
-pub same-distance : (f g : Frame) {m n : ℕ} → Alike f m g n → packed f .distance ≡ packed g .distance
-same-distance f g A = ap₂ rowBytes (A .width) (A .depth)
+-- ---- rows that are one run of bytes: nothing lies between them, and they take as many bytes
+module _ (f g : Frame) (t : isRun f g ≡ true) where
+  abbrev bits : ℕ
+  bits = g .width * g .depth
 
--- the bytes of rows without padding
-pub run-size : (f g : Frame) → isRun f g ≡ true → g .width * g .depth / 8 * g .height ≡ size g
-unfolding size rowBytes
-run-size f g t =
-    let bits = g .width * g .depth in
-    let z = eqb-true (bits % 8) 0 (and-true (eqb (bits % 8) 0) _ t .0) in
-    let e : bits / 8 ≡ (bits + 7) / 8 = omega (arith, z) in
-    ap (λ (n : ℕ). n * g .height) e
+  straight : (eqb (f .distance * 8) bits && eqb (g .distance * 8) bits ≡ true) × (not (isTurned f g) ≡ true)
+  straight = and-true _ _ t
 
--- and take as many bytes
-pub same-size : (f g : Frame) {m n : ℕ} → Alike f m g n → size f ≡ size g
-unfolding size
-same-size f g A = ap₂ (λ (d h : ℕ). d * h) (same-distance f g A) (A .height)
+  both-full : (f .distance * 8 ≡ bits) × (g .distance * 8 ≡ bits)
+  both-full = let p = and-true _ _ (straight .0) in (eqb-true _ _ (p .0), eqb-true _ _ (p .1))
+
+  pub run-full : g .width * g .depth ≡ 8 * g .distance
+  run-full = omega (arith, both-full .1)
+
+  pub same-distance : f .distance ≡ g .distance
+  same-distance = omega (arith, both-full .0, both-full .1)
+
+  pub not-turned : isTurned f g ≡ false
+  not-turned = not-true (isTurned f g) (straight .1)
+
+  pub same-size : f .height ≡ g .height → size f ≡ size g
+  unfolding size
+  same-size h = ap₂ (λ (d h : ℕ). d * h) same-distance h

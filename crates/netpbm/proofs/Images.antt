@@ -1,5 +1,5 @@
--- ONE PICTURE, ONE FILE: two frames of one size and depth have equal files exactly if they show the same picture, whatever their byte order, padding and tail;
--- and equal files have one size and depth, since the header is read back. Assumes nothing.
+-- ONE PICTURE, ONE FILE: two frames of one size and depth have equal files exactly if they show the same picture, whatever their byte order, row distance, padding and
+-- tail; and equal files have one size and depth, since the header is read back. Assumes nothing.
 use mathlib.Core.Path.{_≡_, refl, sym, ap, ap₂, subst, _∙_}
 use mathlib.Core.Bool.{Bool, cond}
 use mathlib.Core.List.{List, _++_}
@@ -23,27 +23,29 @@ use Rattle.netpbm.proofs.Transfers.{big-described, pixels-length}
 use Rattle.netpbm.proofs.Formats.{formats}
 use Rattle.netpbm.proofs.Headers.{header-says}
 
-module _ (w h d : ℕ) (i j : Bool) (D : Described (described w h d i)) (a b : List ℕ) where
+-- a frame in the order i with rows m bytes apart, and one in the order j with rows n bytes apart
+module _ (w h d : ℕ) (i j : Bool) (m n : ℕ) where
   abbrev f : Frame
-  f = described w h d i
+  f = described w h d i m
 
   abbrev g : Frame
-  g = described w h d j
+  g = described w h d j n
 
-  same-pixels : (pixels f a ≡ pixels g b) ↔ Agree (raster (bigFirst f)) (shown (raster f) a) (shown (raster g) b)
-  unfolding pixels size
-  same-pixels =
-      one-picture (raster (bigFirst f)) (sound (bigFirst f) (big-described f D)) (shown (raster f) a) (shown (raster g) b) (replicate (size (bigFirst f)) 0)
-      (subst (λ (n : ℕ). size (bigFirst f) ≤ n) (sym (length-replicate (size (bigFirst f)) 0)) (le-refl (size (bigFirst f))))
-      (λ x y hx hy. shown-colour (raster f) (sound f D) a x y)
-      (λ x y hx hy. shown-colour (raster g) (sound g (record { depth = D .depth; width = D .width; height = D .height })) b x y)
+  module _ (F : Described f) (G : Described g) (a b : List ℕ) where
+    same-pixels : (pixels f a ≡ pixels g b) ↔ Agree (raster (bigFirst f)) (shown (raster f) a) (shown (raster g) b)
+    unfolding pixels size
+    same-pixels =
+        one-picture (raster (bigFirst f)) (sound (bigFirst f) (big-described f F)) (shown (raster f) a) (shown (raster g) b) (replicate (size (bigFirst f)) 0)
+        (subst (λ (n : ℕ). size (bigFirst f) ≤ n) (sym (length-replicate (size (bigFirst f)) 0)) (le-refl (size (bigFirst f))))
+        (λ x y hx hy. shown-colour (raster f) (sound f F) a x y)
+        (λ x y hx hy. shown-colour (raster g) (sound g G) b x y)
 
-  pub one-picture-one-file : (imageBytes f a ≡ imageBytes g b) ↔ ((x y : ℕ) → x < w → y < h → shown (raster f) a x y ≡ shown (raster g) b x y)
-  unfolding imageBytes header
-  one-picture-one-file = (
-    λ e. same-pixels .0 (sym (drop-append-seam (header f) (pixels f a)) ∙ ap (drop (length (header f))) e ∙ drop-append-seam (header g) (pixels g b)),
-    λ s. ap (λ (p : List ℕ). header f ++ p) (same-pixels .1 s),
-  )
+    pub one-picture-one-file : (imageBytes f a ≡ imageBytes g b) ↔ ((x y : ℕ) → x < w → y < h → shown (raster f) a x y ≡ shown (raster g) b x y)
+    unfolding imageBytes header
+    one-picture-one-file = (
+      λ e. same-pixels .0 (sym (drop-append-seam (header f) (pixels f a)) ∙ ap (drop (length (header f))) e ∙ drop-append-seam (header g) (pixels g b)),
+      λ s. ap (λ (p : List ℕ). header f ++ p) (same-pixels .1 s),
+    )
 
 -- ---- ONE FILE, ONE SIZE AND DEPTH
 abbrev depthOf : ℕ → ℕ

@@ -1,4 +1,4 @@
--- WHAT A READ LEAVES (02, T-06): every pixel is the file's, padding and tail stay, and bytes behind a file that is taken, or that has another size, change nothing. Which
+-- WHAT A READ LEAVES (02, T-06): every pixel is the file's, padding, gaps and tail stay, and bytes behind a file that is taken, or that has another size, change nothing. Which
 -- number a file is given, and when. Assumes nothing.
 use mathlib.Core.Path.{_≡_, refl, sym, ap, subst, _∙_}
 use mathlib.Core.Bool.{Bool, true, false, cond, not, _&&_, true≢false}
@@ -26,7 +26,7 @@ use Rattle.layout.proofs.Places.{Sound, place-in}
 use Rattle.layout.proofs.Pictures.{rendered-cong, shown-rendered, shown-colour}
 use Rattle.layout.proofs.Padding.{padding-stays, tail-stays}
 use Rattle.framebuffer.specs.declared.Frame.{Frame}
-use Rattle.framebuffer.specs.Description.{packed, raster, size, noDepth, tooLarge, tooShort, descriptionTests, frameTests}
+use Rattle.framebuffer.specs.Description.{arranged, raster, size, noDepth, tooLarge, noDistance, tooShort, descriptionTests, frameTests}
 use Rattle.framebuffer.proofs.Refusals.{spaced, sound, is-accepted}
 use Rattle.netpbm.specs.Image.{bigFirst}
 use Rattle.netpbm.specs.Written.{noFormat, Writable}
@@ -43,11 +43,11 @@ accepts f len s = first (loadTests f len s) ≡ 0
 pub loaded-bytes : (f : Frame) (s b : List ℕ) → accepts f (length b) s → loaded f s b .1 ≡ rendered (raster f) (filePicture f s) b
 loaded-bytes f s b z = ap (λ (p : ℕ × List ℕ). p .1) (sym (accepted-loaded f s b refl z refl))
 
--- "an accepted read .. setting every pixel", and nothing else: the bits of the file's pixels, the frame's padding bits, and the bytes behind the frame
+-- "an accepted read .. setting every pixel", and nothing else: the file's pixels, every bit from a row's last pixel to the next row, and the bytes behind the frame
 pub record Sets (f : Frame) (s b after : List ℕ) : Type 0 where
   pub pixels : (x y : ℕ) → x < f .width → y < f .height → shown (raster f) after x y ≡ filePicture f s x y
-  pub padding : (y j t : ℕ) → j < packed f .distance → t < 8 → f .width * f .depth ≤ 8 * j + (7 - t)
-      → digit 2 t (getD after (y * packed f .distance + j) 0) ≡ digit 2 t (getD b (y * packed f .distance + j) 0)
+  pub padding : (y j t : ℕ) → j < f .distance → t < 8 → f .width * f .depth ≤ 8 * j + (7 - t)
+      → digit 2 t (getD after (y * f .distance + j) 0) ≡ digit 2 t (getD b (y * f .distance + j) 0)
   pub tail : (i : ℕ) → size f ≤ i → getD after i 0 ≡ getD b i 0
 
 pub reading-sets-exactly-the-pixels : (f : Frame) (s b : List ℕ) → accepts f (length b) s → Sets f s b (loaded f s b .1)
@@ -60,8 +60,8 @@ reading-sets-exactly-the-pixels f s b z =
     (record {
       pixels = λ x y hx hy. shown-rendered (raster f) (sound f D) (filePicture f s) b (A .room) x y hx hy
           (shown-colour (raster (bigFirst f)) (sound (bigFirst f) (big-described f D)) (drop (headerOf (f .depth) s .start) s) x y);
-      padding = λ y j t hj ht past. padding-stays (packed f) S y j t hj ht past (filePicture f s) b;
-      tail = λ i h. tail-stays (packed f) S i h (filePicture f s) b;
+      padding = λ y j t hj ht past. padding-stays (arranged f) S y j t hj ht past (filePicture f s) b;
+      tail = λ i h. tail-stays (arranged f) S i h (filePicture f s) b;
     })
 
 -- ---- WHICH NUMBER (02, T-06), for every list of bytes: 11, 13, 12 and 0 by what the file says, in the form of 02's grammar
@@ -92,13 +92,15 @@ TooFew f s = Says (f .depth) s (λ w h n. own f w h × (length s < n + size (big
 abbrev pub Complete : Frame → List ℕ → Type 0
 Complete f s = Says (f .depth) s (λ w h n. own f w h × (n + size (bigFirst f) ≤ length s))
 
--- a number above 10 is none of the tests before the header
-late : (a b c d : Bool) (r k : ℕ) → 10 < k → cond a 1 (cond b 2 (cond c 3 (cond d 10 r))) ≡ k → (a ≡ false) × (b ≡ false) × (c ≡ false) × (d ≡ false) × (r ≡ k)
-late true b c d r k h e = absurd (let z : 1 ≡ k = e in omega arith)
-late false true c d r k h e = absurd (let z : 2 ≡ k = e in omega arith)
-late false false true d r k h e = absurd (let z : 3 ≡ k = e in omega arith)
-late false false false true r k h e = absurd (let z : 10 ≡ k = e in omega arith)
-late false false false false r k h e = (refl, refl, refl, refl, e)
+-- 11, 12 and 13 are the numbers of no test before the header
+late : (a b c d e : Bool) (r k : ℕ) → 10 < k → k < 14 → cond a 1 (cond b 2 (cond c 14 (cond d 3 (cond e 10 r)))) ≡ k
+    → (a ≡ false) × (b ≡ false) × (c ≡ false) × (d ≡ false) × (e ≡ false) × (r ≡ k)
+late true b c d e r k h l i = absurd (let z : 1 ≡ k = i in omega arith)
+late false true c d e r k h l i = absurd (let z : 2 ≡ k = i in omega arith)
+late false false true d e r k h l i = absurd (let z : 14 ≡ k = i in omega arith)
+late false false false true e r k h l i = absurd (let z : 3 ≡ k = i in omega arith)
+late false false false false true r k h l i = absurd (let z : 10 ≡ k = i in omega arith)
+late false false false false false r k h l i = (refl, refl, refl, refl, refl, i)
 
 -- the three behind it
 abbrev three : Bool → Bool → Bool → ℕ
@@ -139,11 +141,11 @@ module _ (f : Frame) (len : ℕ) (s : List ℕ) where
   number = first (loadTests f len s)
 
   -- the tests of the header decide where the frame is accepted and has a format, and nowhere else
-  by-head : (k : ℕ) → 10 < k → number ≡ k → Writable f len × (three ok other few ≡ k)
+  by-head : (k : ℕ) → 10 < k → k < 14 → number ≡ k → Writable f len × (three ok other few ≡ k)
   unfolding descriptionTests frameTests fileTests loadTests
-  by-head k h e =
-      let p = late (noDepth f) (tooLarge f) (tooShort f len) (noFormat f) (three ok other few) k h e in
-      (record { accepted = is-accepted f len (exactly-0 (frameTests f len) refl .1 (p .0, (p .1, (p .2, tt)))); format = p .3 }, p .4)
+  by-head k h l e =
+      let p = late (noDepth f) (tooLarge f) (noDistance f) (tooShort f len) (noFormat f) (three ok other few) k h l e in
+      (record { accepted = is-accepted f len (exactly-0 (frameTests f len) refl .1 (p .0, (p .1, (p .2, (p .3, tt))))); format = p .4 }, p .5)
 
   answered : Writable f len → {k : ℕ} → k ≡ first (fileTests f s) → number ≡ k
   answered W e = sym (by-file f len s refl (frame-passes f len (W .accepted)) e)
@@ -172,7 +174,7 @@ module _ (f : Frame) (len : ℕ) (s : List ℕ) where
   -- "11 for a bad header"
   pub eleven : (number ≡ 11) ↔ (Writable f len × Unformed f s)
   eleven = (
-    λ e. let p = by-head 11 (omega arith) e in (p .0, λ w h n W. true≢false (ap (λ (H : Header). H .ok) (read W) ∙ is-11 ok other few (p .1))),
+    λ e. let p = by-head 11 (omega arith) (omega arith) e in (p .0, λ w h n W. true≢false (ap (λ (H : Header). H .ok) (read W) ∙ is-11 ok other few (p .1))),
     λ p. answered (p .0) (no-header f s refl (p .0 .format) (none (p .1))),
   )
     where
@@ -186,7 +188,7 @@ module _ (f : Frame) (len : ℕ) (s : List ℕ) where
   -- "13 for another size"
   pub thirteen : (number ≡ 13) ↔ (Writable f len × OtherSize f s)
   thirteen = (
-    λ e. let p = by-head 13 (omega arith) e in let q = is-13 ok other few (p .1) in
+    λ e. let p = by-head 13 (omega arith) (omega arith) e in let q = is-13 ok other few (p .1) in
         (p .0, record { width = head .width; height = head .height; start = head .start; formed = formed (q .0); is = λ o. true≢false (sym (q .1) ∙ ap not (equal-size _ _ o)) }),
     λ p. let S = p .1 in answered (p .0) (other-size f s (read (S .formed)) (p .0 .format) refl (not-own (S .width) (S .height) (S .is))),
   )
@@ -194,7 +196,7 @@ module _ (f : Frame) (len : ℕ) (s : List ℕ) where
   -- "12 for too few pixel bytes"
   pub twelve : (number ≡ 12) ↔ (Writable f len × TooFew f s)
   twelve = (
-    λ e. let p = by-head 12 (omega arith) e in let q = is-12 ok other few (p .1) in
+    λ e. let p = by-head 12 (omega arith) (omega arith) e in let q = is-12 ok other few (p .1) in
         (p .0, record { width = head .width; height = head .height; start = head .start; formed = formed (q .0); is = (is-own _ _ (q .1), ltb-true _ _ (q .2)) }),
     λ p. let S = p .1 in answered (p .0) (too-few f s (read (S .formed)) (p .0 .format) refl (ap not (equal-size (S .width) (S .height) (S .is .0))) (S .is .1)),
   )
@@ -251,5 +253,5 @@ more-behind f s t b z =
     sym (accepted-loaded f (s ++ t) b (sym z′) refl
     (sym (rendered-cong (raster f) (sound f D) (filePicture f (s ++ t)) (filePicture f s) b
     (λ x y hx hy. ap (λ (u : List ℕ). shown (raster (bigFirst f)) u x y) e
-    ∙ shown-append (packed (bigFirst f)) (spaced (bigFirst f) (big-described f D)) (drop start s) t (omega (arith, R .room, length-drop start s)) x y hx hy))))
+    ∙ shown-append (arranged (bigFirst f)) (spaced (bigFirst f) (big-described f D)) (drop start s) t (omega (arith, R .room, length-drop start s)) x y hx hy))))
     ∙ accepted-loaded f s b (sym z) refl refl

@@ -7,15 +7,15 @@ use lib.ListN.{length, replicate}
 use Rattle.headers.specs.Header.{headerBytes}
 use Rattle.layout.specs.Layout.{shown, rendered}
 use Rattle.framebuffer.specs.declared.Frame.{Frame}
-use Rattle.framebuffer.specs.Description.{described, raster, size}
+use Rattle.framebuffer.specs.Description.{packed, raster, size}
 
 -- "magic, LF, width, space, height, LF, and for P5 and P6 `255`, LF"
 unfoldable pub header : Frame → List ℕ
 header f = headerBytes (f .depth) (f .width) (f .height)
 
--- a frame of that size and depth with its big end first, as the file keeps its pixels
+-- a frame of that size and depth with its big end first and no gap between its rows, as the file keeps its pixels
 abbrev pub bigFirst : Frame → Frame
-bigFirst f = described (f .width) (f .height) (f .depth) true
+bigFirst f = packed (f .width) (f .height) (f .depth) true
 
 -- the picture in that frame, over zeros: red comes first, and "row padding is written as 0"
 unfoldable pub pixels : Frame → List ℕ → List ℕ

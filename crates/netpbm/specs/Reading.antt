@@ -27,7 +27,7 @@ fileTests f s =
     let h = headerOf (f .depth) s in
     (10, noFormat f) ∷ (11, not (h .ok)) ∷ (13, otherSize f h) ∷ (12, fewPixels f (length s) h) ∷ []
 
--- a file read into a frame over len bytes: 1 to 3, "after 3" those of the file
+-- a file read into a frame over len bytes: 1, 2, 14, 3, "after 3" those of the file
 unfoldable pub loadTests : Frame → ℕ → List ℕ → Tests
 loadTests f len s = frameTests f len ++ fileTests f s
 

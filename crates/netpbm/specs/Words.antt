@@ -1,16 +1,17 @@
 -- What it leaves of a buffer to take rows of bytes over from one frame into another, and when all rows are one run of bytes.
 use mathlib.Core.Path.{_≡_}
-use mathlib.Core.Bool.{Bool, Bool·beq, _&&_, not}
+use mathlib.Core.Bool.{Bool, Bool·beq, cond, _&&_, not}
 use mathlib.Core.List.{List}
 use Prim.Native.Nat.{ℕ, _+_, _*_, _-_, _/_, _%_}
 use lib.Bits.{bitAnd}
-use lib.Dec.{eqb}
+use lib.Dec.{eqb, ltb}
 use lib.ListN.{getD, set}
 use Rattle.layout.specs.Digits.{setRun}
 use Rattle.layout.specs.Layout.{shown, rendered}
+use Rattle.layout.specs.Packed.{rowBytes}
 use Rattle.packing.specs.Words.{merged}
 use Rattle.framebuffer.specs.declared.Frame.{Frame}
-use Rattle.framebuffer.specs.Description.{raster}
+use Rattle.framebuffer.specs.Description.{raster, size}
 use Rattle.framebuffer.specs.Judged.{Accepted}
 use Rattle.netpbm.specs.Written.{Writable}
 
@@ -26,9 +27,9 @@ pub record Alike (f : Frame) (m : ℕ) (g : Frame) (n : ℕ) : Type 0 where
 abbrev pub transferred : Frame → List ℕ → Frame → List ℕ → List ℕ
 transferred f a g b = rendered (raster g) (shown (raster f) a) b
 
--- the first n bytes with the bits alone that `kept` has
-abbrev pub maskedRun : ℕ → ℕ → List ℕ → List ℕ
-maskedRun n kept b = setRun 0 n (λ k. bitAnd (getD b k 0) kept) b
+-- the bytes of each row with the bits alone that `kept` has, and those between the rows as they are
+abbrev pub maskedRows : Frame → ℕ → List ℕ → List ℕ
+maskedRows g kept b = setRun 0 (size g) (λ k. cond (ltb (k % g .distance) (rowBytes (g .width) (g .depth))) (bitAnd (getD b k 0) kept) (getD b k 0)) b
 
 -- the n bytes from `at` on, at `start`, and in the byte behind them the bits that the mask has
 abbrev pub copiedRow : List ℕ → ℕ → ℕ → ℕ → ℕ → ℕ → List ℕ → List ℕ
@@ -43,6 +44,6 @@ turnedRow a at start n b = setRun start (n * 3) (λ k. getD a (at + k / 3 * 3 + 
 abbrev pub isTurned : Frame → Frame → Bool
 isTurned f g = eqb (g .depth) 24 && not (Bool·beq (f .big) (g .big))
 
--- no row has padding, and no pixel's bytes are turned round
+-- no row has padding or a gap behind it, and no pixel's bytes are turned round
 abbrev pub isRun : Frame → Frame → Bool
-isRun f g = eqb (g .width * g .depth % 8) 0 && not (isTurned f g)
+isRun f g = let bits = g .width * g .depth in eqb (f .distance * 8) bits && eqb (g .distance * 8) bits && not (isTurned f g)

@@ -22,11 +22,11 @@ noFormat f = not (eqb (f .depth) 1 || eqb (f .depth) 8 || eqb (f .depth) 24) || 
 abbrev pub noRoom : Frame → ℕ → Bool
 noRoom f room = ltb room (imageLength f)
 
--- the length of a file: 1, 2, 10
+-- the length of a file: 1, 2, 14, 10
 unfoldable pub imageSizeTests : Frame → Tests
 imageSizeTests f = descriptionTests f ++ ((10, noFormat f) ∷ [])
 
--- a frame over len bytes, written into room bytes: 1 to 3, "after 3, 10 .., then 9"
+-- a frame over len bytes, written into room bytes: 1, 2, 14, 3, "after 3, 10 .., then 9"
 unfoldable pub writeTests : Frame → ℕ → ℕ → Tests
 writeTests f len room = frameTests f len ++ ((10, noFormat f) ∷ (9, noRoom f room) ∷ [])
 

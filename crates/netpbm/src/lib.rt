@@ -7,12 +7,11 @@ ghost use Rattle.refusals.specs.First.{first};
 ghost use Rattle.headers.specs.Header.{headerOf};
 ghost use Rattle.layout.specs.Digits.{setRun};
 ghost use Rattle.framebuffer.specs.Answer.{sized};
-ghost use Rattle.framebuffer.specs.Description.{packed, size};
 ghost use Rattle.framebuffer.specs.Judged.{Described};
 ghost use Rattle.netpbm.specs.Image.{header, bigFirst, imageLength};
 ghost use Rattle.netpbm.specs.Written.{noFormat, imageSizeTests, written};
 ghost use Rattle.netpbm.specs.Reading.{fileTests, loaded};
-ghost use Rattle.netpbm.specs.Words.{Alike, transferred, maskedRun, copiedRow, turnedRow, isTurned, isRun};
+ghost use Rattle.netpbm.specs.Words.{Alike, transferred, maskedRows, copiedRow, turnedRow, isTurned, isRun};
 use framebuffer::Frame;
 use framebuffer::Size;
 use headers::Header;
@@ -37,13 +36,20 @@ fn header_length(frame: Frame) -> u32
     (digits + 9) as u32
 }
 
+// A frame of that size and depth with its big end first and no gap between its rows, as files keep their pixels.
+fn in_file(frame: Frame) -> Frame
+    ensures { λ r. ⌜ r ≡ bigFirst frame ⌝ }
+{
+    Frame::packed(frame.width, frame.height, frame.depth, true)
+}
+
 // The bytes that the file of a frame takes.
 pub fn image_size(frame: Frame) -> Size
     ensures { λ r. ⌜ r ≡ sized (first (imageSizeTests frame)) (imageLength frame) ⌝ }
 {
-    let pixels = framebuffer::buffer_size_bpp(frame);
-    if pixels.number != 0 {
-        return pixels;
+    let own = framebuffer::buffer_size_bpp(frame);
+    if own.number != 0 {
+        return own;
     }
     if has_no_format(frame) {
         return Size {
@@ -51,6 +57,7 @@ pub fn image_size(frame: Frame) -> Size
             bytes: 0,
         };
     }
+    let pixels = framebuffer::buffer_size_bpp(in_file(frame));
     Size {
         number: 0,
         bytes: header_length(frame) + pixels.bytes,
@@ -113,40 +120,42 @@ fn is_turned(source: Frame, target: Frame) -> bool
     (target.depth == 24) & (source.big != target.big)
 }
 
-// Row y. Its bytes are the source's, but for the padding and, where the orders differ, for the order of a pixel's bytes.
+// Row y. Its bytes are the source's, but for the padding and, where the orders differ, for the order of a pixel's bytes. The bytes behind it stay.
 fn transfer_row(from: &[u8], source: Frame, to: &mut [u8], target: Frame, kept: u8, y: u32)
     requires { ⌜ Alike source (length (now from)) target (length (now to)) × (y < target .height) ⌝ }
     ensures { λ r. ⌜ now (to .exit) ≡
-        (let row = packed target .distance in
-        let all = transferred source (now (from .entry)) target (maskedRun (size target) kept (now (to .entry))) in
-        setRun (y * row) row (λ k. getD all (y * row + k) 0) (now (to .entry))) ⌝ }
+        (let at = y * target .distance in
+        let all = transferred source (now (from .entry)) target (maskedRows target kept (now (to .entry))) in
+        setRun at (target .distance) (λ k. getD all (at + k) 0) (now (to .entry))) ⌝ }
 {
     let bits = target.width * target.depth;
     let row = (bits + 7) / 8;
-    let at = (y * row) as usize;
+    let at = (y * source.distance) as usize;
+    let start = (y * target.distance) as usize;
     if is_turned(source, target) {
-        turn_row(from, at, to, at, target.width as usize);
+        turn_row(from, at, to, start, target.width as usize);
         return;
     }
     let mask = 255u8 << (row * 8 - bits);
-    copy_row(from, at, to, at, (row - 1) as usize, mask, kept);
+    copy_row(from, at, to, start, (row - 1) as usize, mask, kept);
 }
 
-// Whether the rows of both are one run of the same bytes: none has padding, and no pixel's bytes are turned round.
+// Whether the rows of both are one run of the same bytes: no row has padding or a gap behind it, and no pixel's bytes are turned round.
 fn is_run(source: Frame, target: Frame) -> bool
-    requires { ⌜ Described target ⌝ }
+    requires { ⌜ Described source × Described target ⌝ }
     ensures { λ r. ⌜ r ≡ isRun source target ⌝ }
 {
-    (target.width * target.depth % 8 == 0) & !is_turned(source, target)
+    let bits = target.width * target.depth;
+    (source.distance * 8 == bits) & (target.distance * 8 == bits) & !is_turned(source, target)
 }
 
-// All rows. The target's padding stays as far as `kept` has its bits, and the bytes behind the frame stay.
+// All rows. The padding in a row's last byte stays as far as `kept` has its bits; the bytes between the rows and behind the frame stay.
 fn transfer_rows(from: &[u8], source: Frame, to: &mut [u8], target: Frame, kept: u8)
     requires { ⌜ Alike source (length (now from)) target (length (now to)) ⌝ }
-    ensures { λ r. ⌜ now (to .exit) ≡ transferred source (now (from .entry)) target (maskedRun (size target) kept (now (to .entry))) ⌝ }
+    ensures { λ r. ⌜ now (to .exit) ≡ transferred source (now (from .entry)) target (maskedRows target kept (now (to .entry))) ⌝ }
 {
     if is_run(source, target) {
-        let bytes = target.width * target.depth / 8 * target.height;
+        let bytes = target.distance * target.height;
         copy_row(from, 0, to, 0, (bytes - 1) as usize, 255, 0);
         return;
     }
@@ -156,13 +165,6 @@ fn transfer_rows(from: &[u8], source: Frame, to: &mut [u8], target: Frame, kept:
         transfer_row(from, source, to, target, kept, y);
         y += 1;
     }
-}
-
-// A frame of that size and depth with its big end first, as files keep their pixels.
-fn in_file(frame: Frame) -> Frame
-    ensures { λ r. ⌜ r ≡ bigFirst frame ⌝ }
-{
-    Frame::new(frame.width, frame.height, frame.depth, true)
 }
 
 // Writes the file of a frame from the output's first byte on, and answers how many bytes it has. The bytes behind them stay.
@@ -212,7 +214,7 @@ fn file_refusal(file: &[u8], frame: Frame, header: Header) -> u32
     0
 }
 
-// Sets every pixel of a frame to that of a file of its size and depth. Padding and the bytes behind the frame stay.
+// Sets every pixel of a frame to that of a file of its size and depth. All other bits stay: padding, the bytes between the rows and behind the frame.
 pub fn read_image(buf: &mut [u8], frame: Frame, file: &[u8]) -> u32
     ensures { λ r. ⌜ (r, now (buf .exit)) ≡ loaded frame (now (file .entry)) (now (buf .entry)) ⌝ }
 {

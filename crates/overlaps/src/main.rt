@@ -101,7 +101,7 @@ fn lend(buf: &mut [u8], frame: Frame) {
 
 fn try_order(depth: u32, big: bool) {
     let mut buf = [0u8; 399];
-    lend(&mut buf, Frame::new(11, 9, depth, big));
+    lend(&mut buf, Frame::packed(11, 9, depth, big));
 }
 
 fn try_depth(depth: u32) {

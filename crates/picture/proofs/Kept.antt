@@ -12,12 +12,13 @@ use Rattle.refusals.proofs.First.{passed, goes-on}
 use Rattle.geometry.specs.declared.Point.{Point}
 use Rattle.layout.specs.Digits.{digit}
 use Rattle.layout.specs.Layout.{Picture, shown, rendered}
-use Rattle.layout.proofs.Padding.{padding-stays, tail-stays}
+use Rattle.layout.specs.Packed.{rowBytes}
+use Rattle.layout.proofs.Padding.{padding-stays, gap-stays, tail-stays}
 use Rattle.layout.proofs.Pictures.{rendered-length, shown-rendered, shown-colour, shown-zeros}
 use Rattle.framebuffer.specs.declared.Frame.{Frame}
 use Rattle.framebuffer.specs.declared.Read.{Read}
 use Rattle.framebuffer.specs.Answer.{read}
-use Rattle.framebuffer.specs.Description.{packed, raster, size, isOutside, frameTests, readTests, colourAt}
+use Rattle.framebuffer.specs.Description.{arranged, raster, size, isOutside, frameTests, readTests, colourAt}
 use Rattle.framebuffer.specs.Judged.{Accepted}
 use Rattle.framebuffer.specs.Window.{wholeWindow}
 use Rattle.framebuffer.proofs.Refusals.{is-accepted, frame-numbered, spaced, sound}
@@ -70,15 +71,19 @@ module _ (f : Frame) (n : ℕ) (ok : first (frameTests f n) ≡ 0) {os : List Ca
       ∙ ap (read 0) (run-shows x y hx hy)
 
   -- "Row padding .. never change": bit t of byte j of row y, the lowest being bit 0, where it stands behind the row's last pixel
-  pub padding-kept : (y j t : ℕ) → j < packed f .distance → t < 8 → f .width * f .depth ≤ 8 * j + (7 - t)
-      → digit 2 t (getD c (y * packed f .distance + j) 0) ≡ digit 2 t (getD b (y * packed f .distance + j) 0)
+  pub padding-kept : (y j t : ℕ) → j < f .distance → t < 8 → f .width * f .depth ≤ 8 * j + (7 - t)
+      → digit 2 t (getD c (y * f .distance + j) 0) ≡ digit 2 t (getD b (y * f .distance + j) 0)
   padding-kept y j t hj ht past =
-      ap (λ (a : List ℕ). digit 2 t (getD a (y * packed f .distance + j) 0)) leaves ∙ padding-stays (packed f) (spaced f (A .described)) y j t hj ht past _ b
+      ap (λ (a : List ℕ). digit 2 t (getD a (y * f .distance + j) 0)) leaves ∙ padding-stays (arranged f) (spaced f (A .described)) y j t hj ht past _ b
+
+  -- "Everything between the rows is padding and never changes" (02, T-07): byte j of row y, where it stands behind the row's last byte
+  pub gap-kept : (y j : ℕ) → rowBytes (f .width) (f .depth) ≤ j → j < f .distance → getD c (y * f .distance + j) 0 ≡ getD b (y * f .distance + j) 0
+  gap-kept y j hr hj = ap (λ (a : List ℕ). getD a (y * f .distance + j) 0) leaves ∙ gap-stays (arranged f) (spaced f (A .described)) y j hr hj _ b
 
   -- "and bytes past the frame never change"
   pub tail-kept : (i : ℕ) → size f ≤ i → getD c i 0 ≡ getD b i 0
   unfolding size
-  tail-kept i h = ap (λ (a : List ℕ). getD a i 0) leaves ∙ tail-stays (packed f) (spaced f (A .described)) i h _ b
+  tail-kept i h = ap (λ (a : List ℕ). getD a i 0) leaves ∙ tail-stays (arranged f) (spaced f (A .described)) i h _ b
 
 -- from a zero-filled buffer: the colour of the last accepted call whose figure contains the pixel, or 0 if none
 pub pixel-answers-last : (f : Frame) (n : ℕ) → first (frameTests f n) ≡ 0 → {os : List Call} {c : List ℕ} → Run f os (zeros n) c → (x y : ℕ) → x < f .width → y < f .height

@@ -8,9 +8,9 @@ use Rattle.triangle.specs.Row.{extended, hull, lineColumns, rowSpan, firstRow, 
 use Rattle.triangle.specs.Triangle.{noneBelow, noneAbove, onEdge, isFlat, isInside, contained}
 use Rattle.layout.specs.Layout.{rendered}
 use Rattle.layout.specs.Packed.{rowBytes, field, parts, per, byteOf, slotOf}
-use Rattle.framebuffer.specs.Description.{size, descriptionTests, frameTests}
+use Rattle.framebuffer.specs.Description.{packedDistance, size, descriptionTests, frameTests}
 use Rattle.picture.specs.Known.{table, allHold}
 
 pub known : allHold table ≡ true
-unfolding rendered descriptionTests frameTests moves wide high major minor xMoves yMoves pointAt hasPoint before sorted extended hull lineColumns rowSpan firstRow rowCount areaDoubled noneBelow noneAbove onEdge isFlat isInside contained rowBytes field parts per byteOf slotOf size
+unfolding rendered descriptionTests frameTests moves wide high major minor xMoves yMoves pointAt hasPoint before sorted extended hull lineColumns rowSpan firstRow rowCount areaDoubled noneBelow noneAbove onEdge isFlat isInside contained packedDistance rowBytes field parts per byteOf slotOf size
 known = refl

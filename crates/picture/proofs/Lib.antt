@@ -1,8 +1,10 @@
 pub mod Picture
+pub mod Gapless
 pub mod Last
 pub mod Ties
 pub mod Runs
 pub mod Known
 pub mod Table
 pub mod Kept
+pub mod OneSize
 pub mod Seen

@@ -1,7 +1,11 @@
--- THE LOWEST NUMBER WINS (01, "Numbers an operation may answer"): the numbers of each operation rise, so that each is answered exactly when it applies and no
--- lower one does, and 0 exactly when none does. Assumes nothing.
-use mathlib.Core.Path.{refl}
+-- THE FIRST TEST THAT HOLDS WINS (01, "Numbers an operation may answer", in the orders of 02): each number is answered exactly when its test holds and none before
+-- it does, and 0 exactly when none holds. Where the numbers rise, as all did in 01, THE LOWEST NUMBER WINS. Assumes nothing.
+use mathlib.Core.Path.{_≡_, refl}
+use mathlib.Core.Bool.{Bool, true}
+use mathlib.Core.List.{[], _∷_, _++_}
 use Prim.Native.Nat.{ℕ}
+use Rattle.refusals.specs.First.{Tests, rising}
+use Rattle.refusals.proofs.First.{Exact, first-wins}
 use Rattle.refusals.proofs.Lowest.{Lowest, lowest-wins}
 use Rattle.geometry.specs.declared.Point.{Point}
 use Rattle.line.specs.Answer.{endTests, stepTests}
@@ -11,50 +15,64 @@ use Rattle.framebuffer.specs.declared.Frame.{Frame}
 use Rattle.framebuffer.specs.Description.{descriptionTests, frameTests, drawTests, readTests}
 use Rattle.framebuffer.specs.Drawing.{pixelDrawing, fillDrawing, callTests}
 use Rattle.drawing.specs.Drawing.{lineDrawing, triangleDrawing, outlineDrawing, circleDrawing, connectedDrawing}
+use Rattle.picture.specs.Before.{descriptionBefore, frameBefore}
 
--- "Size of a frame: 1, 2"
-pub size : (f : Frame) → Lowest (descriptionTests f)
+-- ---- frames
+-- "Size of a frame: 1, 2", and 14
+pub size : (f : Frame) → Exact (descriptionTests f)
 unfolding descriptionTests
-size f = lowest-wins _ refl
+size f = first-wins _ refl
 
 module _ (f : Frame) (len : ℕ) where
-  -- "Reading: 1 to 3, 8"
-  pub reading : (p : Point) → Lowest (readTests f len p)
+  -- "Reading: 1 to 3, 8", and 14 before 3, as in all that follow
+  pub reading : (p : Point) → Exact (readTests f len p)
   unfolding descriptionTests frameTests readTests
-  reading p = lowest-wins _ refl
+  reading p = first-wins _ refl
 
   -- "Setting a pixel, filling the frame: 1 to 4"
-  pub setting : (p : Point) (c : ℕ) → Lowest (callTests f len (pixelDrawing p c))
+  pub setting : (p : Point) (c : ℕ) → Exact (callTests f len (pixelDrawing p c))
   unfolding descriptionTests frameTests drawTests
-  setting p c = lowest-wins _ refl
+  setting p c = first-wins _ refl
 
-  pub filling : (c : ℕ) → Lowest (callTests f len (fillDrawing c))
+  pub filling : (c : ℕ) → Exact (callTests f len (fillDrawing c))
   unfolding descriptionTests frameTests drawTests
-  filling c = lowest-wins _ refl
+  filling c = first-wins _ refl
 
   -- "Drawing a line, a triangle, an outline: 1 to 5"
-  pub line : (s e : Point) (c : ℕ) → Lowest (callTests f len (lineDrawing s e c))
+  pub line : (s e : Point) (c : ℕ) → Exact (callTests f len (lineDrawing s e c))
   unfolding descriptionTests frameTests drawTests endTests
-  line s e c = lowest-wins _ refl
+  line s e c = first-wins _ refl
 
-  pub triangle : (v1 v2 v3 : Point) (c : ℕ) → Lowest (callTests f len (triangleDrawing v1 v2 v3 c))
+  pub triangle : (v1 v2 v3 : Point) (c : ℕ) → Exact (callTests f len (triangleDrawing v1 v2 v3 c))
   unfolding descriptionTests frameTests drawTests vertexTests
-  triangle v1 v2 v3 c = lowest-wins _ refl
+  triangle v1 v2 v3 c = first-wins _ refl
 
-  pub outline : (v1 v2 v3 : Point) (c : ℕ) → Lowest (callTests f len (outlineDrawing v1 v2 v3 c))
+  pub outline : (v1 v2 v3 : Point) (c : ℕ) → Exact (callTests f len (outlineDrawing v1 v2 v3 c))
   unfolding descriptionTests frameTests drawTests vertexTests
-  outline v1 v2 v3 c = lowest-wins _ refl
+  outline v1 v2 v3 c = first-wins _ refl
 
   -- "a circle: 1 to 6"
-  pub circle : (l : Point) (d c : ℕ) → Lowest (callTests f len (circleDrawing l d c))
+  pub circle : (l : Point) (d c : ℕ) → Exact (callTests f len (circleDrawing l d c))
   unfolding descriptionTests frameTests drawTests circleTests
-  circle l d c = lowest-wins _ refl
+  circle l d c = first-wins _ refl
 
   -- 02, T-05, a connected line: "Refusals as for a line"
-  pub connected-line : (s e : Point) (c : ℕ) → Lowest (callTests f len (connectedDrawing s e c))
+  pub connected-line : (s e : Point) (c : ℕ) → Exact (callTests f len (connectedDrawing s e c))
   unfolding descriptionTests frameTests drawTests endTests
-  connected-line s e c = lowest-wins _ refl
+  connected-line s e c = first-wins _ refl
 
+-- 01's lists, which a frame without a gap still answers by (Gapless.antt), rise: a call's own numbers are above 4
+module _ (w h depth len : ℕ) where
+  pub size-before : Lowest (descriptionBefore w h depth)
+  size-before = lowest-wins _ refl
+
+  pub reading-before : (t : Bool) → Lowest (frameBefore w h depth len ++ ((8, t) ∷ []))
+  reading-before t = lowest-wins _ refl
+
+  pub drawing-before : (t : Bool) (own : Tests) → rising 4 own ≡ true → Lowest (frameBefore w h depth len ++ ((4, t) ∷ own))
+  drawing-before t own r = lowest-wins _ r
+
+-- ---- questions
 -- "A point of a line: 5, 7"
 pub point : (s e : Point) (k : ℕ) → Lowest (stepTests s e k)
 unfolding endTests stepTests

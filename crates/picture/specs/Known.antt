@@ -14,7 +14,7 @@ use Rattle.triangle.specs.Triangle as triangle
 use Rattle.triangle.specs.Row as row
 use Rattle.circle.specs.Circle as circle
 use Rattle.framebuffer.specs.declared.Frame.{Frame}
-use Rattle.framebuffer.specs.Description.{described}
+use Rattle.framebuffer.specs.Description.{packed}
 use Rattle.picture.specs.Calls.{setPixel, numberOf, afterCall}
 
 pub data Case : Type 0 where
@@ -113,9 +113,9 @@ table =
     ∷ circleCounts (at 0 0) 0 0
     ∷ circleSpans (at 0 0) 1 (to 0 1 ∷ [])
     ∷ circleCounts (at 0 0) 1 1
-    ∷ bytesAfter (described 10 1 1 false) (at 9 0) 1 (0x00 ∷ 0x40 ∷ [])
-    ∷ bytesAfter (described 4 1 2 false) (at 1 0) 3 (0x30 ∷ [])
-    ∷ bytesAfter (described 2 1 4 false) (at 1 0) 10 (0x0A ∷ [])
-    ∷ bytesAfter (described 1 1 24 false) (at 0 0) 0x010203 (0x03 ∷ 0x02 ∷ 0x01 ∷ [])
-    ∷ bytesAfter (described 1 1 24 true) (at 0 0) 0x010203 (0x01 ∷ 0x02 ∷ 0x03 ∷ [])
+    ∷ bytesAfter (packed 10 1 1 false) (at 9 0) 1 (0x00 ∷ 0x40 ∷ [])
+    ∷ bytesAfter (packed 4 1 2 false) (at 1 0) 3 (0x30 ∷ [])
+    ∷ bytesAfter (packed 2 1 4 false) (at 1 0) 10 (0x0A ∷ [])
+    ∷ bytesAfter (packed 1 1 24 false) (at 0 0) 0x010203 (0x03 ∷ 0x02 ∷ 0x01 ∷ [])
+    ∷ bytesAfter (packed 1 1 24 true) (at 0 0) 0x010203 (0x01 ∷ 0x02 ∷ 0x03 ∷ [])
     ∷ []

@@ -23,8 +23,9 @@ unfolding nextScreen ofOne ofTwo
 screen-lent said at e =
     let order = after said (after said (after said (nextU32 said at))) in
     let lent = after said order in
+    let end = after said lent .next in
     leb-true (lent .value) 65536
-    (and-second (isLast said (lent .next)) (leb (lent .value) 65536) (and-second (leb (order .value) 1) (isLast said (lent .next) && leb (lent .value) 65536) e))
+    (and-second (isLast said end) (leb (lent .value) 65536) (and-second (leb (order .value) 1) (isLast said end && leb (lent .value) 65536) e))
 
 frame-lent : (said : List ℕ) (at : ℕ) (s : Screen) (m : List ℕ) → s .lent ≤ 65536 → frameTurn said at s m .0 .screen .lent ≤ 65536
 unfolding frameTurn ofOne

@@ -11,7 +11,7 @@ use Rattle.framebuffer.specs.declared.Frame.{Frame}
 use Rattle.framebuffer.specs.declared.Read.{Read}
 use Rattle.framebuffer.specs.declared.Size.{Size}
 use Rattle.framebuffer.specs.Answer.{sized, read}
-use Rattle.framebuffer.specs.Description.{described, raster, size, descriptionTests, readTests, colourAt}
+use Rattle.framebuffer.specs.Description.{described, packed, raster, size, descriptionTests, readTests, colourAt}
 use Rattle.lights.specs.declared.Lights.{Lights}
 use Rattle.lights.specs.Answer.{litTests, lights}
 use Rattle.netpbm.specs.Image.{imageLength}
@@ -37,18 +37,18 @@ allSet v m = setRun 0 (length m) (λ j. v) m
 abbrev pub turn : Screen → Reply → Turn
 turn s r = record { screen = s; reply = r }
 
--- ---- `frame W H DEPTH ORDER LENGTH`: the description, if ORDER is 0 or 1 and LENGTH at most 65,536
+-- ---- `frame W H DEPTH ORDER LENGTH DISTANCE`: the description, if ORDER is 0 or 1 and LENGTH at most 65,536
 abbrev pub screenOf : Frame → ℕ → Screen
 screenOf f lent = record { frame = f; lent = lent }
 
--- before any line: width 0, height 0, depth 1, little end first, length 0
+-- before any line: width 0, height 0, depth 1, little end first, no gap, length 0
 abbrev pub start : Screen
-start = screenOf (described 0 0 1 false) 0
+start = screenOf (packed 0 0 1 false) 0
 
-abbrev pub describedBy : List ℕ → NextU32 → NextU32 → NextU32 → NextU32 → NextU32 → Described
-describedBy said w h d order lent = record {
-  ok = leb (order .value) 1 && (isLast said (lent .next) && leb (lent .value) 65536);
-  screen = screenOf (described (w .value) (h .value) (d .value) (eqb (order .value) 1)) (lent .value);
+abbrev pub describedBy : List ℕ → NextU32 → NextU32 → NextU32 → NextU32 → NextU32 → NextU32 → Described
+describedBy said w h d order lent distance = record {
+  ok = leb (order .value) 1 && (isLast said (distance .next) && leb (lent .value) 65536);
+  screen = screenOf (described (w .value) (h .value) (d .value) (eqb (order .value) 1) (distance .value)) (lent .value);
 }
 
 abbrev pub after : List ℕ → NextU32 → NextU32
@@ -56,7 +56,7 @@ after said n = nextU32 said (n .next)
 
 unfoldable pub nextScreen : List ℕ → ℕ → Described
 nextScreen said at =
-    ofTwo (λ w h. ofTwo (λ d order. ofOne (describedBy said w h d order) (after said order)) (after said h) (after said)) (nextU32 said at) (after said)
+    ofTwo (λ w h. ofTwo (λ d order. ofTwo (describedBy said w h d order) (after said order) (after said)) (after said h) (after said)) (nextU32 said at) (after said)
 
 -- the size of the frame, and every byte of the buffer set to 0
 abbrev pub sizeSaid : Size → Reply

@@ -23,7 +23,7 @@ pub fn first_screen() -> Screen
     ensures { λ r. ⌜ r ≡ start ⌝ }
 {
     Screen {
-        frame: Frame::new(0, 0, 1, false),
+        frame: Frame::packed(0, 0, 1, false),
         lent: 0,
     }
 }
@@ -49,7 +49,14 @@ fn next_screen(said: &[u8], at: usize) -> Described
     let depth = text::next_u32(said, height.next);
     let order = text::next_u32(said, depth.next);
     let lent = text::next_u32(said, order.next);
-    let frame = Frame::new(width.value, height.value, depth.value, order.value == 1);
+    let distance = text::next_u32(said, lent.next);
+    let frame = Frame::new(
+        width.value,
+        height.value,
+        depth.value,
+        order.value == 1,
+        distance.value,
+    );
     let screen = Screen {
         frame,
         lent: lent.value as usize,
@@ -58,7 +65,7 @@ fn next_screen(said: &[u8], at: usize) -> Described
         return Described { ok: false, screen };
     }
     Described {
-        ok: ends_within(said, lent.next, lent.value, 65536),
+        ok: ends_within(said, distance.next, lent.value, 65536),
         screen,
     }
 }

@@ -1,4 +1,4 @@
--- `framebuffer::description_refusal` makes the tests of 1 and 2 in their order. Assumes nothing.
+-- `framebuffer::description_refusal` makes the tests of 1, 2 and 14 in their order. Assumes nothing.
 use mathlib.Core.Path.{_≡_, sym, _∙_}
 use mathlib.Core.Bool.{true, false}
 use native.Mathlib.Omega.{arith}
@@ -6,7 +6,7 @@ use lib.Dec.{ltb}
 use borrow.Author.Needs.{needs}
 use borrow.Author.Tests.{lt-ltb, le-ltb, not-true, not-false}
 use Rattle.layout.specs.Packed.{goodDepth}
-use Rattle.framebuffer.specs.Description.{descriptionTests}
+use Rattle.framebuffer.specs.Description.{noDistance, descriptionTests}
 use Rattle.framebuffer.proofs.description_refusal.Statement.{statement}
 use Rattle.framebuffer.proofs.description_refusal.Tie as tie
 
@@ -29,21 +29,36 @@ returns-2 c =
     let w : ltb 2048 (c .before .before .before .before .args .frame .width) ≡ true = lt-ltb 2048 (c .before .before .before .before .args .frame .width) (omega arith) in
     simp (good (c .before .before), w)
 
+narrow : (c : tie.Else2) → ltb 2048 (c .before .before .before .before .args .frame .width) ≡ false
+narrow c = le-ltb 2048 (c .before .before .before .before .args .frame .width) (omega arith)
+
 returns-3 : tie.Need-returns-3
 unfolding descriptionTests
 returns-3 c =
     let a = c .before .before .before .before .before .before .args in
-    let w : ltb 2048 (a .frame .width) ≡ false = le-ltb 2048 (a .frame .width) (omega arith) in
     let h : ltb 2048 (a .frame .height) ≡ true = lt-ltb 2048 (a .frame .height) (omega arith) in
-    simp (good (c .before .before .before .before), w, h)
+    simp (good (c .before .before .before .before), narrow (c .before .before), h)
+
+distance-ok-requires : tie.Need-has-no-distance-requires
+distance-ok-requires c κs = (good (c .before .before .before .before), omega arith)
+
+low : (c : tie.Else3) → ltb 2048 (c .before .before .before .before .before .before .args .frame .height) ≡ false
+low c = le-ltb 2048 (c .before .before .before .before .before .before .args .frame .height) (omega arith)
 
 returns-4 : tie.Need-returns-4
 unfolding descriptionTests
 returns-4 c =
-    let a = c .before .before .before .before .before .before .args in
-    let w : ltb 2048 (a .frame .width) ≡ false = le-ltb 2048 (a .frame .width) (omega arith) in
-    let h : ltb 2048 (a .frame .height) ≡ false = le-ltb 2048 (a .frame .height) (omega arith) in
-    simp (good (c .before .before .before .before), w, h)
+    let n = sym (c .before .has-no-distance .ensures) ∙ c .if4 .taken in
+    let e = c .before .before in
+    simp (good (e .before .before .before .before), narrow (e .before .before), low e, n)
+
+returns-5 : tie.Need-returns-5
+unfolding descriptionTests
+returns-5 c =
+    let n = sym (c .before .has-no-distance .ensures) ∙ c .if4 .left in
+    let e = c .before .before in
+    simp (good (e .before .before .before .before), narrow (e .before .before), low e, n)
 
 pub description-refusal-spec : {M : Type 1} → statement M
-description-refusal-spec = tie.close (tie.spec depth-ok-requires returns returns-2 returns-3 returns-4)
+description-refusal-spec =
+    tie.close (tie.spec depth-ok-requires returns returns-2 returns-3 distance-ok-requires returns-4 returns-5)

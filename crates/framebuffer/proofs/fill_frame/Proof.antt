@@ -1,36 +1,25 @@
--- `framebuffer::fill_frame` paints the frame as one run or row by row. Assumes nothing.
-use mathlib.Core.Path.{ap, _∙_}
-use Prim.Native.Nat.{ℕ, _*_}
+-- `framebuffer::fill_frame` paints the frame as one run or row by row, and not at all where rows have no pixel. Assumes nothing.
+use mathlib.Core.Path.{sym}
 use native.Mathlib.Omega.{arith}
 use borrow.Author.Needs.{needs}
-use Rattle.framebuffer.proofs.Refusals.{product, row-fits, padded}
+use Rattle.layout.specs.Figure.{everywhere}
+use Rattle.layout.proofs.Painted.{painted-none}
+use Rattle.framebuffer.specs.Description.{raster}
+use Rattle.framebuffer.proofs.Refusals.{sound, product}
 use Rattle.framebuffer.proofs.fill_frame.Statement.{statement}
 use Rattle.framebuffer.proofs.fill_frame.Tie as tie
 
-row-distance-requires : tie.Need-row-distance-requires
-row-distance-requires c κs = c .before .pre .accepted .described
-
 mul-if1 : tie.Need-mul-if1
-mul-if1 c =
-    let s = c .before .before in
-    let e = c .row-distance .ensures in
-    record { fits = omega (arith, row-fits (s .args .frame) (s .pre .accepted .described)) }
+mul-if1 c = let n = c .before .before .pre .accepted .described .near in record { fits = omega arith }
 
 mul-if1-2 : tie.Need-mul-if1-2
-mul-if1-2 c =
-    let s = c .before .before .before in
-    record { fits = omega (arith, product (s .args .frame) (s .pre .accepted .described)) }
+mul-if1-2 c = let s = c .before .before .before in record { fits = omega (arith, product (s .args .frame) (s .pre .accepted .described)) }
 
 fill-run-requires : tie.Need-fill-run-requires
-fill-run-requires c κs =
-    let e = c .before .before .before .row-distance .ensures in
-    let t = c .before .if1 .taken in
-    (c .before .before .before .before .before .pre, omega arith)
+fill-run-requires c κs = (c .before .before .before .before .before .pre, c .before .if1 .taken)
 
 fill-each-row-requires : tie.Need-fill-each-row-requires
-fill-each-row-requires c κs =
-    let s = c .before .before .before .before .before in
-    (s .pre, padded (s .args .frame) (λ e. c .before .if1 .left (ap (λ (n : ℕ). n * 8) (c .before .before .before .row-distance .ensures) ∙ e)))
+fill-each-row-requires c κs = (c .before .before .before .before .before .before .before .pre, c .before .if2 .taken)
 
 same-length : tie.Need-same-length
 same-length c = search needs
@@ -44,16 +33,12 @@ same-length-2 c = search needs
 returns-2 : tie.Need-returns-2
 returns-2 c = c .before .before .fill-each-row .ensures
 
+returns-3 : tie.Need-returns-3
+returns-3 c =
+    let a = c .before .before .before .before .before .before .args in
+    let D = c .before .before .before .before .before .before .pre .accepted .described in
+    sym (painted-none (raster (a .frame)) (sound (a .frame) D) (a .colour) (a .buf .now) everywhere (λ x y hx hy. absurd (let w = c .if2 .left in omega arith)))
+
 pub fill-frame-spec : {M : Type 1} → statement M
 fill-frame-spec =
-    tie.close
-    (tie.spec
-    row-distance-requires
-    mul-if1
-    mul-if1-2
-    fill-run-requires
-    fill-each-row-requires
-    same-length
-    returns
-    same-length-2
-    returns-2)
+    tie.close (tie.spec mul-if1 mul-if1-2 fill-run-requires fill-each-row-requires same-length returns same-length-2 returns-2 returns-3)

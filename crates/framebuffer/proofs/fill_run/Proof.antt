@@ -14,7 +14,7 @@ use Rattle.layout.specs.Packed.{parts, fullByte}
 use Rattle.layout.proofs.Runs.{run-part}
 use Rattle.layout.proofs.Bytes.{Bytes, one-run}
 use Rattle.framebuffer.specs.declared.Frame.{Frame}
-use Rattle.framebuffer.specs.Description.{packed, raster, size}
+use Rattle.framebuffer.specs.Description.{arranged, raster, size}
 use Rattle.framebuffer.specs.Judged.{Drawable}
 use Rattle.framebuffer.proofs.Refusals.{spaced, one-pixel}
 use Rattle.framebuffer.proofs.fill_run.Statement.{statement}
@@ -56,10 +56,10 @@ same-length : tie.Need-same-length
 same-length c = search needs
 
 -- the run is the frame
-run : (f : Frame) (colour : ℕ) (b : List ℕ) (A : Drawable f (length b) colour) → packed f .distance * 8 ≡ f .width * f .depth → Bytes b
+run : (f : Frame) (colour : ℕ) (b : List ℕ) (A : Drawable f (length b) colour) → f .distance * 8 ≡ f .width * f .depth → Bytes b
     → painted (raster f) everywhere colour b ≡ setRun 0 (size f) (fullByte (f .depth) (f .big) colour) b
 unfolding size
-run f colour b A e v = one-run (packed f) (spaced f (A .accepted .described)) colour (A .below) b e (A .accepted .room) v
+run f colour b A e v = one-run (arranged f) (spaced f (A .accepted .described)) colour (A .below) b e (A .accepted .room) v
 
 returns : tie.Need-returns
 returns c =

@@ -13,7 +13,7 @@ use Rattle.layout.specs.Packed.{per}
 use Rattle.layout.proofs.Places.{parts-pos}
 use Rattle.layout.proofs.Spans.{columns}
 use Rattle.layout.proofs.Painted.{painted-length}
-use Rattle.framebuffer.specs.Description.{packed, raster}
+use Rattle.framebuffer.specs.Description.{arranged, raster}
 use Rattle.packing.specs.Words.{mergedAt}
 use Rattle.framebuffer.specs.Judged.{Drawable}
 use Rattle.framebuffer.proofs.Refusals.{sound, place-small, pixel-room, end-room}
@@ -49,7 +49,7 @@ bits-from-requires-2 c κs =
     record { good = ok s .accepted .described .depth; small = s .pre .1; near = place-small (s .args .frame) (ok s .accepted .described) (s .pre .4) (s .pre .2) .1 }
 
 -- the first column's byte is in the buffer
-room : (c : tie.Start) → c .args .y * packed (c .args .frame) .distance + c .args .from * c .args .frame .depth / 8 < length (c .args .buf .now)
+room : (c : tie.Start) → c .args .y * c .args .frame .distance + c .args .from * c .args .frame .depth / 8 < length (c .args .buf .now)
 room c =
     let a = c .args in
     let p = pixel-room (a .frame) _ (a .from) (a .y) (ok c .accepted) (start c) (c .pre .2) refl in
@@ -88,7 +88,7 @@ order : (c : tie.Else1) → (let a = c .before .before .before .before .before .
 order c =
     let s = c .before .before .before .before .before .before .before in
     let a = s .args in
-    let row = a .y * packed (a .frame) .distance in
+    let row = a .y * a .frame .distance in
     in-order (a .frame) _ (a .colour) (ok s) (s .pre .1) (a .from) (a .past) (s .pre .3)
     (λ e. c .if1 .left (c .before .before .before .before .byte-of .ensures ∙ ap (λ (i : ℕ). row + i) e ∙ sym (c .before .before .before .byte-of2 .ensures)))
 

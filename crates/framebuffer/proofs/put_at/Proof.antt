@@ -10,7 +10,7 @@ use Rattle.layout.specs.Digits.{replaced}
 use Rattle.layout.specs.Packed.{goodDepth, field, parts, per, slotOf}
 use Rattle.layout.proofs.Places.{small, large, depth-pos, depth-le, parts-pos}
 use Rattle.layout.proofs.Bytes.{pixel-set, pixel-stored}
-use Rattle.framebuffer.specs.Description.{packed}
+use Rattle.framebuffer.specs.Description.{arranged}
 use Rattle.framebuffer.specs.Judged.{Drawable}
 use Rattle.framebuffer.proofs.Refusals.{spaced, pixel-room, pixel-small}
 use Rattle.framebuffer.proofs.put_at.Statement.{statement}
@@ -69,7 +69,7 @@ returns c =
     let t = thin (c .before .before) in
     ap (set (a .buf .now) (byte-of .result)) (c .with-field .ensures)
     ∙ ap (λ (i : ℕ). set (a .buf .now) i (replaced (2 ^ field (a .frame .depth)) (slotOf (a .frame .depth) (a .x)) (a .colour) (getD (a .buf .now) i 0))) (byte-of .ensures)
-    ∙ sym (pixel-set (packed (a .frame)) (spaced (a .frame) (ok s .accepted .described)) (a .colour) (t .2)
+    ∙ sym (pixel-set (arranged (a .frame)) (spaced (a .frame) (ok s .accepted .described)) (a .colour) (t .2)
     (subst (λ (k : ℕ). a .colour < 2 ^ k) (sym (t .1)) (ok s .below)) (a .x) (a .y) (a .buf .now))
 
 -- a depth from a byte on
@@ -113,7 +113,7 @@ returns-2 c =
     let at = l .byte-of .result in
     let k = at + a .frame .depth / 8 - at in
     let ek : k ≡ parts (a .frame .depth) = let e = t .1 in omega arith in
-    pixel-stored (packed (a .frame)) (spaced (a .frame) (ok s .accepted .described)) (a .colour) (t .0) (a .x) (a .y) (a .buf .now) _ at k
+    pixel-stored (arranged (a .frame)) (spaced (a .frame) (ok s .accepted .described)) (a .colour) (t .0) (a .x) (a .y) (a .buf .now) _ at k
     (l .byte-of .ensures) ek (omega (arith, room l)) (λ i. c .before .before .before .before .before .before .slice-known .given i .fits) refl
     (c .before .before .store .last .0) (c .before .before .store .ensures)
 

@@ -10,7 +10,7 @@ use Rattle.layout.specs.Digits.{digit}
 use Rattle.layout.specs.Packed.{goodDepth, field, parts, per, slotOf}
 use Rattle.layout.proofs.Places.{small, large, depth-pos, depth-le}
 use Rattle.layout.proofs.Bytes.{pixel-get, pixel-loaded}
-use Rattle.framebuffer.specs.Description.{packed}
+use Rattle.framebuffer.specs.Description.{arranged}
 use Rattle.framebuffer.specs.Judged.{Accepted}
 use Rattle.framebuffer.proofs.Refusals.{spaced, pixel-room, pixel-small}
 use lib.Pow.{pow-pos}
@@ -56,7 +56,7 @@ returns c =
     let t = thin (c .before .before) in
     c .field-of .ensures
     ∙ ap (λ (i : ℕ). digit (2 ^ field (a .frame .depth)) (slotOf (a .frame .depth) (a .x)) (getD (a .buf .now) i 0)) (c .before .before .before .byte-of .ensures)
-    ∙ sym (pixel-get (packed (a .frame)) (spaced (a .frame) (ok s .described)) 0 (t .2) (pow-pos (field (a .frame .depth))) (a .x) (a .y) (a .buf .now))
+    ∙ sym (pixel-get (arranged (a .frame)) (spaced (a .frame) (ok s .described)) 0 (t .2) (pow-pos (field (a .frame .depth))) (a .x) (a .y) (a .buf .now))
 
 -- a depth from a byte on
 thick : (c : tie.Else1)
@@ -94,7 +94,7 @@ returns-2 c =
     let k = at + a .frame .depth / 8 - at in
     let ek : k ≡ parts (a .frame .depth) = let e = t .1 in omega arith in
     c .load .ensures
-    ∙ pixel-loaded (packed (a .frame)) (spaced (a .frame) (ok s .described)) 0 (t .0) (a .x) (a .y) (a .buf .now) _ at k
+    ∙ pixel-loaded (arranged (a .frame)) (spaced (a .frame) (ok s .described)) 0 (t .0) (a .x) (a .y) (a .buf .now) _ at k
     (l .byte-of .ensures) ek (omega (arith, room l)) (λ i. c .before .before .before .before .shared-slice-known .given i .fits) refl
 
 pub read-point-spec : {M : Type 1} → statement M

@@ -7,8 +7,8 @@ use Rattle.framebuffer.specs.declared.Frame.{Frame}
 use Rattle.frames.proofs.try_width.Statement.{statement}
 use Rattle.frames.proofs.try_width.Tie as tie
 
-new-requires : tie.Need-new-requires
-new-requires c κs = search needs
+packed-requires : tie.Need-packed-requires
+packed-requires c κs = search needs
 
 buffer-size-bpp-requires : tie.Need-buffer-size-bpp-requires
 buffer-size-bpp-requires c κs = search needs
@@ -27,7 +27,7 @@ slice-aggregate-try-frame c = sym (length-take-le _ (c .before .before .before .
 
 try-frame-requires : tie.Need-try-frame-requires
 try-frame-requires c κs =
-    subst (λ (f : Frame). (0 < f .depth) × (f .depth ≤ 32) × (f .width ≤ 2048) × (f .height ≤ 2048)) (sym (c .before .before .before .before .new .ensures))
+    subst (λ (f : Frame). (0 < f .depth) × (f .depth ≤ 32) × (f .width ≤ 2048) × (f .height ≤ 2048)) (sym (c .before .before .before .before .packed .ensures))
     (c .before .before .before .before .before .before .pre)
 
 same-length : tie.Need-same-length
@@ -43,7 +43,7 @@ pub try-width-spec : {M : Type 1} → statement M
 try-width-spec =
     tie.close
     (tie.spec
-    new-requires
+    packed-requires
     buffer-size-bpp-requires
     cast-len
     add-len

@@ -4,19 +4,15 @@ use Prim.Native.Nat.{ℕ, _+_, _*_, _-_, _/_, _≤_}
 use native.Mathlib.Omega.{arith}
 use lib.ListN.{length, length-take, length-drop}
 use borrow.Author.Needs.{needs}
-use Rattle.framebuffer.specs.Description.{packed}
-use Rattle.lights.proofs.Rows.{litUpTo, one-bit-distance, row-ends, rows-few, row-more, rows-lit}
+use Rattle.lights.proofs.Rows.{litUpTo, row-bits, row-ends, rows-few, row-more, rows-lit}
 use Rattle.lights.proofs.lit_rows.Statement.{statement}
 use Rattle.lights.proofs.lit_rows.Tie as tie
 
 abbrev Inv-loop : tie.InvT-loop
-Inv-loop buf frame height distance sum₀ at₀ y₀ sum at y = (y ≤ frame .height) × (at ≡ y * packed frame .distance) × (sum ≡ litUpTo frame (y * frame .width) buf)
+Inv-loop buf frame height distance sum₀ at₀ y₀ sum at y = (y ≤ frame .height) × (at ≡ y * frame .distance) × (sum ≡ litUpTo frame (y * frame .width) buf)
 
 abbrev μ-loop : tie.MeasureT-loop
 μ-loop buf frame height distance sum₀ at₀ y₀ sum at y = frame .height - y
-
-add-distance : tie.Need-add-distance Inv-loop μ-loop
-add-distance c = omega (arith, c .before .before .pre .0 .described .width)
 
 cast-distance : tie.Need-cast-distance Inv-loop μ-loop
 cast-distance c = search needs
@@ -27,12 +23,12 @@ loop-holds c =
     let z : 0 ≡ 0 * a .frame .width = omega arith in
     (omega arith, omega arith, ap (λ (n : ℕ). litUpTo (a .frame) n (a .buf .now)) z)
 
--- the bytes of a row, as the code works them out
-distance : (c : tie.Start Inv-loop μ-loop) → packed (c .args .frame) .distance ≡ (c .args .frame .width + 7) / 8
-distance c = one-bit-distance (c .args .frame) (c .args .buf .now) (c .pre .0) (c .pre .1)
+-- a row has its pixels' bits
+bits : (c : tie.Start Inv-loop μ-loop) → c .args .frame .width ≤ c .args .frame .distance * 8
+bits c = row-bits (c .args .frame) (c .args .buf .now) (c .pre .0) (c .pre .1)
 
 room : (c : tie.In-loop Inv-loop μ-loop)
-    → (let a = c .before .before .before .before .args in c .before .loop .at + packed (a .frame) .distance ≤ length (a .buf .now))
+    → (let a = c .before .before .before .before .args in c .before .loop .at + a .frame .distance ≤ length (a .buf .now))
 room c =
     let s = c .before .before .before .before in
     row-ends (s .args .frame) (s .args .buf .now) (s .pre .0) (s .pre .1) (c .before .loop .y) (omega arith) (c .before .loop .inv .1)
@@ -50,7 +46,7 @@ lit-bits-requires : tie.Need-lit-bits-requires Inv-loop μ-loop
 lit-bits-requires c κs =
     let s = c .before .before .before .before .before in
     let r = room (c .before) in
-    let d = distance s in
+    let d = bits s in
     let w = s .pre .0 .described .width in
     (omega arith, simp (length-take, length-drop) (omega arith))
 
@@ -59,7 +55,6 @@ loop-again : tie.Need-loop-again Inv-loop μ-loop
 loop-again c =
     let s = c .before .before .before .before .before .before in
     let l = c .before .before .before .loop in
-    let d = distance s in
     (omega arith, omega arith, row-more (s .args .frame) (s .args .buf .now) (s .pre .0) (s .pre .1) (l .y) (l .inv .2) (l .inv .1) (c .lit-bits .ensures))
 
 add-sum : tie.Need-add-sum Inv-loop μ-loop
@@ -68,7 +63,7 @@ add-sum c =
     omega (arith, rows-few (s .args .frame) (s .args .buf .now) (s .pre .0) (s .pre .1) (c .before .before .before .loop .y + 1) (omega arith) (loop-again c .2))
 
 add-at : tie.Need-add-at Inv-loop μ-loop
-add-at c = omega (arith, room (c .before .before), distance (c .before .before .before .before .before .before))
+add-at c = omega (arith, room (c .before .before))
 
 add-y : tie.Need-add-y Inv-loop μ-loop
 add-y c = omega arith
@@ -87,7 +82,6 @@ lit-rows-spec =
     (tie.spec
     Inv-loop
     μ-loop
-    add-distance
     cast-distance
     loop-holds
     sub-lit-bits

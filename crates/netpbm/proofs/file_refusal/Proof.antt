@@ -8,14 +8,10 @@ use borrow.Author.Needs.{needs}
 use borrow.Author.Tests.{not-false}
 use Rattle.headers.specs.declared.Header.{Header}
 use Rattle.headers.proofs.Forms.{header-ends}
-use Rattle.framebuffer.specs.declared.Frame.{Frame}
-use Rattle.framebuffer.specs.Answer.{sized}
-use Rattle.framebuffer.specs.Description.{size, descriptionTests}
-use Rattle.refusals.specs.First.{first}
+use Rattle.framebuffer.specs.Description.{size}
 use Rattle.netpbm.specs.Image.{bigFirst}
 use Rattle.netpbm.specs.Written.{noFormat}
-use Rattle.netpbm.proofs.Answers.{described-size}
-use Rattle.netpbm.proofs.Transfers.{big-described}
+use Rattle.netpbm.proofs.Answers.{pixels-size}
 use Rattle.netpbm.proofs.Loads.{no-format, no-header, other-size, too-few, enough-pixels}
 use Rattle.netpbm.proofs.file_refusal.Statement.{statement}
 use Rattle.netpbm.proofs.file_refusal.Tie as tie
@@ -39,10 +35,7 @@ abbrev begin : tie.After-buffer-size-bpp → tie.Start
 begin c = tested c .before .before .before .before .before
 
 pixels : (c : tie.After-buffer-size-bpp) → c .buffer-size-bpp .result .bytes ≡ size (bigFirst (begin c .args .frame))
-pixels c =
-    let f = begin c .args .frame in
-    described-size (bigFirst f) (big-described f (begin c .pre .0))
-    (c .buffer-size-bpp .ensures ∙ ap (λ (g : Frame). sized (first (descriptionTests g)) (size g)) (c .before .in-file .ensures))
+pixels c = pixels-size (begin c .args .frame) (begin c .pre .0) (c .before .in-file .ensures) (c .buffer-size-bpp .ensures)
 
 has-no-format-requires : tie.Need-has-no-format-requires
 has-no-format-requires c κs = search needs

@@ -15,7 +15,7 @@ use Rattle.framebuffer.proofs.Refusals.{is-accepted}
 use Rattle.netpbm.specs.Image.{bigFirst}
 use Rattle.netpbm.specs.Written.{Writable}
 use Rattle.netpbm.specs.Reading.{loadTests}
-use Rattle.netpbm.specs.Words.{Alike, transferred, maskedRun}
+use Rattle.netpbm.specs.Words.{Alike, transferred, maskedRows}
 use Rattle.netpbm.proofs.Transfers.{out-of-file, over-own}
 use Rattle.netpbm.proofs.Loads.{Readable, is-readable, by-own-tests, by-file, refused-loaded, accepted-loaded}
 use Rattle.netpbm.proofs.read_image.Statement.{statement}
@@ -97,10 +97,10 @@ returns-3 c =
     let s = begin k .args .file .now in
     let b = begin k .args .buf .now in
     let h = k .before .before .read-header in
-    let own = over-own (size f) b (writable k .accepted .room) (λ i. k .before .before .before .before .before .before .slice-known .given i .fits) in
+    let own = over-own f b (writable k .accepted .room) (λ i. k .before .before .before .before .before .before .slice-known .given i .fits) in
     accepted-loaded f s b (sym (k .if2 .left) ∙ number (k .before)) refl
     (c .before .before .transfer-rows .ensures
-    ∙ ap₂ (λ (g : Frame) (t : List ℕ). transferred g t f (maskedRun (size f) 255 b)) (c .before .before .before .before .in-file .ensures) (rest-is s (h .result .start))
+    ∙ ap₂ (λ (g : Frame) (t : List ℕ). transferred g t f (maskedRows f 255 b)) (c .before .before .before .before .in-file .ensures) (rest-is s (h .result .start))
     ∙ ap₂ (λ (h : Header) (b : List ℕ). transferred (bigFirst f) (drop (h .start) s) f b) (h .ensures) own)
 
 pub read-image-spec : {M : Type 1} → statement M

@@ -1,6 +1,6 @@
 -- `netpbm::transfer_row` copies the row, or turns its pixels. Assumes nothing.
-use mathlib.Core.Path.{_≡_, sym, ap, _∙_}
-use Prim.Native.Nat.{ℕ, _+_, _*_, _-_, _/_, _%_, _^_, _≤_, _<_}
+use mathlib.Core.Path.{_≡_, sym, ap, ap₂, _∙_}
+use Prim.Native.Nat.{ℕ, _+_, _*_, _/_, _≤_, _<_}
 use native.Mathlib.Omega.{arith}
 use lib.Dec.{eqb}
 use lib.ListN.{length}
@@ -8,11 +8,11 @@ use borrow.Author.Needs.{needs}
 use borrow.Author.Tests.{eqb-true}
 use Rattle.whole.proofs.Tests.{and-true}
 use Rattle.layout.specs.Packed.{rowBytes}
-use Rattle.framebuffer.specs.Description.{packed}
+use Rattle.framebuffer.specs.declared.Frame.{Frame}
+use Rattle.framebuffer.specs.Judged.{Described}
 use Rattle.framebuffer.proofs.Refusals.{product, size-fits}
-use Rattle.netpbm.specs.Words.{copiedRow, turnedRow}
 use Rattle.netpbm.proofs.Rows.{Transfer, row-copied, row-turned}
-use Rattle.netpbm.proofs.Formats.{row-room, has-bits, same-distance}
+use Rattle.netpbm.proofs.Formats.{row-room, has-bits}
 use Rattle.netpbm.proofs.transfer_row.Statement.{statement}
 use Rattle.netpbm.proofs.transfer_row.Tie as tie
 
@@ -24,29 +24,33 @@ some : (c : tie.Start) → 0 < c .args .target .width * c .args .target .depth
 some c = has-bits (c .args .target) (c .pre .0 .target)
 
 -- the row ends within both buffers
-abbrev end : tie.Start → ℕ
-end c = let g = c .args .target in let row = (g .width * g .depth + 7) / 8 in c .args .y * row + row
+abbrev end : tie.Start → ℕ → ℕ
+end c distance = let g = c .args .target in c .args .y * distance + (g .width * g .depth + 7) / 8
 
-room : (c : tie.Start) → (end c ≤ length (c .args .from .now)) × (end c ≤ length (c .args .to .now)) × (end c ≤ 16777216)
+room : (c : tie.Start) → (end c (c .args .source .distance) ≤ length (c .args .from .now)) × (end c (c .args .target .distance) ≤ length (c .args .to .now))
 unfolding rowBytes
 room c =
     let f = c .args .source in
     let g = c .args .target in
     let A = c .pre .0 in
-    let y = c .args .y in
-    let s = row-room f y (rw (A .height) (c .pre .1)) in
-    let t = row-room g y (c .pre .1) in
-    let e = ap (λ (n : ℕ). y * n + n) (same-distance f g A) in
-    (omega (arith, s, e, A .source .room), omega (arith, t, A .target .accepted .room), omega (arith, t, size-fits g (A .target .accepted .described)))
+    let e = ap₂ (λ (w d : ℕ). (w * d + 7) / 8) (A .width) (A .depth) in (
+      omega (arith, row-room f (c .args .y) (rw (A .height) (c .pre .1)), e, A .source .described .apart, A .source .room),
+      omega (arith, row-room g (c .args .y) (c .pre .1), A .target .accepted .described .apart, A .target .accepted .room),
+    )
+
+-- and starts at a small number
+small : (f : Frame) (y : ℕ) → Described f → y < f .height → y * f .distance ≤ 33554432
+small f y D hy = omega (arith, row-room f y hy, size-fits f D)
+
+from-small : (c : tie.Start) → c .args .y * c .args .source .distance ≤ 33554432
+from-small c = small (c .args .source) (c .args .y) (c .pre .0 .source .described) (rw (c .pre .0 .height) (c .pre .1))
+
+to-small : (c : tie.Start) → c .args .y * c .args .target .distance ≤ 33554432
+to-small c = small (c .args .target) (c .args .y) (c .pre .0 .target .accepted .described) (c .pre .1)
 
 -- what is known of both buffers
 transfer : (c : tie.After-slice-known) → (let a = c .before .before .args in Transfer (a .source) (a .from .now) (a .target) (a .to .now))
 transfer c = record { frames = c .before .before .pre .0; from = λ i. c .before .shared-slice-known .given i .fits; to = λ i. c .slice-known .given i .fits }
-
--- the row as the source counts it
-source-row : (c : tie.Start) → c .args .y * ((c .args .target .width * c .args .target .depth + 7) / 8) ≡ c .args .y * packed (c .args .source) .distance
-unfolding rowBytes
-source-row c = ap (λ (n : ℕ). c .args .y * n) (sym (same-distance (c .args .source) (c .args .target) (c .pre .0)))
 
 mul-bits : tie.Need-mul-bits
 mul-bits c = omega (arith, few (c .before .before .before))
@@ -55,10 +59,16 @@ add-row : tie.Need-add-row
 add-row c = omega (arith, few (c .before .before .before))
 
 mul-at : tie.Need-mul-at
-mul-at c = let r = room (c .before .before .before) in omega (arith, r .2)
+mul-at c = omega (arith, from-small (c .before .before .before .before))
 
 cast-at : tie.Need-cast-at
-cast-at c = let r = room (c .before .before .before) in omega (arith, r .2)
+cast-at c = omega (arith, from-small (c .before .before .before .before))
+
+mul-start : tie.Need-mul-start
+mul-start c = omega (arith, to-small (c .before .before .before .before .before))
+
+cast-start : tie.Need-cast-start
+cast-start c = omega (arith, to-small (c .before .before .before .before .before))
 
 is-turned-requires : tie.Need-is-turned-requires
 is-turned-requires c κs = search needs
@@ -68,8 +78,9 @@ cast-turn-row c = search needs
 
 turn-row-requires : tie.Need-turn-row-requires
 turn-row-requires c κs =
-    let r = room (c .before .before .before .before .before .before .before) in
-    let g = c .before .before .before .before .before .before .before .args .target in
+    let s = c .before .before .before .before .before .before .before .before .before in
+    let r = room s in
+    let g = s .args .target in
     let t = and-true (eqb (g .depth) 24) _ (sym (c .before .before .before .is-turned .ensures) ∙ c .before .before .if1 .taken) in
     let n : (g .width * g .depth + 7) / 8 ≡ g .width * 3 = ap (λ (k : ℕ). (g .width * k + 7) / 8) (eqb-true (g .depth) 24 (t .0)) ∙ omega arith in
     (omega (arith, r .0, n), omega (arith, r .1, n))
@@ -78,19 +89,14 @@ same-length : tie.Need-same-length
 same-length c = search needs
 
 returns : tie.Need-returns
-unfolding rowBytes
 returns c =
-    let s = c .before .before .before .before .before .before .before .before .before .before in
-    let a = s .args in
-    let g = a .target in
-    let row = (g .width * g .depth + 7) / 8 in
+    let k = c .before .before .before .before .before .before .before .before .before .before in
+    let s = k .before .before in
     let t = sym (c .before .before .before .before .before .before .is-turned .ensures) ∙ c .before .before .before .before .before .if1 .taken in
-    c .before .before .turn-row .ensures
-    ∙ ap (λ (at : ℕ). turnedRow (a .from .now) at (a .y * row) (g .width) (a .to .now)) (source-row s)
-    ∙ row-turned (transfer (c .before .before .before .before .before .before .before .before)) (a .kept) t (a .y) (s .pre .1)
+    c .before .before .turn-row .ensures ∙ row-turned (transfer k) (s .args .kept) t (s .args .y) (s .pre .1)
 
 mul-mask : tie.Need-mul-mask
-mul-mask c = omega (arith, few (c .before .before .before .before .before))
+mul-mask c = omega (arith, few (c .before .before .before .before .before .before .before))
 
 sub-mask : tie.Need-sub-mask
 sub-mask c = omega arith
@@ -102,32 +108,26 @@ shl-mask : tie.Need-shl-mask
 shl-mask c = omega arith
 
 sub-copy-row : tie.Need-sub-copy-row
-sub-copy-row c = omega (arith, some (c .before .before .before .before .before .before))
+sub-copy-row c = omega (arith, some (c .before .before .before .before .before .before .before .before))
 
 cast-copy-row : tie.Need-cast-copy-row
-cast-copy-row c = omega (arith, few (c .before .before .before .before .before .before))
+cast-copy-row c = omega (arith, few (c .before .before .before .before .before .before .before .before))
 
 copy-row-requires : tie.Need-copy-row-requires
 copy-row-requires c κs =
-    let r = room (c .before .before .before .before .before .before) in
-    let n = some (c .before .before .before .before .before .before) in
+    let r = room (c .before .before .before .before .before .before .before .before) in
+    let n = some (c .before .before .before .before .before .before .before .before) in
     (omega (arith, r .0), omega (arith, r .1))
 
 same-length-2 : tie.Need-same-length-2
 same-length-2 c = search needs
 
 returns-2 : tie.Need-returns-2
-unfolding rowBytes
 returns-2 c =
-    let s = c .before .before .before .before .before .before .before .before .before in
-    let a = s .args in
-    let g = a .target in
-    let bits = g .width * g .depth in
-    let row = (bits + 7) / 8 in
+    let k = c .before .before .before .before .before .before .before .before .before in
+    let s = k .before .before in
     let t = sym (c .before .before .before .before .before .is-turned .ensures) ∙ c .before .before .before .before .if1 .left in
-    c .before .before .copy-row .ensures
-    ∙ ap (λ (at : ℕ). copiedRow (a .from .now) at (a .y * row) (row - 1) ((255 * 2 ^ (row * 8 - bits)) % 256) (a .kept) (a .to .now)) (source-row s)
-    ∙ row-copied (transfer (c .before .before .before .before .before .before .before)) (a .kept) t (a .y) (s .pre .1)
+    c .before .before .copy-row .ensures ∙ row-copied (transfer k) (s .args .kept) t (s .args .y) (s .pre .1)
 
 pub transfer-row-spec : {M : Type 1} → statement M
 transfer-row-spec =
@@ -137,6 +137,8 @@ transfer-row-spec =
     add-row
     mul-at
     cast-at
+    mul-start
+    cast-start
     is-turned-requires
     cast-turn-row
     turn-row-requires

@@ -1,13 +1,14 @@
 -- `netpbm::transfer_rows` copies the rows as one run where it may, else has taken the first y rows over after y turns. Assumes nothing.
 use mathlib.Core.Path.{_≡_, refl, sym, ap, subst, _∙_}
-use Prim.Native.Nat.{ℕ, _-_, _*_, _/_, _≤_, _<_}
+use Prim.Native.Nat.{ℕ, _-_, _*_, _≤_, _<_}
 use native.Mathlib.Omega.{arith}
 use lib.ListN.{length}
 use borrow.Author.Needs.{needs}
 use Rattle.framebuffer.specs.declared.Frame.{Frame}
-use Rattle.framebuffer.proofs.Refusals.{product, size-fits}
+use Rattle.framebuffer.specs.Description.{size}
+use Rattle.framebuffer.proofs.Refusals.{size-fits}
 use Rattle.netpbm.specs.Words.{Alike}
-use Rattle.netpbm.proofs.Formats.{has-bytes, same-size, run-size}
+use Rattle.netpbm.proofs.Formats.{has-bytes, same-size}
 use Rattle.netpbm.proofs.Rows.{Transfer, run-copied, rows, no-row, one-row, all-rows}
 use Rattle.netpbm.proofs.transfer_rows.Statement.{statement}
 use Rattle.netpbm.proofs.transfer_rows.Tie as tie
@@ -23,49 +24,47 @@ transfer : (c : tie.After-slice-known Inv-loop μ-loop) → (let a = c .before .
 transfer c = record { frames = c .before .before .pre; from = λ i. c .before .shared-slice-known .given i .fits; to = λ i. c .slice-known .given i .fits }
 
 is-run-requires : tie.Need-is-run-requires Inv-loop μ-loop
-is-run-requires c κs = c .before .before .pre .target .accepted .described
+is-run-requires c κs = let A = c .before .before .pre in (A .source .described, A .target .accepted .described)
 
 -- the bytes of a run: some, few, and within both buffers
 record Run (f : Frame) (m : ℕ) (g : Frame) (n : ℕ) : Type 0 where
-  some : 0 < g .width * g .depth / 8 * g .height
-  few : g .width * g .depth / 8 * g .height ≤ 16777216
-  from : g .width * g .depth / 8 * g .height ≤ m
-  to : g .width * g .depth / 8 * g .height ≤ n
+  some : 0 < g .distance * g .height
+  few : g .distance * g .height ≤ 33554432
+  from : g .distance * g .height ≤ m
+  to : g .distance * g .height ≤ n
 
 run : (c : tie.Then1 Inv-loop μ-loop) → (let a = c .before .before .before .before .args in Run (a .source) (length (a .from .now)) (a .target) (length (a .to .now)))
+unfolding size
 run c =
     let f = c .before .before .before .before .args .source in
     let g = c .before .before .before .before .args .target in
     let A = c .before .before .before .before .pre in
-    let e = run-size f g (sym (c .before .is-run .ensures) ∙ c .if1 .taken) in
     record {
-      some = omega (arith, e, has-bytes g (A .target));
-      few = omega (arith, e, size-fits g (A .target .accepted .described));
-      from = omega (arith, e, A .source .room, same-size f g A);
-      to = omega (arith, e, A .target .accepted .room);
+      some = has-bytes g (A .target);
+      few = size-fits g (A .target .accepted .described);
+      from = omega (arith, A .source .room, same-size f g (sym (c .before .is-run .ensures) ∙ c .if1 .taken) (A .height));
+      to = A .target .accepted .room;
     }
 
 mul-bytes : tie.Need-mul-bytes Inv-loop μ-loop
-mul-bytes c = let s = c .before .before .before .before .before in omega (arith, product (s .args .target) (s .pre .target .accepted .described))
-
-mul-bytes-2 : tie.Need-mul-bytes-2 Inv-loop μ-loop
-mul-bytes-2 c = omega (arith, run (c .before .before) .few)
+mul-bytes c = omega (arith, run (c .before) .few)
 
 sub-copy-row : tie.Need-sub-copy-row Inv-loop μ-loop
-sub-copy-row c = omega (arith, run (c .before .before .before) .some)
+sub-copy-row c = omega (arith, run (c .before .before) .some)
 
 cast-copy-row : tie.Need-cast-copy-row Inv-loop μ-loop
-cast-copy-row c = omega (arith, run (c .before .before .before) .few)
+cast-copy-row c = omega (arith, run (c .before .before) .few)
 
 copy-row-requires : tie.Need-copy-row-requires Inv-loop μ-loop
-copy-row-requires c κs = let r = run (c .before .before .before) in (omega (arith, r .some, r .from), omega (arith, r .some, r .to))
+copy-row-requires c κs = let r = run (c .before .before) in (omega (arith, r .some, r .from), omega (arith, r .some, r .to))
 
 same-length : tie.Need-same-length Inv-loop μ-loop
 same-length c = search needs
 
 returns : tie.Need-returns Inv-loop μ-loop
+unfolding size
 returns c =
-    let k = c .before .before .before .before .before .before in
+    let k = c .before .before .before .before .before in
     let a = k .before .before .before .before .args in
     c .before .before .copy-row .ensures ∙ run-copied (transfer (k .before .before)) (a .kept) (sym (k .before .is-run .ensures) ∙ k .if1 .taken)
 
@@ -109,7 +108,6 @@ transfer-rows-spec =
     μ-loop
     is-run-requires
     mul-bytes
-    mul-bytes-2
     sub-copy-row
     cast-copy-row
     copy-row-requires

@@ -13,7 +13,7 @@ use Rattle.framebuffer.specs.Description.{size}
 use Rattle.framebuffer.proofs.Refusals.{refused-size}
 use Rattle.netpbm.specs.Image.{header, bigFirst, pixels, imageBytes, imageLength}
 use Rattle.netpbm.specs.Written.{imageSizeTests, writeTests, Writable}
-use Rattle.netpbm.specs.Words.{Alike, transferred, maskedRun}
+use Rattle.netpbm.specs.Words.{Alike, transferred, maskedRows}
 use Rattle.netpbm.proofs.Transfers.{pixels-length, into-file, over-zeros}
 use Rattle.netpbm.proofs.Answers.{bytes-of, by-own, by-frame, by-format, by-room, by-none, is-writable, refused-written, accepted-written, in-part}
 use Rattle.netpbm.proofs.write_image.Statement.{statement}
@@ -143,10 +143,10 @@ returns-4 c =
     let w = k .before .before .write-header in
     let z = t .before .before .if2 .left in
     let r = by-own (first (imageSizeTests f)) (imageLength f) (size-of t .image-size .ensures) ∙ ap (λ (n : ℕ). sized n (imageLength f)) z in
-    let l = pixels-length f (a .buf .now) (writable t .accepted .described) ∙ sym (count-is k) in
+    let D = writable t .accepted .described in
+    let l = pixels-length f (a .buf .now) D ∙ sym (count-is k) in
     let p = c .before .before .transfer-rows .ensures
-    ∙ ap (λ (g : Frame). transferred f (a .buf .now) g (maskedRun (size g) 0 (part k))) (c .before .before .before .in-file .ensures)
-    ∙ over-zeros f (a .buf .now) (part k) (lent k) in
+    ∙ ap (λ (g : Frame). transferred f (a .buf .now) g (maskedRows g 0 (part k))) (c .before .before .before .in-file .ensures) ∙ over-zeros f (a .buf .now) (part k) D (lent k) in
     accepted-written f (a .buf .now) (a .out .now) (number t) r refl
     (ap₂ (λ (o p : List ℕ). take (w .result) o ++ (p ++ drop (count k) (drop (w .result) o))) (w .ensures .1) p
     ∙ in-part (a .out .now) (header f) (pixels f (a .buf .now)) (w .result) (count k) (start k) l (omega (arith, start k, end t, t .if3 .left)))

@@ -6,11 +6,11 @@ use Rattle.session.specs.Screen.{screenOf}
 use Rattle.session.proofs.screen.first_screen.Statement.{statement}
 use Rattle.session.proofs.screen.first_screen.Tie as tie
 
-new-requires : tie.Need-new-requires
-new-requires c κs = search needs
+packed-requires : tie.Need-packed-requires
+packed-requires c κs = search needs
 
 returns : tie.Need-returns
-returns c = ap (λ (f : Frame). screenOf f 0) (c .new .ensures)
+returns c = ap (λ (f : Frame). screenOf f 0) (c .packed .ensures)
 
 pub first-screen-spec : {M : Type 1} → statement M
-first-screen-spec = tie.close (tie.spec new-requires returns)
+first-screen-spec = tie.close (tie.spec packed-requires returns)

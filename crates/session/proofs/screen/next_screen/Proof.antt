@@ -1,4 +1,4 @@
--- `session::screen::next_screen` reads five numbers, one behind the other, and tests the last two. Assumes nothing.
+-- `session::screen::next_screen` reads six numbers, one behind the other, and tests the order, the length and the end. Assumes nothing.
 use borrow.Author.Needs.{needs}
 use Rattle.session.specs.Screen.{nextScreen}
 use Rattle.session.proofs.Turns.{descriptions}
@@ -20,11 +20,14 @@ next-u32-requires-4 c κs = search needs
 next-u32-requires-5 : tie.Need-next-u32-requires-5
 next-u32-requires-5 c κs = search needs
 
+next-u32-requires-6 : tie.Need-next-u32-requires-6
+next-u32-requires-6 c κs = search needs
+
 new-requires : tie.Need-new-requires
 new-requires c κs = search needs
 
-cast-t11 : tie.Need-cast-t11
-cast-t11 c = search needs
+cast-t12 : tie.Need-cast-t12
+cast-t12 c = search needs
 
 returns : tie.Need-returns
 unfolding nextScreen
@@ -46,8 +49,9 @@ next-screen-spec =
     next-u32-requires-3
     next-u32-requires-4
     next-u32-requires-5
+    next-u32-requires-6
     new-requires
-    cast-t11
+    cast-t12
     returns
     ends-within-requires
     returns-2)

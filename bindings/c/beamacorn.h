@@ -11,7 +11,8 @@
  * answers. With BEAMACORN_STRICT defined, GCC and Clang warn wherever a C program reads `yes` itself.
  *
  * The range: coordinates of a vertex, of a line end and of a circle's top-left corner are accepted from -131,072 to 131,071; x grows to the right, y
- * downwards. A pixel or a row that is asked about, or set, may be any int32_t. A frame has at most 2,048 by 2,048 pixels.
+ * downwards. A pixel or a row that is asked about, or set, may be any int32_t. A frame has at most 2,048 by 2,048 pixels, and its rows at most 16,384 bytes
+ * from one to the next.
  *
  * What is larger must be counted in a larger unit before it is asked about. A wedge of 160,000 Mbit/s fits in units of 10 Mbit/s; the answer is then that
  * of the coarser grid, and a sample within one unit of an edge may count otherwise. The 604,800 seconds of a week do not fit: use the second of the day or
@@ -25,10 +26,10 @@
 #include <stdint.h>
 
 /* The version of this header and of the library, as in CHANGELOG.md. */
-#define BEAMACORN_VERSION "0.3.2"
+#define BEAMACORN_VERSION "0.4.0"
 #define BEAMACORN_VERSION_MAJOR 0
-#define BEAMACORN_VERSION_MINOR 3
-#define BEAMACORN_VERSION_PATCH 2
+#define BEAMACORN_VERSION_MINOR 4
+#define BEAMACORN_VERSION_PATCH 0
 
 #if defined BEAMACORN_STRICT && defined __GNUC__ && !defined __cplusplus
 #define BEAMACORN_BEHIND_THE_NUMBER __attribute__((deprecated("no with a refusal too: ask beamacorn_says")))
@@ -55,7 +56,8 @@ enum {
     BEAMACORN_UNFIT_FRAME = 10,   /* the operation takes no frame of this depth, or none without pixels */
     BEAMACORN_BAD_HEADER = 11,    /* the file does not begin with a header of the frame's format */
     BEAMACORN_SHORT_FILE = 12,    /* the file has fewer bytes of pixels than its picture takes */
-    BEAMACORN_OTHER_SIZE = 13     /* the file's picture is not as wide and as high as the frame */
+    BEAMACORN_OTHER_SIZE = 13,    /* the file's picture is not as wide and as high as the frame */
+    BEAMACORN_BAD_DISTANCE = 14   /* the row distance is less than a row takes, or above 16,384 */
 };
 
 /* ---- Questions on lines, triangles and circles ---- */
@@ -241,13 +243,47 @@ beamacorn_span beamacorn_circle_row_span(int32_t left, int32_t top, uint32_t dia
 /*
  * ---- Frames and drawing. These may change with the second part of the version. ----
  *
- * A frame is described by its width and height in pixels, 0 to 2,048 each, its depth in bits and, where a pixel takes several bytes, its order: 0 for
- * the little end first, anything else for the big end. A row takes (width * depth + 7) / 8 bytes, rows follow one another, and at depths below 8
- * the first pixel is in a byte's high bits. The bits that pad a row and the bytes past the frame never change.
+ * A frame is described by five numbers: its width and height in pixels, 0 to 2,048 each; its depth in bits; where a pixel takes several bytes, its order, 0
+ * for the little end first, anything else for the big end; and the distance in bytes from the begin of a row to that of the next. A row takes
+ * (width * depth + 7) / 8 bytes; the distance is at least that and at most 16,384. At depths below 8 the first pixel is in a byte's high bits. The bits that
+ * pad a row, the bytes between two rows and those past the frame never change. The last row is followed by a gap too: a frame takes distance * height bytes.
  *
  * `buf` points to `len` bytes that the caller lends for the call; it may be longer than the frame needs. Where `len` is 0 no byte is
- * touched and `buf` may be any pointer, NULL too. Such a buffer is enough for a frame without pixels, and refused with 3 for any other.
+ * touched and `buf` may be any pointer, NULL too. Such a buffer is enough for a frame that takes no byte, and refused with 3 for any other.
+ *
+ * Each operation has two functions. The one that the library exports takes the five numbers one by one. The other has `frame_` in its name, as
+ * beamacorn_frame_fill beside beamacorn_fill, and for the size beamacorn_frame_bytes; it takes them as a `beamacorn_frame`, so that a program names them once:
+ *
+ *     beamacorn_frame pane = beamacorn_packed_frame(320, 200, 1, 0);
+ *     beamacorn_drawn line = beamacorn_frame_draw_line(buf, len, pane, 0, 0, 319, 199, 1);
  */
+
+/* The description of a frame. Any numbers make one; each call judges it. */
+typedef struct {
+    uint32_t width;
+    uint32_t height;
+    uint32_t depth;
+    uint32_t order;
+    uint32_t distance;
+} beamacorn_frame;
+
+/*
+ * The description of a frame whose rows have no gap between them: the distance is what a row takes. Where 32 bits do not hold that, it is 0, and the frame is
+ * refused with 1 or 2. For rows that start on a boundary, set the distance afterwards, or make it larger:
+ *
+ *     beamacorn_frame panel = beamacorn_packed_frame(250, 122, 1, 0);
+ *     panel.distance = (panel.distance + 3) / 4 * 4;
+ */
+static inline beamacorn_frame beamacorn_packed_frame(uint32_t width, uint32_t height, uint32_t depth, uint32_t order)
+{
+    uint64_t bytes = ((uint64_t)width * depth + 7) / 8;
+    beamacorn_frame frame = {width, height, depth, order, bytes <= UINT32_MAX ? (uint32_t)bytes : 0};
+
+    return frame;
+}
+
+/* The five numbers of a frame, in the order of the functions that the library exports. */
+#define BEAMACORN_NUMBERS_OF(frame) (frame).width, (frame).height, (frame).depth, (frame).order, (frame).distance
 
 /* How many bytes a frame takes, or its image file. */
 typedef struct {
@@ -280,154 +316,212 @@ typedef struct {
 } beamacorn_lights;
 
 /*
- * How many bytes a buffer for the frame must have, in either order.
- * Refused with 1 and 2.
+ * How many bytes a buffer for the frame must have, in either order: distance * height.
+ * Refused with 1, 2 and 14, in this order.
  *
- *     beamacorn_size frame = beamacorn_frame_size(320, 200, 1);
- *     if (frame.number == 0) { buf = calloc(frame.bytes, 1); }
+ *     beamacorn_size size = beamacorn_frame_bytes(pane);
+ *     if (size.number == 0) { buf = calloc(size.bytes, 1); }
  */
-beamacorn_size beamacorn_frame_size(uint32_t width, uint32_t height, uint32_t depth);
+beamacorn_size beamacorn_frame_size(uint32_t width, uint32_t height, uint32_t depth, uint32_t distance);
+static inline beamacorn_size beamacorn_frame_bytes(beamacorn_frame frame)
+{
+    return beamacorn_frame_size(frame.width, frame.height, frame.depth, frame.distance);
+}
 
 /*
  * Sets the pixel (x, y) to the colour, and says whether it is inside the frame. Outside that is done, and changes nothing.
- * Refused with 1 to 4.
+ * Refused with 1, 2, 14, 3 and 4, in this order.
  *
- *     beamacorn_placed call = beamacorn_set_pixel(buf, len, 320, 200, 1, 0, x, y, 1);
+ *     beamacorn_placed call = beamacorn_frame_set_pixel(buf, len, pane, x, y, 1);
  *     if (call.number != 0) { return refused(call.number); }
  *     seen += call.inside;
  */
-beamacorn_placed beamacorn_set_pixel(uint8_t *buf, size_t len, uint32_t width, uint32_t height, uint32_t depth, uint32_t order,
+beamacorn_placed beamacorn_set_pixel(uint8_t *buf, size_t len, uint32_t width, uint32_t height, uint32_t depth, uint32_t order, uint32_t distance,
                                      int32_t x, int32_t y, uint32_t colour);
+static inline beamacorn_placed beamacorn_frame_set_pixel(uint8_t *buf, size_t len, beamacorn_frame frame, int32_t x, int32_t y, uint32_t colour)
+{
+    return beamacorn_set_pixel(buf, len, BEAMACORN_NUMBERS_OF(frame), x, y, colour);
+}
 
 /*
  * The colour of the pixel (x, y).
- * Refused with 1 to 3, and with 8 outside the frame.
+ * Refused with 1, 2, 14 and 3, in this order, and with 8 outside the frame.
  *
- *     beamacorn_read pixel = beamacorn_pixel(buf, len, 320, 200, 1, 0, x, y);
+ *     beamacorn_read pixel = beamacorn_frame_pixel(buf, len, pane, x, y);
  *     if (pixel.number == 0) { show(pixel.colour); }
  */
-beamacorn_read beamacorn_pixel(const uint8_t *buf, size_t len, uint32_t width, uint32_t height, uint32_t depth, uint32_t order,
+beamacorn_read beamacorn_pixel(const uint8_t *buf, size_t len, uint32_t width, uint32_t height, uint32_t depth, uint32_t order, uint32_t distance,
                                int32_t x, int32_t y);
+static inline beamacorn_read beamacorn_frame_pixel(const uint8_t *buf, size_t len, beamacorn_frame frame, int32_t x, int32_t y)
+{
+    return beamacorn_pixel(buf, len, BEAMACORN_NUMBERS_OF(frame), x, y);
+}
 
 /*
- * How many pixels of a one-bit frame have the colour 1. Padding and the bytes past the frame are not counted.
- * Refused with 1 to 3, and with 10 where the depth is not 1. A frame without pixels has none that are lit.
+ * How many pixels of a one-bit frame have the colour 1. Padding, gaps and the bytes past the frame are not counted.
+ * Refused with 1, 2, 14 and 3, in this order, and with 10 where the depth is not 1. A frame without pixels has none that are lit.
  *
- *     beamacorn_lights lit = beamacorn_lit(buf, len, 320, 200, 1, 0);
+ *     beamacorn_lights lit = beamacorn_frame_lit(buf, len, pane);
  *     if (lit.number == 0) { show(lit.count); }
  */
-beamacorn_lights beamacorn_lit(const uint8_t *buf, size_t len, uint32_t width, uint32_t height, uint32_t depth, uint32_t order);
+beamacorn_lights beamacorn_lit(const uint8_t *buf, size_t len, uint32_t width, uint32_t height, uint32_t depth, uint32_t order, uint32_t distance);
+static inline beamacorn_lights beamacorn_frame_lit(const uint8_t *buf, size_t len, beamacorn_frame frame)
+{
+    return beamacorn_lit(buf, len, BEAMACORN_NUMBERS_OF(frame));
+}
 
 /*
  * Sets every pixel of the frame to the colour, and says how many those are: width times height.
- * Refused with 1 to 4.
+ * Refused with 1, 2, 14, 3 and 4, in this order.
  *
- *     beamacorn_drawn call = beamacorn_fill(buf, len, 320, 200, 1, 0, 1);
+ *     beamacorn_drawn call = beamacorn_frame_fill(buf, len, pane, 1);
  *     if (call.number != 0) { return refused(call.number); }
  */
-beamacorn_drawn beamacorn_fill(uint8_t *buf, size_t len, uint32_t width, uint32_t height, uint32_t depth, uint32_t order,
+beamacorn_drawn beamacorn_fill(uint8_t *buf, size_t len, uint32_t width, uint32_t height, uint32_t depth, uint32_t order, uint32_t distance,
                                uint32_t colour);
+static inline beamacorn_drawn beamacorn_frame_fill(uint8_t *buf, size_t len, beamacorn_frame frame, uint32_t colour)
+{
+    return beamacorn_fill(buf, len, BEAMACORN_NUMBERS_OF(frame), colour);
+}
 
 /*
  * Draws the points of the line from (x1, y1) to (x2, y2) that lie in the frame, and says how many those are.
- * Refused with 1 to 5.
+ * Refused with 1, 2, 14, 3, 4 and 5, in this order.
  *
- *     beamacorn_drawn call = beamacorn_draw_line(buf, len, 320, 200, 1, 0, 0, 0, 5, 2, 1);
+ *     beamacorn_drawn call = beamacorn_frame_draw_line(buf, len, pane, 0, 0, 5, 2, 1);
  *     if (call.number != 0) { return refused(call.number); }
  *     if (call.count == 0) { note("the graph lies off the pane"); }
  */
-beamacorn_drawn beamacorn_draw_line(uint8_t *buf, size_t len, uint32_t width, uint32_t height, uint32_t depth, uint32_t order,
+beamacorn_drawn beamacorn_draw_line(uint8_t *buf, size_t len, uint32_t width, uint32_t height, uint32_t depth, uint32_t order, uint32_t distance,
                                     int32_t x1, int32_t y1, int32_t x2, int32_t y2, uint32_t colour);
+static inline beamacorn_drawn beamacorn_frame_draw_line(uint8_t *buf, size_t len, beamacorn_frame frame, int32_t x1, int32_t y1, int32_t x2, int32_t y2,
+                                                        uint32_t colour)
+{
+    return beamacorn_draw_line(buf, len, BEAMACORN_NUMBERS_OF(frame), x1, y1, x2, y2, colour);
+}
 
 /*
  * Draws the connected line from (x1, y1) to (x2, y2), every pixel of the frame that beamacorn_connected_has_point says yes to, and says how many those
  * are.
- * Refused with 1 to 5.
+ * Refused with 1, 2, 14, 3, 4 and 5, in this order.
  *
- *     beamacorn_drawn call = beamacorn_draw_connected_line(buf, len, 320, 200, 1, 0, 0, 0, 5, 2, 1);
+ *     beamacorn_drawn call = beamacorn_frame_draw_connected_line(buf, len, pane, 0, 0, 5, 2, 1);
  *     if (call.number != 0) { return refused(call.number); }
  */
-beamacorn_drawn beamacorn_draw_connected_line(uint8_t *buf, size_t len, uint32_t width, uint32_t height, uint32_t depth, uint32_t order,
+beamacorn_drawn beamacorn_draw_connected_line(uint8_t *buf, size_t len, uint32_t width, uint32_t height, uint32_t depth, uint32_t order, uint32_t distance,
                                               int32_t x1, int32_t y1, int32_t x2, int32_t y2, uint32_t colour);
+static inline beamacorn_drawn beamacorn_frame_draw_connected_line(uint8_t *buf, size_t len, beamacorn_frame frame, int32_t x1, int32_t y1, int32_t x2, int32_t y2,
+                                                                  uint32_t colour)
+{
+    return beamacorn_draw_connected_line(buf, len, BEAMACORN_NUMBERS_OF(frame), x1, y1, x2, y2, colour);
+}
 
 /*
  * Draws the filled triangle, every pixel of the frame that beamacorn_triangle_contains says yes to, and says how many those are.
- * Refused with 1 to 5.
+ * Refused with 1, 2, 14, 3, 4 and 5, in this order.
  *
- *     beamacorn_drawn call = beamacorn_draw_triangle(buf, len, 320, 200, 1, 0, 0, 0, 9, 0, 0, 9, 1);
+ *     beamacorn_drawn call = beamacorn_frame_draw_triangle(buf, len, pane, 0, 0, 9, 0, 0, 9, 1);
  *     if (call.number != 0) { return refused(call.number); }
  */
-beamacorn_drawn beamacorn_draw_triangle(uint8_t *buf, size_t len, uint32_t width, uint32_t height, uint32_t depth, uint32_t order,
+beamacorn_drawn beamacorn_draw_triangle(uint8_t *buf, size_t len, uint32_t width, uint32_t height, uint32_t depth, uint32_t order, uint32_t distance,
                                         int32_t x1, int32_t y1, int32_t x2, int32_t y2, int32_t x3, int32_t y3, uint32_t colour);
+static inline beamacorn_drawn beamacorn_frame_draw_triangle(uint8_t *buf, size_t len, beamacorn_frame frame, int32_t x1, int32_t y1, int32_t x2, int32_t y2,
+                                                            int32_t x3, int32_t y3, uint32_t colour)
+{
+    return beamacorn_draw_triangle(buf, len, BEAMACORN_NUMBERS_OF(frame), x1, y1, x2, y2, x3, y3, colour);
+}
 
 /*
  * Draws the triangle's outline: its three edges, each from its upper end, or from the left one where it is level. So it is the same for any
  * order of the vertices, and beamacorn_triangle_contains says yes to each pixel of it. Says how many pixels of the frame the edges have; one
  * that two of them have counts once.
- * Refused with 1 to 5.
+ * Refused with 1, 2, 14, 3, 4 and 5, in this order.
  *
- *     beamacorn_drawn call = beamacorn_draw_outline(buf, len, 320, 200, 1, 0, 0, 0, 9, 0, 0, 9, 1);
+ *     beamacorn_drawn call = beamacorn_frame_draw_outline(buf, len, pane, 0, 0, 9, 0, 0, 9, 1);
  *     if (call.number != 0) { return refused(call.number); }
  */
-beamacorn_drawn beamacorn_draw_outline(uint8_t *buf, size_t len, uint32_t width, uint32_t height, uint32_t depth, uint32_t order,
+beamacorn_drawn beamacorn_draw_outline(uint8_t *buf, size_t len, uint32_t width, uint32_t height, uint32_t depth, uint32_t order, uint32_t distance,
                                        int32_t x1, int32_t y1, int32_t x2, int32_t y2, int32_t x3, int32_t y3, uint32_t colour);
+static inline beamacorn_drawn beamacorn_frame_draw_outline(uint8_t *buf, size_t len, beamacorn_frame frame, int32_t x1, int32_t y1, int32_t x2, int32_t y2,
+                                                           int32_t x3, int32_t y3, uint32_t colour)
+{
+    return beamacorn_draw_outline(buf, len, BEAMACORN_NUMBERS_OF(frame), x1, y1, x2, y2, x3, y3, colour);
+}
 
 /*
  * Draws the filled circle, every pixel of the frame that beamacorn_circle_contains says yes to, and says how many those are.
- * Refused with 1 to 6.
+ * Refused with 1, 2, 14, 3, 4, 5 and 6, in this order.
  *
- *     beamacorn_drawn call = beamacorn_draw_circle(buf, len, 320, 200, 1, 0, 10, 10, 25, 1);
+ *     beamacorn_drawn call = beamacorn_frame_draw_circle(buf, len, pane, 10, 10, 25, 1);
  *     if (call.number != 0) { return refused(call.number); }
  */
-beamacorn_drawn beamacorn_draw_circle(uint8_t *buf, size_t len, uint32_t width, uint32_t height, uint32_t depth, uint32_t order,
+beamacorn_drawn beamacorn_draw_circle(uint8_t *buf, size_t len, uint32_t width, uint32_t height, uint32_t depth, uint32_t order, uint32_t distance,
                                       int32_t left, int32_t top, uint32_t diameter, uint32_t colour);
+static inline beamacorn_drawn beamacorn_frame_draw_circle(uint8_t *buf, size_t len, beamacorn_frame frame, int32_t left, int32_t top, uint32_t diameter,
+                                                          uint32_t colour)
+{
+    return beamacorn_draw_circle(buf, len, BEAMACORN_NUMBERS_OF(frame), left, top, diameter, colour);
+}
 
 /*
  * ---- Image files. These may change with the second part of the version. ----
  *
  * A frame as a Netpbm file: depth 1 as P4, depth 8 as P5 with the maximum 255, depth 24 as P6, red in the colour's high byte. The file holds the picture
- * alone: whatever the frame's byte order, padding and tail, the same picture has the same file. The pixel value 1 is black in a P4.
+ * alone: whatever the frame's byte order, row distance, padding and tail, the same picture has the same file, whose rows have no gap. The pixel value 1 is
+ * black in a P4.
  *
  * `out` points to `out_len` bytes that the caller lends for the file and that are no part of `buf`; they may be more than the file takes. Where
  * `out_len` is 0 it may be any pointer, NULL too. So it is with the `file_len` bytes of `file`, which are read and not changed.
  */
 
 /*
- * How many bytes the frame's image file has, in either order and whatever its pixels are.
- * Refused with 1, 2 and 10, in this order: 10 for a depth that is not 1, 8 or 24, and for a width or a height of 0.
+ * How many bytes the frame's image file has, in either order, at any distance and whatever its pixels are.
+ * Refused with 1, 2, 14 and 10, in this order: 10 for a depth that is not 1, 8 or 24, and for a width or a height of 0.
  *
- *     beamacorn_size file = beamacorn_image_size(320, 200, 1);
+ *     beamacorn_size file = beamacorn_frame_image_size(pane);
  *     if (file.number == 0) { out = malloc(file.bytes); }
  */
-beamacorn_size beamacorn_image_size(uint32_t width, uint32_t height, uint32_t depth);
+beamacorn_size beamacorn_image_size(uint32_t width, uint32_t height, uint32_t depth, uint32_t distance);
+static inline beamacorn_size beamacorn_frame_image_size(beamacorn_frame frame)
+{
+    return beamacorn_image_size(frame.width, frame.height, frame.depth, frame.distance);
+}
 
 /*
  * Writes the frame's image file into the first bytes of `out`, and says how many they are. The bytes past them stay as they are.
- * Refused with 1, 2, 3, 10 and 9, in this order: 10 as above, and 9 where `out_len` is less than the file's length.
+ * Refused with 1, 2, 14, 3, 10 and 9, in this order: 10 as above, and 9 where `out_len` is less than the file's length.
  *
- *     beamacorn_size file = beamacorn_write_image(buf, len, 320, 200, 1, 0, out, out_len);
+ *     beamacorn_size file = beamacorn_frame_write_image(buf, len, pane, out, out_len);
  *     if (file.number != 0) { return refused(file.number); }
  *     fwrite(out, 1, file.bytes, attachment);
  */
-beamacorn_size beamacorn_write_image(const uint8_t *buf, size_t len, uint32_t width, uint32_t height, uint32_t depth, uint32_t order,
+beamacorn_size beamacorn_write_image(const uint8_t *buf, size_t len, uint32_t width, uint32_t height, uint32_t depth, uint32_t order, uint32_t distance,
                                      uint8_t *out, size_t out_len);
+static inline beamacorn_size beamacorn_frame_write_image(const uint8_t *buf, size_t len, beamacorn_frame frame, uint8_t *out, size_t out_len)
+{
+    return beamacorn_write_image(buf, len, BEAMACORN_NUMBERS_OF(frame), out, out_len);
+}
 
 /*
  * Reads an image file into the frame: sets every pixel to the colour that it has in the file. What beamacorn_write_image wrote reads back to the same picture.
- * The padding of the frame and the bytes past it stay; the file's padding and the bytes past its pixels are not looked at. There is no value beside the number,
- * so it is answered as it is: 0, or why the file was refused.
+ * The padding of the frame, its gaps and the bytes past it stay; the file's padding and the bytes past its pixels are not looked at. There is no value beside
+ * the number, so it is answered as it is: 0, or why the file was refused.
  *
  * The header is the magic, the width, the height and, but for a P4, the maximum. Before each of these numbers stand one or more of space, tab, CR and LF, behind the
  * last one exactly one of them, and then the pixels begin. A number has one to four digits, leading zeros among them. Comments are not taken: README.md says
  * what takes them out.
- * Refused with 1, 2, 3, 10, 11, 13 and 12, in this order: 10 as above; 11 where the magic is not the depth's, a number is none, the maximum is not 255 or the
+ * Refused with 1, 2, 14, 3, 10, 11, 13 and 12, in this order: 10 as above; 11 where the magic is not the depth's, a number is none, the maximum is not 255 or the
  * file ends within its header; 13 where the file's width or height is another than the frame's; 12 where its pixels are not all there.
  *
- *     uint32_t number = beamacorn_read_image(buf, len, 320, 200, 1, 0, file, file_len);
+ *     uint32_t number = beamacorn_frame_read_image(buf, len, pane, file, file_len);
  *     if (number != 0) { return refused(number); }
  */
-uint32_t beamacorn_read_image(uint8_t *buf, size_t len, uint32_t width, uint32_t height, uint32_t depth, uint32_t order,
+uint32_t beamacorn_read_image(uint8_t *buf, size_t len, uint32_t width, uint32_t height, uint32_t depth, uint32_t order, uint32_t distance,
                               const uint8_t *file, size_t file_len);
+static inline uint32_t beamacorn_frame_read_image(uint8_t *buf, size_t len, beamacorn_frame frame, const uint8_t *file, size_t file_len)
+{
+    return beamacorn_read_image(buf, len, BEAMACORN_NUMBERS_OF(frame), file, file_len);
+}
 
 #ifdef __cplusplus
 }

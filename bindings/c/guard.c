@@ -1,7 +1,7 @@
 /*
  * Reads image files with the frame and the file each right before a page, and right behind one, that no program may touch: a byte read or written past an end
  * stops this program. Every beginning of a small file of each format, and each byte of its header replaced by each of 256 values; what is answered, and what is
- * left in the frame, must be the same as in plain memory.
+ * left in the frame, must be the same as in plain memory. Some of the frames have a gap behind each of their rows.
  */
 #define _DEFAULT_SOURCE
 #include <stdio.h>
@@ -24,19 +24,21 @@ static uint8_t *guarded(size_t page)
     return pages + page;
 }
 
-/* A frame, a file of its size and how long the file's header is. */
+/* A frame, how many bytes it takes and how many of them are pixels, and a file of its size and how long the file's header is. */
 typedef struct {
-    uint32_t width, height, depth;
-    size_t size, header;
+    beamacorn_frame frame;
+    size_t size, pixels, header;
     const char *file;
     size_t length;
 } sample;
 
 #define FILE_OF(text) (text), sizeof(text) - 1
 static const sample samples[] = {
-    {10, 2, 1, 4, 9, FILE_OF("P4\n010 2\n\x80\x3f\x00\x40more")},
-    {2, 1, 8, 2, 13, FILE_OF("P5 2\t1\r\n0255\n\x07\xc8")},
-    {1, 2, 24, 6, 11, FILE_OF("P6\n1 2\n255 \x01\x02\x03\x04\x05\x06\n")},
+    {{10, 2, 1, 0, 2}, 4, 4, 9, FILE_OF("P4\n010 2\n\x80\x3f\x00\x40more")},
+    {{10, 2, 1, 0, 5}, 10, 4, 9, FILE_OF("P4\n010 2\n\x80\x3f\x00\x40more")},
+    {{2, 1, 8, 0, 2}, 2, 2, 13, FILE_OF("P5 2\t1\r\n0255\n\x07\xc8")},
+    {{1, 2, 24, 0, 3}, 6, 6, 11, FILE_OF("P6\n1 2\n255 \x01\x02\x03\x04\x05\x06\n")},
+    {{1, 2, 24, 0, 4}, 8, 6, 11, FILE_OF("P6\n1 2\n255 \x01\x02\x03\x04\x05\x06\n")},
 };
 
 static uint8_t *frame_page, *file_page;
@@ -46,23 +48,25 @@ static int reads, wrong, accepted;
 /* Reads n bytes with frame and file at one end of their pages, and in plain memory. */
 static void read_at(const sample *of, const uint8_t *file, size_t n, uint32_t order, bool at_the_end)
 {
+    beamacorn_frame frame = of->frame;
     uint8_t plain[LONGEST], plain_file[LONGEST];
-    uint8_t *frame = at_the_end ? frame_page + page - of->size : frame_page;
+    uint8_t *bytes = at_the_end ? frame_page + page - of->size : frame_page;
     uint8_t *guarded_file = at_the_end ? file_page + page - n : file_page;
 
+    frame.order = order;
     memset(plain, 0xa5, sizeof plain);
-    memset(frame, 0xa5, of->size);
+    memset(bytes, 0xa5, of->size);
     memset(plain_file, ' ', sizeof plain_file);
     memcpy(plain_file, file, n);
     memcpy(guarded_file, file, n);
-    uint32_t expected = beamacorn_read_image(plain, of->size, of->width, of->height, of->depth, order, plain_file, n);
-    uint32_t number = beamacorn_read_image(frame, of->size, of->width, of->height, of->depth, order, guarded_file, n);
+    uint32_t expected = beamacorn_frame_read_image(plain, of->size, frame, plain_file, n);
+    uint32_t number = beamacorn_frame_read_image(bytes, of->size, frame, guarded_file, n);
 
     ++reads;
     accepted += number == 0;
-    if (number != expected || memcmp(frame, plain, of->size) != 0 || memcmp(guarded_file, file, n) != 0) {
+    if (number != expected || memcmp(bytes, plain, of->size) != 0 || memcmp(guarded_file, file, n) != 0) {
         ++wrong;
-        fprintf(stderr, "depth %u, %zu bytes: %u where %u is answered in plain memory\n", (unsigned)of->depth, n, (unsigned)number, (unsigned)expected);
+        fprintf(stderr, "depth %u, %zu bytes: %u where %u is answered in plain memory\n", (unsigned)frame.depth, n, (unsigned)number, (unsigned)expected);
     }
 }
 
@@ -94,7 +98,7 @@ int main(void)
         for (size_t place = 0; place < of->header; ++place) {
             for (int value = 0; value < 256; ++value) {
                 file[place] = (uint8_t)value;
-                read_everywhere(of, file, of->header + of->size);
+                read_everywhere(of, file, of->header + of->pixels);
                 read_everywhere(of, file, place + 1);
             }
             file[place] = (uint8_t)of->file[place];

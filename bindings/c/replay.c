@@ -2,7 +2,8 @@
  * Answers lines of docs/REPLAY.md as the program `replay` does, by the functions of the header: what is asked by each line's numbers, in their order,
  * must come back as the proved program says.
  *
- *     replay                        answers standard input
+ *     replay                        answers standard input by the functions that the library exports
+ *     replay --described            answers it by those of the header that take a beamacorn_frame
  *     replay --functions            lists the functions and how many numbers each takes, buffers and their lengths left aside
  *     replay --swap FUNCTION I J    answers with two of a function's numbers changed over, counted from 0
  */
@@ -13,11 +14,11 @@
 
 #include "beamacorn.h"
 
-enum { BYTES = 65536, MOST_DUMPED = 4096, MOST_PUT = 48, LONGEST_LINE = 128, FRAME = 4, MOST_NUMBERS = FRAME + 7 };
+enum { BYTES = 65536, MOST_DUMPED = 4096, MOST_PUT = 48, LONGEST_LINE = 128, FRAME = 5, MOST_NUMBERS = FRAME + 7 };
 
-/* The frame described last: width, height, depth and order, and the part of the buffer that is lent. */
+/* The frame described last: width, height, depth, order and row distance, and the part of the buffer that is lent. */
 static uint8_t buffer[BYTES];
-static int64_t frame[FRAME] = {0, 0, 1, 0};
+static int64_t frame[FRAME] = {0, 0, 1, 0, 0};
 static size_t lent;
 
 /* The file buffer, and how much of it is lent to write an image into, or to read one from. */
@@ -38,8 +39,10 @@ static void say_drawn(beamacorn_drawn r) { say(r.number), say_also(r.count); }
 static void say_placed(beamacorn_placed r) { say(r.number), say_also(r.inside); }
 static void say_lights(beamacorn_lights r) { say(r.number), say_also(r.count); }
 
+/* Whether frames are put to the functions that take one, and not as five numbers. */
+static bool is_described;
+
 /* The functions, each with its numbers in their order. */
-#define ON_FRAME buffer, lent, n[0], n[1], n[2], n[3]
 static void line_length(const int64_t *n) { say_length(beamacorn_line_length(n[0], n[1], n[2], n[3])); }
 static void line_point(const int64_t *n) { say_step(beamacorn_line_point(n[0], n[1], n[2], n[3], n[4])); }
 static void line_has_point(const int64_t *n) { say_verdict(beamacorn_line_has_point(n[0], n[1], n[2], n[3], n[4], n[5])); }
@@ -51,19 +54,38 @@ static void triangle_rows(const int64_t *n) { say_rows(beamacorn_triangle_rows(n
 static void triangle_row_span(const int64_t *n) { say_span(beamacorn_triangle_row_span(n[0], n[1], n[2], n[3], n[4], n[5], n[6])); }
 static void circle_contains(const int64_t *n) { say_verdict(beamacorn_circle_contains(n[0], n[1], n[2], n[3], n[4])); }
 static void circle_row_span(const int64_t *n) { say_span(beamacorn_circle_row_span(n[0], n[1], n[2], n[3])); }
-static void frame_size(const int64_t *n) { say_size(beamacorn_frame_size(n[0], n[1], n[2])); }
-static void set_pixel(const int64_t *n) { say_placed(beamacorn_set_pixel(ON_FRAME, n[4], n[5], n[6])); }
-static void pixel(const int64_t *n) { say_read(beamacorn_pixel(ON_FRAME, n[4], n[5])); }
-static void lit(const int64_t *n) { say_lights(beamacorn_lit(ON_FRAME)); }
-static void fill(const int64_t *n) { say_drawn(beamacorn_fill(ON_FRAME, n[4])); }
-static void draw_line(const int64_t *n) { say_drawn(beamacorn_draw_line(ON_FRAME, n[4], n[5], n[6], n[7], n[8])); }
-static void draw_connected_line(const int64_t *n) { say_drawn(beamacorn_draw_connected_line(ON_FRAME, n[4], n[5], n[6], n[7], n[8])); }
-static void draw_triangle(const int64_t *n) { say_drawn(beamacorn_draw_triangle(ON_FRAME, n[4], n[5], n[6], n[7], n[8], n[9], n[10])); }
-static void draw_outline(const int64_t *n) { say_drawn(beamacorn_draw_outline(ON_FRAME, n[4], n[5], n[6], n[7], n[8], n[9], n[10])); }
-static void draw_circle(const int64_t *n) { say_drawn(beamacorn_draw_circle(ON_FRAME, n[4], n[5], n[6], n[7])); }
-static void image_size(const int64_t *n) { say_size(beamacorn_image_size(n[0], n[1], n[2])); }
-static void write_image(const int64_t *n) { say_size(beamacorn_write_image(ON_FRAME, file, room)); }
-static void read_image(const int64_t *n) { say(beamacorn_read_image(ON_FRAME, file, room)); }
+
+/* A function on the frame in both of its forms: the five numbers come first, and those behind them are the same. */
+static beamacorn_frame described(const int64_t *n)
+{
+    return (beamacorn_frame){n[0], n[1], n[2], n[3], n[4]};
+}
+#define ON_FRAME(name, ...) \
+    (is_described ? beamacorn_frame_##name(buffer, lent, described(n), __VA_ARGS__) : beamacorn_##name(buffer, lent, n[0], n[1], n[2], n[3], n[4], __VA_ARGS__))
+static void frame_size(const int64_t *n)
+{
+    beamacorn_frame of = {n[0], n[1], n[2], 0, n[3]};
+
+    say_size(is_described ? beamacorn_frame_bytes(of) : beamacorn_frame_size(n[0], n[1], n[2], n[3]));
+}
+static void image_size(const int64_t *n)
+{
+    say_size(is_described ? beamacorn_frame_image_size(described(n)) : beamacorn_image_size(n[0], n[1], n[2], n[4]));
+}
+static void lit(const int64_t *n)
+{
+    say_lights(is_described ? beamacorn_frame_lit(buffer, lent, described(n)) : beamacorn_lit(buffer, lent, n[0], n[1], n[2], n[3], n[4]));
+}
+static void set_pixel(const int64_t *n) { say_placed(ON_FRAME(set_pixel, n[5], n[6], n[7])); }
+static void pixel(const int64_t *n) { say_read(ON_FRAME(pixel, n[5], n[6])); }
+static void fill(const int64_t *n) { say_drawn(ON_FRAME(fill, n[5])); }
+static void draw_line(const int64_t *n) { say_drawn(ON_FRAME(draw_line, n[5], n[6], n[7], n[8], n[9])); }
+static void draw_connected_line(const int64_t *n) { say_drawn(ON_FRAME(draw_connected_line, n[5], n[6], n[7], n[8], n[9])); }
+static void draw_triangle(const int64_t *n) { say_drawn(ON_FRAME(draw_triangle, n[5], n[6], n[7], n[8], n[9], n[10], n[11])); }
+static void draw_outline(const int64_t *n) { say_drawn(ON_FRAME(draw_outline, n[5], n[6], n[7], n[8], n[9], n[10], n[11])); }
+static void draw_circle(const int64_t *n) { say_drawn(ON_FRAME(draw_circle, n[5], n[6], n[7], n[8])); }
+static void write_image(const int64_t *n) { say_size(ON_FRAME(write_image, file, room)); }
+static void read_image(const int64_t *n) { say(ON_FRAME(read_image, file, room)); }
 
 /* A line's word, the numbers that follow it (s signed, u unsigned), and the function: with the frame's numbers first, if it is asked of the frame. */
 typedef struct {
@@ -97,7 +119,7 @@ static const question questions[] = {
 };
 
 /* The functions of `frame`, whose line has an order and a length besides, and of `image` and `load`, whose line has the length of the file. */
-static const question size_of_frame = {"frame", "uuu", "beamacorn_frame_size", frame_size, false};
+static const question size_of_frame = {"frame", "uuuu", "beamacorn_frame_size", frame_size, false};
 static const question image_of_frame = {"image", "", "beamacorn_write_image", write_image, true};
 static const question image_into_frame = {"load", "", "beamacorn_read_image", read_image, true};
 
@@ -154,15 +176,16 @@ static bool read_numbers(char *fields, const char *kinds, int64_t *numbers)
 
 static bool describe(char *fields)
 {
-    int64_t n[5];
+    int64_t n[6];
 
-    if (!read_numbers(fields, "uuuuu", n) || n[3] > 1 || n[4] > BYTES) {
+    if (!read_numbers(fields, "uuuuuu", n) || n[3] > 1 || n[4] > BYTES) {
         return false;
     }
-    memcpy(frame, n, sizeof frame);
+    const int64_t numbers[] = {n[0], n[1], n[2], n[3], n[5]}, without_order[] = {n[0], n[1], n[2], n[5]};
+    memcpy(frame, numbers, sizeof frame);
     lent = (size_t)n[4];
     memset(buffer, 0, sizeof buffer);
-    answer(&size_of_frame, n);
+    answer(&size_of_frame, without_order);
     return true;
 }
 
@@ -318,8 +341,10 @@ int main(int argc, char **argv)
         swapped = argv[2];
         first = strtoul(argv[3], NULL, 10);
         second = strtoul(argv[4], NULL, 10);
+    } else if (argc == 2 && strcmp(argv[1], "--described") == 0) {
+        is_described = true;
     } else if (argc != 1) {
-        fputs("usage: replay [--functions | --swap FUNCTION I J]\n", stderr);
+        fputs("usage: replay [--described | --functions | --swap FUNCTION I J]\n", stderr);
         return 2;
     }
     while (next_line(line, &length)) {

@@ -2,7 +2,8 @@
 
 from itertools import product
 
-from . import corners, frames, grids, lights, readings
+from . import corners, distances, frames, grids, lights, readings
+from .distances import Distances
 from .figures import Figures
 from .frames import Drawings
 from .images import Images
@@ -27,6 +28,7 @@ def once_by_rust(random, sizes):
         "circles at the range's corners": corners.circles(),
         "every pixel of small frames": frames.every_pixel(random, sizes),
         "every figure on a small frame": frames.every_figure(random),
+        "every gap between rows": distances.every_gap(random, sizes),
         "lit pixels at every size": lights.every_size(random, sizes, corners.LOW, corners.HIGH),
         "drawing at the range's corners": frames.corners(random, common(sizes), corners.LOW, corners.HIGH),
     }
@@ -66,13 +68,14 @@ def round_by_model(random):
     """Kinds and what makes a batch, beyond what the Rust can answer."""
     far = Figures(random, -131_072, 131_071, -(2**31), 2**31 - 1)
     drawings = Drawings(random, FRAMES, far.low, far.high, with_fill=True, refused=0.2)
-    limits, files, read, lit = Limits(random), Images(random), Readings(random), Lights(random)
+    limits, rows, files, read, lit = Limits(random), Distances(random), Images(random), Readings(random), Lights(random)
     return {
         "far lines": lambda: far.lines(1_000),
         "far connected lines": lambda: far.connected_lines(1_000),
         "far triangles": lambda: far.triangles(1_000),
         "far circles": lambda: far.circles(100),
         "drawing, fills and refused calls": lambda: drawings.sequences(300),
+        "row distances at their limits": lambda: rows.sequences(300),
         "image files": lambda: files.sequences(150),
         "image files read back": lambda: read.sequences(200),
         "lit pixels": lambda: lit.sequences(5),

@@ -1,5 +1,6 @@
-"""Frames and drawing calls, with the bytes after each: at the sizes that the Rust was compiled for, and at others."""
+"""Frames and drawing calls, with the bytes after each: at the sizes that the Rust was compiled for, and at others; many with a gap between their rows."""
 
+from dataclasses import replace
 from itertools import chain, cycle, product
 
 from model.frames import Frame
@@ -15,31 +16,61 @@ AROUND = list(product(range(-1, 5), repeat=2))
 LARGEST_COUNTED = 9
 CORNER_DIAMETERS = [1, 4, 100, 8_191, 8_192, 8_193, 16_383, 16_384]
 AT_THE_ENDS = 0.05
+# The bytes between two rows.
+FEW = range(10)
+THOUSANDS = [1_000, 2_047, 4_096, 8_191, 16_000]
+IS_PACKED = 0.4
+IS_FAR_APART = 0.05
 
 
-def size_of(width, height, depth):
-    return Frame(width, height, depth, False).size()
+def described(frame, length):
+    """The line that describes a frame over so many bytes."""
+    return asked("frame", frame.width, frame.height, frame.depth, int(frame.big), length, frame.distance)
 
 
-def dumps(size):
+def dumps(frame):
     """The frame's bytes and some of the tail, in as many lines as they need."""
-    end = min(size + 8, BYTES)
+    end = min(frame.size() + 8, BYTES)
     return [asked("dump", start, min(end - start, MOST_DUMPED)) for start in range(0, end, MOST_DUMPED)]
+
+
+def with_gap(frame, gap):
+    return replace(frame, distance=frame.distance + gap)
+
+
+def fits(frame):
+    return frame.distance <= 16_384 and frame.size() <= BYTES
+
+
+def apart(random, frame):
+    """The frame as it is, or with a gap between its rows, as far as the buffer holds it then."""
+    gaps = THOUSANDS if random.random() < IS_FAR_APART else FEW
+    wider = [*filter(fits, (with_gap(frame, gap) for gap in gaps))]
+    return random.choice(wider) if wider and random.random() > IS_PACKED else frame
+
+
+def any_order(random, width, height, depth):
+    return Frame.packed(width, height, depth, random.random() < 0.5)
+
+
+def of_any_depth(random, width, height):
+    """A frame of the size that the buffer holds."""
+    return random.choice([*filter(fits, (any_order(random, width, height, depth) for depth in DEPTHS))])
 
 
 def every_pixel(random, sizes):
     """Each pixel of each small frame at each depth and order, set over a pattern and read back."""
     for width, height in sizes:
         if width * height <= SMALL:
-            yield [line for depth, order in product(DEPTHS, (0, 1)) for line in one_by_one(random, width, height, depth, order)]
+            frames = (Frame.packed(width, height, depth, big) for depth, big in product(DEPTHS, (False, True)))
+            yield [line for frame in frames for line in one_by_one(random, with_gap(frame, random.choice([0, 0, *FEW])))]
 
 
-def one_by_one(random, width, height, depth, order):
-    size = size_of(width, height, depth)
-    lines = [asked("frame", width, height, depth, order, size), asked("preset", random.choice([0, 85, 165, 255]))]
-    for x, y in product(range(-1, width + 1), range(-1, height + 1)):
-        colour = random.choice([0, 2**depth - 1, random.randrange(2**depth)])
-        lines += [asked("pixel", x, y, colour), asked("read", x, y), *dumps(size)]
+def one_by_one(random, frame):
+    lines = [described(frame, frame.size()), asked("preset", random.choice([0, 85, 165, 255]))]
+    for x, y in product(range(-1, frame.width + 1), range(-1, frame.height + 1)):
+        colour = random.choice([0, 2**frame.depth - 1, random.randrange(2**frame.depth)])
+        lines += [asked("pixel", x, y, colour), asked("read", x, y), *dumps(frame)]
     return lines
 
 
@@ -51,9 +82,9 @@ def every_figure(random):
     triples = [[(*v1, *v2, *v3) for v3 in AROUND] for v1, v2 in product(AROUND, repeat=2)]
     triangles, outlines = ([[(word, *vertices) for vertices in some] for some in triples] for word in ("triangle", "outline"))
     circles = [[("circle", left, top, diameter) for left, top in about(diameter)] for diameter in range(LARGEST_COUNTED + 1)]
-    frames = cycle(product(DEPTHS, (0, 1)))
+    frames = cycle(Frame.packed(*COUNTED, depth, big) for depth, big in product(DEPTHS, (False, True)))
     for figures in (lines, connected, triangles, outlines, circles):
-        yield [line for some in figures for line in on_one_frame(random, *next(frames), some)]
+        yield [line for some in figures for line in on_one_frame(random, with_gap(next(frames), random.randrange(3)), some)]
 
 
 def about(diameter):
@@ -61,19 +92,18 @@ def about(diameter):
     return product(*(range(-diameter - 1, side + 2) for side in COUNTED))
 
 
-def on_one_frame(random, depth, order, figures):
-    frame = asked("frame", *COUNTED, depth, order, size_of(*COUNTED, depth))
-    return [frame, *(line for figure in figures for line in lines_of(figure, depth, random.randrange(2**depth)))]
+def on_one_frame(random, frame, figures):
+    return [described(frame, frame.size()), *(line for figure in figures for line in lines_of(figure, frame, random.randrange(2**frame.depth)))]
 
 
-def lines_of(figure, depth, colour):
+def lines_of(figure, frame, colour):
     word, *numbers = figure
-    shown = dumps(size_of(*COUNTED, depth))
+    shown = dumps(frame)
     if word == "trace":
         return [asked("preset", 0), asked(*figure, max(colour, 1)), *shown]
     if word == "outline":
         # No bit of the fill's colour is the outline's, so that every pixel of the outline shows.
-        return [asked("triangle", *numbers, 2**depth - 1 - colour), asked(*figure, colour), *shown]
+        return [asked("triangle", *numbers, 2**frame.depth - 1 - colour), asked(*figure, colour), *shown]
     return [asked(*figure, colour)]
 
 
@@ -97,10 +127,8 @@ def boxes(low, high, diameter):
 
 def drawn_alone(random, size, figure):
     """A figure on a frame of its own, and the bytes after."""
-    depth = random.choice([depth for depth in DEPTHS if size_of(*size, depth) <= BYTES])
-    bytes_of_frame = size_of(*size, depth)
-    frame = asked("frame", *size, depth, random.randrange(2), bytes_of_frame)
-    return [frame, asked(*figure, random.randint(1, 2**depth - 1)), *dumps(bytes_of_frame)]
+    frame = apart(random, of_any_depth(random, *size))
+    return [described(frame, frame.size()), asked(*figure, random.randint(1, 2**frame.depth - 1)), *dumps(frame)]
 
 
 class Drawings:
@@ -115,19 +143,15 @@ class Drawings:
         return [line for _ in range(count) for line in self.sequence()]
 
     def sequence(self):
-        width, height = self.random.choice(self.sizes)
-        fitting = [depth for depth in DEPTHS if size_of(width, height, depth) <= BYTES]
-        depth = self.random.choice(fitting)
-        size = size_of(width, height, depth)
-        length = self.random.choice([size, min(size + self.random.randrange(40), BYTES)])
-        yield asked("frame", width, height, depth, self.random.randrange(2), length)
+        frame = apart(self.random, of_any_depth(self.random, *self.random.choice(self.sizes)))
+        yield described(frame, self.random.choice([frame.size(), min(frame.size() + self.random.randrange(40), BYTES)]))
         if self.random.random() < 0.5:
             yield asked("preset", self.random.randrange(256))
         for _ in range(self.random.randint(1, 12)):
-            yield self.call(width, height, depth)
-            yield self.random.choice(dumps(size))
-            yield asked("read", *self.place(width, height))
-        yield from dumps(size)
+            yield self.call(frame.width, frame.height, frame.depth)
+            yield self.random.choice(dumps(frame))
+            yield asked("read", *self.place(frame.width, frame.height))
+        yield from dumps(frame)
 
     def call(self, width, height, depth):
         colour = self.random.choice([0, 2**depth - 1, self.random.randrange(2**depth)])

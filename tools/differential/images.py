@@ -1,10 +1,9 @@
 """Frames written as image files: the length beforehand, rooms that are enough and too small, and the file buffer's bytes before, in and behind the file."""
 
 from model import images
-from model.frames import Frame
 from model.replay import BYTES, MOST_DUMPED
 
-from .frames import DEPTHS, Drawings
+from .frames import DEPTHS, Drawings, any_order, apart, described
 from .questions import asked
 from .refusals import OTHER_DEPTHS
 
@@ -34,7 +33,7 @@ class Images:
 
     def written(self, frame):
         length = images.length(frame)
-        yield asked("frame", frame.width, frame.height, frame.depth, int(frame.big), self.lent(frame.size()))
+        yield described(frame, self.lent(frame.size()))
         yield asked("preset", self.random.randrange(256))
         yield from self.looked_at(length)
         yield from self.content(frame)
@@ -48,12 +47,12 @@ class Images:
 
     def frame(self):
         if self.random.random() < IS_LARGE:
-            return Frame(*self.random.choice(LARGE), self.random.random() < 0.5)
+            return apart(self.random, any_order(self.random, *self.random.choice(LARGE)))
         width, height = (self.random.randint(0, LONGEST_SIDE) for _ in range(2))
         depth = self.random.choice([*images.MAGIC] * 6 + DEPTHS)
         if self.random.random() < IS_REFUSED:
             width, depth = self.random.choice([(width, self.random.choice(OTHER_DEPTHS)), (2_049, depth)])
-        return Frame(width, height, depth, self.random.random() < 0.5)
+        return apart(self.random, any_order(self.random, width, height, depth))
 
     def lent(self, size):
         """Mostly enough bytes for the frame, and sometimes one too few."""

@@ -1,10 +1,11 @@
-"""Lit pixels of frames: rows that end at every bit of a byte, padding and tail that are all ones, other depths and buffers that are too short."""
+"""Lit pixels of frames: rows that end at every bit of a byte, padding, gaps and tail that are all ones, other depths and buffers that are too short."""
 
 from itertools import product
 
+from model.frames import Frame
 from model.replay import BYTES
 
-from .frames import DEPTHS, Drawings, size_of
+from .frames import DEPTHS, Drawings, any_order, apart, described
 from .questions import asked
 from .refusals import OTHER_DEPTHS
 
@@ -17,23 +18,24 @@ MOST_CALLS = 3
 
 
 def every_size(random, sizes, low, high):
-    """One-bit frames of each size over each pattern, which stands in padding and tail too, counted before and after calls."""
+    """One-bit frames of each size over each pattern, which stands in padding, gaps and tail too, counted before and after calls."""
     drawings = Drawings(random, [], low, high, with_fill=False, refused=0)
     for width, height in sizes:
-        yield [line for order, value in product((0, 1), PRESETS) for line in over_pattern(random, drawings, width, height, order, value)]
+        frames = product((Frame.packed(width, height, 1, big) for big in (False, True)), PRESETS)
+        yield [line for frame, value in frames for line in over_pattern(random, drawings, apart(random, frame), value)]
 
 
-def over_pattern(random, drawings, width, height, order, value):
-    yield asked("frame", width, height, 1, order, min(size_of(width, height, 1) + TAIL, BYTES))
+def over_pattern(random, drawings, frame, value):
+    yield described(frame, min(frame.size() + TAIL, BYTES))
     yield asked("preset", value)
-    yield from counted(random, drawings, width, height, 1)
+    yield from counted(random, drawings, frame)
 
 
-def counted(random, drawings, width, height, depth):
+def counted(random, drawings, frame):
     """The lit pixels of what is there, and again after every call."""
     yield asked("lit")
     for _ in range(random.randint(1, MOST_CALLS)):
-        yield drawings.call(width, height, depth)
+        yield drawings.call(frame.width, frame.height, min(frame.depth, 32))
         yield asked("lit")
 
 
@@ -52,7 +54,8 @@ class Lights:
         height, depth = self.random.choice(HEIGHTS), self.random.choice([1] * 15 + DEPTHS)
         if self.random.random() < IS_REFUSED:
             width, depth = self.random.choice([(width, self.random.choice(OTHER_DEPTHS)), (2_049, depth)])
-        length = size_of(width, height, depth) + self.random.choice([0, 0, 0, 1, TAIL, TAIL, -1])
-        yield asked("frame", width, height, depth, self.random.randrange(2), max(0, min(length, BYTES)))
+        frame = apart(self.random, any_order(self.random, width, height, depth))
+        length = frame.size() + self.random.choice([0, 0, 0, 1, TAIL, TAIL, -1])
+        yield described(frame, max(0, min(length, BYTES)))
         yield asked("preset", self.random.choice([255, 255, self.random.randrange(256)]))
-        yield from counted(self.random, self.drawings, width, height, min(depth, 32))
+        yield from counted(self.random, self.drawings, frame)

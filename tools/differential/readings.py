@@ -1,14 +1,15 @@
 """Image files read back into frames: headers with any white space and leading zeros, what spoils a header in each of its places, files that end early or
-late, other sizes and formats, and what `image` wrote for a frame of the other byte order; the frame's bytes after each, padding and tail too."""
+late, other sizes and formats, and what `image` wrote for a frame of another byte order and row distance; the frame's bytes after each, padding, gaps and tail
+too."""
 
-from dataclasses import dataclass
+from dataclasses import dataclass, replace
 from itertools import product
 
 from model import images
 from model.frames import Frame
 from model.replay import BYTES
 
-from .frames import dumps
+from .frames import any_order, apart, described, dumps
 from .images import IS_LARGE, LARGE, Images
 from .questions import asked
 from .refusals import OTHER_DEPTHS
@@ -31,7 +32,7 @@ IS_OTHER_SIZE = 0.15
 IS_WRITTEN = 0.2
 IS_DRAWN_ON = 0.1
 # Of each format: small enough for one line, with padding at depth 1, and fields that have a zero within four digits.
-SMALL = [(Frame(3, 2, 1, False), b"P4\n3 2\n"), (Frame(2, 1, 8, False), b"P5 2\t01\n255\n"), (Frame(1, 2, 24, False), b"P6\r1 2\n0255 ")]
+SMALL = [(Frame.packed(3, 2, 1, False), b"P4\n3 2\n"), (Frame.packed(2, 1, 8, False), b"P5 2\t01\n255\n"), (Frame.packed(1, 2, 24, False), b"P6\r1 2\n0255 ")]
 AT_ONCE = 16
 
 
@@ -41,7 +42,7 @@ def laid(file, start=0):
 
 
 def read(frame, file):
-    return [*laid(file), asked("load", len(file)), *dumps(frame.size())]
+    return [*laid(file), asked("load", len(file)), *dumps(frame)]
 
 
 def every_spoiled_header(random):
@@ -60,13 +61,15 @@ def in_runs(random, frame, files):
     """The files, some to a frame, which is set to a pattern first."""
     lines = []
     for start in range(0, len(files), AT_ONCE):
-        lines += [described(frame, random.randrange(2), frame.size() + 2), asked("preset", random.choice([0, 255, random.randrange(256)]))]
-        lines += [line for file in files[start:start + AT_ONCE] for line in read(frame, file)]
+        target = of_same_size(random, frame)
+        lines += [described(target, target.size() + 2), asked("preset", random.choice([0, 255, random.randrange(256)]))]
+        lines += [line for file in files[start:start + AT_ONCE] for line in read(target, file)]
     return lines
 
 
-def described(frame, order, length):
-    return asked("frame", frame.width, frame.height, frame.depth, order, length)
+def of_same_size(random, frame):
+    """A frame that takes the same files, in any order and with any gap."""
+    return apart(random, any_order(random, frame.width, frame.height, frame.depth))
 
 
 def of_other_digits(frame):
@@ -85,12 +88,12 @@ def to_the_end(random, frame, value, behind):
     """The fields at the very end of the file buffer, a run of one byte before them, and so many bytes more or less than the pixels need behind them."""
     fields = b" ".join(str(field).encode() for field in fields_of(frame)) + b"\n"
     file = fields + random.randbytes(max(frame.size() + behind, 0))
-    yield described(frame, random.randrange(2), frame.size())
+    yield described(replace(frame, big=random.random() < 0.5), frame.size())
     yield asked("wipe", value)
     yield from laid(images.MAGIC[frame.depth].encode() + b" ")
     yield from laid(file, BYTES - len(file))
     for length in (BYTES, BYTES - 1, BYTES - len(file), BYTES - len(file) + len(fields), BYTES - len(file) + len(fields) - 1):
-        yield from [asked("load", length), *dumps(frame.size())]
+        yield from [asked("load", length), *dumps(frame)]
 
 
 @dataclass
@@ -124,7 +127,7 @@ class Readings:
 
     def sequence(self):
         if self.random.random() < IS_LARGE:
-            return self.written_and_read(Frame(*self.random.choice(LARGE), self.random.random() < 0.5))
+            return self.written_and_read(apart(self.random, any_order(self.random, *self.random.choice(LARGE))))
         return self.files_read(self.frame())
 
     def frame(self):
@@ -135,16 +138,16 @@ class Readings:
             without_format, refused = self.random.choice([2, 4, 16, 32]), self.random.choice(OTHER_DEPTHS)
             unfit = [(0, height, depth), (width, 0, depth), (2_049, height, depth), (width, height, refused)]
             width, height, depth = self.random.choice([*unfit, *[(width, height, without_format)] * 3])
-        return Frame(width, height, depth, self.random.random() < 0.5)
+        return apart(self.random, any_order(self.random, width, height, depth))
 
     def files_read(self, frame):
-        yield described(frame, int(frame.big), self.lent(frame))
+        yield described(frame, self.lent(frame))
         yield asked("preset", self.random.choice([0, 255, self.random.randrange(256)]))
         for _ in range(self.random.randint(1, 8)):
             file = self.file(frame)
             yield from laid(file)
             yield asked("load", self.random.choice([len(file)] * 6 + [BYTES, self.random.randint(0, len(file))]))
-            yield from dumps(min(frame.size(), MOST_PIXELS))
+            yield self.random.choice(dumps(frame))
             if self.random.random() < IS_DRAWN_ON:
                 yield from self.images.changed(frame)
         if self.random.random() < IS_WRITTEN:
@@ -156,24 +159,25 @@ class Readings:
         return max(0, min(frame.size() + (-1 if is_short else self.random.choice([0, 0, 1, 9])), BYTES))
 
     def written_and_read(self, frame):
-        """A frame written, and its file read into a frame of either order, with too few bytes, and with others behind it."""
-        yield described(frame, int(frame.big), min(frame.size(), BYTES))
+        """A frame written, and its file read into a frame of either order and with any gap, with too few bytes, and with others behind it."""
+        yield described(frame, min(frame.size(), BYTES))
         yield asked("preset", self.random.randrange(256))
         yield from self.images.content(frame)
         yield asked("wipe", self.random.choice([0, 10, 255]))
         yield asked("image", BYTES)
-        yield described(frame, self.random.randrange(2), self.lent(frame))
+        target = of_same_size(self.random, frame)
+        yield described(target, self.lent(target))
         yield asked("preset", self.random.choice([0, 255, self.random.randrange(256)]))
-        length = images.length(frame)
-        for short in self.random.sample([length, length - 1, length - frame.size(), length - frame.size() - 1, BYTES, 0], 3):
+        length, header = images.length(frame), len(images.header(frame))
+        for short in self.random.sample([length, length - 1, header, header - 1, BYTES, 0], 3):
             yield asked("load", max(0, min(short, BYTES)))
-            yield from self.random.sample(shown := dumps(frame.size()), min(len(shown), 2))
-            yield from self.images.changed(frame)
+            yield from self.random.sample(shown := dumps(target), min(len(shown), 2))
+            yield from self.images.changed(target)
 
     def file(self, frame):
         """A good file for the frame, in half of the cases with one or two things about it that may be bad."""
         depth = frame.depth if frame.depth in images.MAGIC else self.random.choice([*images.MAGIC])
-        fields = [self.digits(field) for field in fields_of(Frame(*self.size(frame), depth, True))]
+        fields = [self.digits(field) for field in fields_of(Frame.packed(*self.size(frame), depth, True))]
         parts = Parts(images.MAGIC[depth].encode(), [self.gap() for _ in fields], fields, self.random.choice(SPACES), self.pixels(frame))
         for _ in range(self.random.choice([1, 1, 2]) if self.random.random() < IS_SPOILED else 0):
             self.spoil(parts)
@@ -201,7 +205,7 @@ class Readings:
 
     def pixels(self, frame):
         """Often white space and digits, which are pixels like others. A frame that is refused may be larger than any file."""
-        size = min(frame.size(), MOST_PIXELS)
+        size = min(images.in_file(frame).size(), MOST_PIXELS)
         return self.random.randbytes(size) if self.random.random() < 0.7 else bytes(self.random.choices(b" \t\r\n0#", k=size))
 
     # What may spoil a file, in the one of several ways that a variant says.

@@ -1,8 +1,9 @@
 """Lines at the limits of every number: what is refused and what is not, which refusal wins, and what is a bad line."""
 
+from model.frames import Frame, row_bytes
 from model.replay import BYTES, FIELDS
 
-from .frames import DEPTHS, size_of
+from .frames import DEPTHS, described
 from .questions import asked, last_index, last_step
 
 COORDINATES = [0, 1, -1, 131_071, 131_072, -131_072, -131_073, 2**31 - 1, -(2**31)]
@@ -48,12 +49,16 @@ class Limits:
     def frame(self):
         width, height = self.random.choice(SIDES), self.random.choice(SIDES)
         depth = self.random.choice(DEPTHS + DEPTHS + OTHER_DEPTHS)
-        size = size_of(width, height, depth)
-        length = max(0, min(size + self.random.choice([-1, 0, 0, 1, 100]), BYTES))
-        lines = [asked("frame", width, height, depth, self.random.randrange(2), length), asked("preset", 165), asked("lit")]
+        frame = Frame(width, height, depth, self.random.random() < 0.5, self.distance(row_bytes(width, depth)))
+        length = max(0, min(frame.size() + self.random.choice([-1, 0, 0, 1, 100]), BYTES))
+        lines = [described(frame, length), asked("preset", 165), asked("lit")]
         for _ in range(6):
-            lines += [self.call(depth), asked("dump", 0, min(size + 4, 256)), asked("read", self.near(width), self.near(height))]
+            lines += [self.call(depth), asked("dump", 0, min(frame.size() + 4, 256)), asked("read", self.near(width), self.near(height))]
         return lines
+
+    def distance(self, least):
+        """Mostly what a row takes."""
+        return max(0, min(self.random.choice([least] * 9 + [least - 1, least + 1, 16_384, 16_385]), 2**32 - 1))
 
     def call(self, depth):
         word = self.random.choice(DRAWING)

@@ -1,5 +1,5 @@
 """Models that are wrong in one way each: the errors that look right of 01 (docs/RULES.md) and others of their kind, in image files, counts, outlines,
-connected lines and files that are read back too, which a run must find."""
+connected lines, files that are read back and rows with gaps too, which a run must find."""
 
 from contextlib import contextmanager
 from dataclasses import replace
@@ -127,6 +127,31 @@ def models():
         WrongModel("the whole file buffer read", Replay, "load", whole_buffer(Replay.load), "image files read back"),
         WrongModel("bytes put to the file buffer's begin", Replay, "bytes", to_the_begin(Replay.bytes), "every spoiled header of image files"),
         WrongModel("bytes past the file buffer's end cut off", Replay, "bytes", cut_off(Replay.bytes), "bad lines"),
+        WrongModel("a distance one byte short taken", numbers, "description", with_distances(-1, 16_384), "row distances at their limits"),
+        WrongModel("a distance of 16,385 taken", numbers, "description", with_distances(0, 16_385), "row distances at their limits"),
+        WrongModel("a distance of 16,384 refused", numbers, "description", with_distances(0, 16_383), "row distances at their limits"),
+        WrongModel("a distance without a gap refused", numbers, "description", with_distances(1, 16_384), "every gap between rows"),
+        WrongModel("3 before 14", Replay, "lent", short_first(Replay.lent), "row distances at their limits"),
+        WrongModel("14 before 1", numbers, "description", distance_before(1), "row distances at their limits"),
+        WrongModel("14 before 2", numbers, "description", distance_before(2), "row distances at their limits"),
+        WrongModel("10 before 14", Replay, "imagesize", format_before_distance, "row distances at their limits"),
+        WrongModel("14 behind all others", numbers, "first", lowest, "row distances at their limits"),
+        WrongModel("no 14 for the size of a frame", Replay, "frame", without_distance(Replay.frame), "row distances at their limits"),
+        WrongModel("the last row's gap not needed", numbers, "buffer", but_for_the_last_gap, "row distances at their limits"),
+        WrongModel("the size without its last gap", Frame, "size", to_the_last_row, "every gap between rows"),
+        WrongModel("the size without gaps", Frame, "size", rows_alone, "every gap between rows"),
+        WrongModel("the gaps cleared on filling", Replay, "fill", clearing_gaps(Replay.fill), "drawing, fills and refused calls"),
+        WrongModel("the gaps painted", Frame, "paint", painting_gaps(Frame.paint), "every gap between rows"),
+        WrongModel("the distance ignored in setting", Frame, "set", packed_by(Frame.set), "every gap between rows"),
+        WrongModel("the distance ignored in reading", Frame, "read", packed_by(Frame.read), "every gap between rows"),
+        WrongModel("the distance ignored in both", Frame, "place", packed_by(Frame.place), "every gap between rows"),
+        WrongModel("distances in pixels", Frame, "place", in_pixels(Frame.place), "every gap between rows"),
+        WrongModel("distances even", Frame, "place", even_distances(Frame.place), "every gap between rows"),
+        WrongModel("gaps counted as lit", Frame, "lit", wider_lit(Frame.lit), "lit pixels at every size"),
+        WrongModel("gaps written to a file", images, "written", with_gaps(images.written), "image files"),
+        WrongModel("gaps counted in a file's length", images, "length", lambda frame: len(images.header(frame)) + frame.size(), "image files"),
+        WrongModel("gaps looked for in a file", images, "in_file", lambda frame: replace(frame, big=True), "image files read back"),
+        WrongModel("gaps cleared by reading", images, "read_into", over_cleared_gaps(images.read_into), "image files read back"),
     ]
 
 
@@ -163,13 +188,13 @@ def inside_only(self, x, y):
 
 
 def clearing_padding(fill):
-    """Leaves the padding of each row 0."""
+    """Leaves the padding in the last byte of each row 0."""
 
     def replacement(self, colour):
         answer = fill(self, colour)
         if answer[0] == 0 and self.now.width and self.now.depth < 8:
             padding = self.now.row_bytes() * 8 - self.now.width * self.now.depth
-            for last in range(self.now.row_bytes() - 1, self.now.size(), self.now.row_bytes()):
+            for last in range(self.now.row_bytes() - 1, self.now.size(), self.now.distance):
                 self.buffer[last] &= -1 << padding
         return answer
 
@@ -240,10 +265,13 @@ def as_it_stands(depth, row):
     """The rows of a depth copied from the frame, byte by byte."""
 
     def replacement(frame, buffer, y):
-        start = y * frame.row_bytes()
-        return buffer[start:start + frame.row_bytes()] if frame.depth == depth else row(frame, buffer, y)
+        return buffer[row_of(frame, y)] if frame.depth == depth else row(frame, buffer, y)
 
     return replacement
+
+
+def row_of(frame, y):
+    return slice(y * frame.distance, y * frame.distance + frame.row_bytes())
 
 
 def one_short(output):
@@ -251,7 +279,7 @@ def one_short(output):
 
 
 def turned(header):
-    return lambda frame: header(Frame(frame.height, frame.width, frame.depth, frame.big))
+    return lambda frame: header(replace(frame, width=frame.height, height=frame.width))
 
 
 def clearing(image):
@@ -314,7 +342,7 @@ def counted_all_the_same(drawn):
 
 
 def padding_lit(self, buffer):
-    return sum(byte.bit_count() for byte in buffer[:self.size()])
+    return sum(byte.bit_count() for y in range(self.height) for byte in buffer[row_of(self, y)])
 
 
 def tail_lit(lit):
@@ -481,7 +509,7 @@ def enough_by(enough, tests=numbers.file):
         given = tests(frame, file)
         if 12 in given:
             *_, pixels = images.headed(frame.depth, file)
-            given[12] = not enough(len(pixels), frame.size())
+            given[12] = not enough(len(pixels), images.in_file(frame).size())
         return given
 
     return replacement
@@ -522,17 +550,18 @@ def byte_by_byte(depth, read_into):
     """The frame's bytes copied from the file at a depth."""
 
     def replacement(frame, buffer, pixels):
-        if frame.depth == depth:
-            buffer[:frame.size()] = pixels[:frame.size()]
-        else:
-            read_into(frame, buffer, pixels)
+        if frame.depth != depth:
+            return read_into(frame, buffer, pixels)
+        for y in range(frame.height):
+            buffer[row_of(frame, y)] = pixels[row_of(images.in_file(frame), y)]
 
     return replacement
 
 
 def over_zeros(read_into):
     def replacement(frame, buffer, pixels):
-        buffer[:frame.size()] = bytes(frame.size())
+        for y in range(frame.height):
+            buffer[row_of(frame, y)] = bytes(frame.row_bytes())
         read_into(frame, buffer, pixels)
 
     return replacement
@@ -541,7 +570,7 @@ def over_zeros(read_into):
 def into_the_tail(read_into):
     def replacement(frame, buffer, pixels):
         read_into(frame, buffer, pixels)
-        behind = pixels[frame.size():frame.size() + 4]
+        behind = pixels[images.in_file(frame).size():][:4]
         buffer[frame.size():frame.size() + len(behind)] = behind
 
     return replacement
@@ -567,3 +596,120 @@ def to_the_begin(put):
 
 def cut_off(put):
     return lambda self, start, given: put(self, start, given[:max(replay.BYTES - start, 0)])
+
+
+def with_distances(more, most, tests=numbers.description):
+    """Descriptions whose distance is held to so many bytes more than a row takes, and to another limit."""
+
+    def replacement(frame):
+        return tests(frame) | {14: not frame.row_bytes() + more <= frame.distance <= most}
+
+    return replacement
+
+
+def distance_before(number, tests=numbers.description):
+    def replacement(frame):
+        given = tests(frame)
+        return {key: given[key] for key in ([14, 1, 2] if number == 1 else [1, 14, 2])}
+
+    return replacement
+
+
+def short_first(lent):
+    def replacement(self):
+        description, buffer = lent(self)
+        return {1: description[1], 2: description[2]}, buffer, {14: description[14]}
+
+    return replacement
+
+
+def format_before_distance(self):
+    description = numbers.description(self.now)
+    number = numbers.first({1: description[1], 2: description[2]}, numbers.image(self.now), description)
+    return replay.answered(number, 1, lambda: [images.length(self.now)])
+
+
+def without_distance(frame):
+    def replacement(self, *given):
+        number, size = frame(self, *given)
+        return [0, self.now.size() % 2**32] if number == 14 else [number, size]
+
+    return replacement
+
+
+def to_the_last_row(self):
+    return self.distance * max(self.height - 1, 0) + self.row_bytes() * (self.height > 0)
+
+
+def but_for_the_last_gap(frame, length):
+    return {3: length < to_the_last_row(frame)}
+
+
+def rows_alone(self):
+    return self.row_bytes() * self.height
+
+
+def gap_of(frame, y):
+    return slice(y * frame.distance + frame.row_bytes(), (y + 1) * frame.distance)
+
+
+def clear_gaps(frame, buffer):
+    for y in range(frame.height):
+        buffer[gap_of(frame, y)] = bytes(frame.distance - frame.row_bytes())
+
+
+def clearing_gaps(fill):
+    def replacement(self, colour):
+        answer = fill(self, colour)
+        if answer[0] == 0:
+            clear_gaps(self.now, self.buffer)
+        return answer
+
+    return replacement
+
+
+def painting_gaps(paint):
+    """A row that is painted to its last column is painted on to where the next begins."""
+
+    def replacement(self, buffer, pixels, colour):
+        paint(self, buffer, pixels, colour)
+        for y in (y for x, y in pixels if x == self.width - 1):
+            buffer[gap_of(self, y)] = bytes([colour % 256]) * (self.distance - self.row_bytes())
+
+    return replacement
+
+
+def packed_by(method):
+    """As if the rows had no gap."""
+    return lambda self, *given: method(Frame.packed(self.width, self.height, self.depth, self.big), *given)
+
+
+def in_pixels(place):
+    return lambda self, x, y: place(replace(self, distance=self.distance * self.depth // 8), x, y)
+
+
+def even_distances(place):
+    return lambda self, x, y: place(replace(self, distance=self.distance + self.distance % 2), x, y)
+
+
+def wider_lit(lit):
+    return lambda self, buffer: lit(replace(self, width=self.distance * 8), buffer)
+
+
+def with_gaps(written):
+    """The rows of the file at the frame's distance, cut off where the file ends."""
+
+    def replacement(frame, buffer):
+        file = written(frame, buffer)
+        rows = b"".join(images.row(frame, buffer, y) + bytes(frame.distance - frame.row_bytes()) for y in range(frame.height))
+        return (images.header(frame) + rows)[:len(file)]
+
+    return replacement
+
+
+def over_cleared_gaps(read_into):
+    def replacement(frame, buffer, pixels):
+        clear_gaps(frame, buffer)
+        read_into(frame, buffer, pixels)
+
+    return replacement

@@ -1,5 +1,5 @@
 """01 (docs/RULES.md), "Packed frames", and painting as demand 3 has it: every pixel of the frame that the figure contains is set. 02, "How much was seen": how
-many those are, and how many pixels of one bit are lit."""
+many those are, and how many pixels of one bit are lit. 02, "Rows that start on a boundary": a row begins so many bytes behind the one before it."""
 
 from dataclasses import dataclass
 
@@ -10,12 +10,20 @@ class Frame:
     height: int
     depth: int
     big: bool
+    distance: int
+
+    @classmethod
+    def packed(cls, width, height, depth, big):
+        """A frame without a gap between its rows. A distance that 32 bits do not hold is 0: the depth or the width is refused then."""
+        distance = row_bytes(width, depth)
+        return cls(width, height, depth, big, distance if distance < 2**32 else 0)
 
     def row_bytes(self):
-        return (self.width * self.depth + 7) // 8
+        return row_bytes(self.width, self.depth)
 
     def size(self):
-        return self.row_bytes() * self.height
+        """The bytes that it takes, the gap behind its last row too."""
+        return self.distance * self.height
 
     def has(self, x, y):
         return 0 <= x < self.width and 0 <= y < self.height
@@ -32,7 +40,7 @@ class Frame:
 
     def place(self, x, y):
         """The bytes from first up to last that hold a pixel, and how many bits stand below it in them."""
-        first = y * self.row_bytes() + x * self.depth // 8
+        first = y * self.distance + x * self.depth // 8
         if self.depth >= 8:
             return first, first + self.depth // 8, 0
         return first, first + 1, 8 - self.depth - x * self.depth % 8
@@ -51,6 +59,10 @@ class Frame:
     def lit(self, buffer):
         """How many pixels of one bit are 1, each read by itself."""
         return sum(self.read(buffer, x, y) for x, y in self.pixels(everywhere))
+
+
+def row_bytes(width, depth):
+    return (width * depth + 7) // 8
 
 
 def everywhere(x, y):

@@ -1,7 +1,6 @@
 """02 (docs/RULES.md), "Image files" and "Image files read back": a frame as a Netpbm file, and a Netpbm file into a frame."""
 
 import re
-from dataclasses import replace
 
 from .frames import Frame, everywhere
 
@@ -33,9 +32,13 @@ def written(frame, buffer):
     return header(frame) + b"".join(row(frame, buffer, y) for y in range(frame.height))
 
 
+def in_file(frame):
+    """The frame as which a file keeps its picture: big end first, and no gap between the rows."""
+    return Frame.packed(frame.width, frame.height, frame.depth, True)
+
+
 def length(frame):
-    """How many bytes the file has: a row of it is as long as one of the frame."""
-    return len(header(frame)) + frame.size()
+    return len(header(frame)) + in_file(frame).size()
 
 
 def picture(file):
@@ -44,7 +47,7 @@ def picture(file):
         maximum = "" if depth == 1 else "255\n"
         taken = re.match(f"{magic}\n([1-9][0-9]*) ([1-9][0-9]*)\n{maximum}".encode(), file)
         if taken:
-            frame, pixels = Frame(*map(int, taken.groups()), depth, True), file[taken.end():]
+            frame, pixels = Frame.packed(*map(int, taken.groups()), depth, True), file[taken.end():]
             if len(pixels) != frame.size():
                 raise ValueError(f"{len(pixels)} bytes of pixels where {frame.size()} are right")
             return frame, [frame.read(pixels, x, y) for y in range(frame.height) for x in range(frame.width)]
@@ -67,7 +70,7 @@ def headed(depth, file):
 
 
 def read_into(frame, buffer, pixels):
-    """Sets every pixel of the frame to the colour that it has in the file's rows, which are those of a frame with its big end first."""
-    rows = replace(frame, big=True)
+    """Sets every pixel of the frame to the colour that it has in the file's rows."""
+    rows = in_file(frame)
     for x, y in frame.pixels(everywhere):
         frame.set(buffer, x, y, rows.read(pixels, x, y))

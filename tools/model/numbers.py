@@ -9,7 +9,7 @@ def first(*tests):
 
 
 def description(frame):
-    return {1: frame.depth not in (1, 2, 4, 8, 16, 24, 32), 2: frame.width > 2_048 or frame.height > 2_048}
+    return {1: frame.depth not in (1, 2, 4, 8, 16, 24, 32), 2: frame.width > 2_048 or frame.height > 2_048, 14: not frame.row_bytes() <= frame.distance <= 16_384}
 
 
 def buffer(frame, length):
@@ -54,4 +54,4 @@ def file(frame, file):
     if header is None:
         return {11: True}
     width, height, pixels = header
-    return {13: (width, height) != (frame.width, frame.height), 12: len(pixels) < frame.size()}
+    return {13: (width, height) != (frame.width, frame.height), 12: len(pixels) < images.in_file(frame).size()}

@@ -16,7 +16,7 @@ LONGEST_LINE = 128
 
 # The fields that follow each word: numbers of 32 bits, s signed and u unsigned, and h for bytes as hexadecimal digits.
 FIELDS = {
-    "frame": "uuuuu", "preset": "u", "read": "ss", "dump": "uu", "lit": "",
+    "frame": "uuuuuu", "preset": "u", "read": "ss", "dump": "uu", "lit": "",
     "image": "u", "imagesize": "", "file": "uu", "wipe": "u", "bytes": "uh", "load": "u",
     "pixel": "ssu", "fill": "u", "line": "ssssu", "trace": "ssssu", "triangle": "ssssssu", "outline": "ssssssu", "circle": "ssuu",
     "length": "ssss", "point": "ssssu", "online": "ssssss", "tracelength": "ssss", "tracepoint": "ssssu", "ontrace": "ssssss",
@@ -38,7 +38,7 @@ class BadLine(Exception):
 
 class Replay:
     def __init__(self):
-        self.frame_is(Frame(0, 0, 1, False), 0)
+        self.frame_is(Frame.packed(0, 0, 1, False), 0)
         self.file_buffer = bytearray(BYTES)
 
     def frame_is(self, frame, length):
@@ -55,10 +55,10 @@ class Replay:
 
     # The state and its bytes.
 
-    def frame(self, width, height, depth, order, length):
+    def frame(self, width, height, depth, order, length, distance):
         if order > 1 or length > BYTES:
             raise BadLine
-        self.frame_is(Frame(width, height, depth, order == 1), length)
+        self.frame_is(Frame(width, height, depth, order == 1, distance), length)
         return answered(numbers.first(numbers.description(self.now)), 1, lambda: [self.now.size()])
 
     def preset(self, value):

@@ -31,6 +31,8 @@ impl Refusal {
     pub const SHORT_FILE: Refusal = Refusal(NonZeroU32::new(12).unwrap());
     /// 13: the picture of an image file is not as wide and as high as the frame. No question is refused with it.
     pub const OTHER_SIZE: Refusal = Refusal(NonZeroU32::new(13).unwrap());
+    /// 14: the row distance of a frame is less than a row takes, or above 16,384. No question is refused with it.
+    pub const BAD_DISTANCE: Refusal = Refusal(NonZeroU32::new(14).unwrap());
 
     /// The number in the library's table.
     pub const fn number(self) -> u32 {
@@ -57,6 +59,7 @@ impl fmt::Display for Refusal {
             Refusal::BAD_HEADER => "the file's header is not taken",
             Refusal::SHORT_FILE => "the file has too few pixels",
             Refusal::OTHER_SIZE => "the file's picture has another size",
+            Refusal::BAD_DISTANCE => "the rows are too close or too far apart",
             _ => "see the library's table",
         };
         write!(f, "refused with {}: {why}", self.0)

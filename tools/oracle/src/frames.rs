@@ -18,6 +18,8 @@ const LENGTH: usize = 65_536;
 
 const MOST_DUMPED: usize = 4_096;
 
+const MOST_DISTANT: usize = 16_384;
+
 /// How many pixels beside the frame are still put to `set_pixel`. A filled figure may have hundreds of millions further off, which it would leave out one by one.
 const BESIDE: i32 = 8;
 
@@ -121,13 +123,37 @@ struct Described {
     seen: Box<dyn Frame>,
     size: (i32, i32),
     depth: u32,
+    spread: Spread,
+}
+
+/// Where `replay` has the rows of the frame, which in the Rust have no gap between them.
+struct Spread {
+    row_bytes: usize,
+    height: usize,
+    distance: usize,
+    /// What lies between and behind the rows is as it was preset; the rows themselves are copied when they are shown.
+    bytes: Vec<u8>,
+}
+
+impl Spread {
+    /// The Rust's bytes as they are where there is no gap, and else a copy of its rows at their distance.
+    fn over<'a>(&'a mut self, rows: &'a [u8]) -> &'a [u8] {
+        if self.distance == self.row_bytes {
+            return rows;
+        }
+        for y in 0..self.height {
+            let row = &rows[y * self.row_bytes..][..self.row_bytes];
+            self.bytes[y * self.distance..][..self.row_bytes].copy_from_slice(row);
+        }
+        &self.bytes
+    }
 }
 
 impl Frames {
     pub fn answer(&mut self, question: &Question, figures: &Figures) -> Option<String> {
-        if let ("frame", &[width, height, depth, order, length]) = (question.word, question.numbers.as_slice()) {
+        if let ("frame", &[width, height, depth, order, length, distance]) = (question.word, question.numbers.as_slice()) {
             self.forget();
-            return self.describe((width, height), depth, order, length);
+            return self.describe((width, height), depth, order, length, distance);
         }
         let answer = self.0.as_mut()?.answer(question, figures);
         if answer.is_none() && CHANGES.contains(&question.word) {
@@ -142,18 +168,21 @@ impl Frames {
         None
     }
 
-    /// A buffer too short for the frame is the Rust's failed assertion at compile time.
-    fn describe(&mut self, (width, height): (i64, i64), depth: i64, order: i64, length: i64) -> Option<String> {
+    /// A buffer too short for the frame is the Rust's failed assertion at compile time. Of distances it knows nothing: it answers for the rows of a frame that has
+    /// a good one.
+    fn describe(&mut self, (width, height): (i64, i64), depth: i64, order: i64, length: i64, distance: i64) -> Option<String> {
         let size = (u32::try_from(width).ok()?, u32::try_from(height).ok()?);
         let depth = u32::try_from(depth).ok()?;
         let big = [false, true].get(usize::try_from(order).ok()?)?;
         let (frame, seen) = (new_frame(size, depth, *big)?, new_frame(size, 1, false)?);
-        let bytes = buffer_size_bpp(size.0 as usize, size.1 as usize, depth as usize);
-        if !(bytes..=LENGTH).contains(&usize::try_from(length).ok()?) {
+        let (height, distance) = (size.1 as usize, usize::try_from(distance).ok()?);
+        let row_bytes = buffer_size_bpp(size.0 as usize, 1, depth as usize);
+        if !(row_bytes..=MOST_DISTANT).contains(&distance) || !(distance * height..=LENGTH).contains(&usize::try_from(length).ok()?) {
             return None;
         }
-        self.0 = Some(Described { frame, seen, size: (size.0 as i32, size.1 as i32), depth });
-        Some(format!("0\t{bytes}"))
+        let spread = Spread { row_bytes, height, distance, bytes: vec![0; LENGTH] };
+        self.0 = Some(Described { frame, seen, size: (size.0 as i32, size.1 as i32), depth, spread });
+        Some(format!("0\t{}", distance * height))
     }
 }
 
@@ -161,7 +190,9 @@ impl Described {
     fn answer(&mut self, question: &Question, figures: &Figures) -> Option<String> {
         match (question.word, question.numbers.as_slice()) {
             ("preset", &[value]) => {
-                self.frame.bytes().fill(u8::try_from(value).ok()?);
+                let value = u8::try_from(value).ok()?;
+                self.frame.bytes().fill(value);
+                self.spread.bytes.fill(value);
                 Some("0".into())
             }
             ("read", &[x, y]) => Some(match self.frame.get(pixel(x, y)?) {
@@ -171,7 +202,7 @@ impl Described {
             }),
             ("dump", &[from, count]) => {
                 let (from, count) = (usize::try_from(from).ok()?, usize::try_from(count).ok()?);
-                let bytes = self.frame.bytes().get(from..from + count)?;
+                let bytes = self.spread.over(self.frame.bytes()).get(from..from + count)?;
                 (count <= MOST_DUMPED).then(|| hexadecimal(bytes))
             }
             ("lit", []) if self.depth == 1 => Some(format!("0\t{}", lit(&*self.frame, self.size))),

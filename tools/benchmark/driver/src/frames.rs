@@ -8,7 +8,7 @@ use crate::{
 use embedded_graphics::{
     framebuffer::Framebuffer,
     geometry::{Dimensions, Point},
-    pixelcolor::raw::{LittleEndian, RawU1, RawU2, RawU4, RawU8},
+    pixelcolor::raw::{LittleEndian, RawData, RawU1, RawU16, RawU2, RawU24, RawU32, RawU4, RawU8},
     primitives::Circle,
 };
 use std::{hint::black_box, ops::Range, slice};
@@ -33,7 +33,7 @@ macro_rules! rust_frame {
 
         impl Rust for $name {
             fn set(&mut self, p: Point, colour: u32) {
-                self.0.set_pixel(p, $raw::new(colour as u8));
+                self.0.set_pixel(p, $raw::new(colour as <$raw as RawData>::Storage));
             }
 
             fn bytes(&self) -> &[u8] {
@@ -47,6 +47,9 @@ rust_frame!(Rust1, RawU1, 1);
 rust_frame!(Rust2, RawU2, 2);
 rust_frame!(Rust4, RawU4, 4);
 rust_frame!(Rust8, RawU8, 8);
+rust_frame!(Rust16, RawU16, 16);
+rust_frame!(Rust24, RawU24, 24);
+rust_frame!(Rust32, RawU32, 32);
 
 pub fn races<'a>() -> Vec<Race<'a>> {
     let mut races = vec![];
@@ -54,6 +57,9 @@ pub fn races<'a>() -> Vec<Race<'a>> {
     at_small_depth(&mut races, 2, || Rust2(Framebuffer::new()));
     at_small_depth(&mut races, 4, || Rust4(Framebuffer::new()));
     at_small_depth(&mut races, 8, || Rust8(Framebuffer::new()));
+    races.push(set_pixel(16, Box::new(Rust16(Framebuffer::new()))));
+    races.push(set_pixel(24, Box::new(Rust24(Framebuffer::new()))));
+    races.push(set_pixel(32, Box::new(Rust32(Framebuffer::new()))));
     races.push(walk_alone());
     for (depth, goal) in [(16, 3.0), (32, 3.0), (24, 6.0)] {
         races.push(triangle_against_memset(depth, goal));

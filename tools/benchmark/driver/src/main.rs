@@ -10,8 +10,8 @@ mod race;
 
 use std::{env, process::ExitCode, thread};
 
-/// Frames of the Rust are arrays of up to 4 MiB and pass through the stack.
-const STACK: usize = 64 << 20;
+/// Frames of the Rust are arrays of up to 16 MiB and pass through the stack.
+const STACK: usize = 256 << 20;
 
 fn main() -> ExitCode {
     let Some(runs) = env::args().nth(1).and_then(|word| word.parse().ok()) else {

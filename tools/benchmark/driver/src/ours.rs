@@ -43,24 +43,24 @@ extern "C" {
     fn beamacorn_triangle_row_span(x1: i32, y1: i32, x2: i32, y2: i32, x3: i32, y3: i32, y: i32) -> Span;
     fn beamacorn_circle_row_span(left: i32, top: i32, diameter: u32, y: i32) -> Span;
 
-    fn beamacorn_set_pixel(buf: *mut u8, len: usize, width: u32, height: u32, depth: u32, order: u32,
+    fn beamacorn_set_pixel(buf: *mut u8, len: usize, width: u32, height: u32, depth: u32, order: u32, distance: u32,
         x: i32, y: i32, colour: u32) -> Placed;
-    fn beamacorn_lit(buf: *const u8, len: usize, width: u32, height: u32, depth: u32, order: u32) -> Lights;
-    fn beamacorn_fill(buf: *mut u8, len: usize, width: u32, height: u32, depth: u32, order: u32,
+    fn beamacorn_lit(buf: *const u8, len: usize, width: u32, height: u32, depth: u32, order: u32, distance: u32) -> Lights;
+    fn beamacorn_fill(buf: *mut u8, len: usize, width: u32, height: u32, depth: u32, order: u32, distance: u32,
         colour: u32) -> Drawn;
-    fn beamacorn_draw_line(buf: *mut u8, len: usize, width: u32, height: u32, depth: u32, order: u32,
+    fn beamacorn_draw_line(buf: *mut u8, len: usize, width: u32, height: u32, depth: u32, order: u32, distance: u32,
         x1: i32, y1: i32, x2: i32, y2: i32, colour: u32) -> Drawn;
-    fn beamacorn_draw_connected_line(buf: *mut u8, len: usize, width: u32, height: u32, depth: u32, order: u32,
+    fn beamacorn_draw_connected_line(buf: *mut u8, len: usize, width: u32, height: u32, depth: u32, order: u32, distance: u32,
         x1: i32, y1: i32, x2: i32, y2: i32, colour: u32) -> Drawn;
-    fn beamacorn_draw_triangle(buf: *mut u8, len: usize, width: u32, height: u32, depth: u32, order: u32,
+    fn beamacorn_draw_triangle(buf: *mut u8, len: usize, width: u32, height: u32, depth: u32, order: u32, distance: u32,
         x1: i32, y1: i32, x2: i32, y2: i32, x3: i32, y3: i32, colour: u32) -> Drawn;
-    fn beamacorn_draw_circle(buf: *mut u8, len: usize, width: u32, height: u32, depth: u32, order: u32,
+    fn beamacorn_draw_circle(buf: *mut u8, len: usize, width: u32, height: u32, depth: u32, order: u32, distance: u32,
         left: i32, top: i32, diameter: u32, colour: u32) -> Drawn;
 
-    fn beamacorn_image_size(width: u32, height: u32, depth: u32) -> Size;
-    fn beamacorn_write_image(buf: *const u8, len: usize, width: u32, height: u32, depth: u32, order: u32,
+    fn beamacorn_image_size(width: u32, height: u32, depth: u32, distance: u32) -> Size;
+    fn beamacorn_write_image(buf: *const u8, len: usize, width: u32, height: u32, depth: u32, order: u32, distance: u32,
         out: *mut u8, out_len: usize) -> Size;
-    fn beamacorn_read_image(buf: *mut u8, len: usize, width: u32, height: u32, depth: u32, order: u32,
+    fn beamacorn_read_image(buf: *mut u8, len: usize, width: u32, height: u32, depth: u32, order: u32, distance: u32,
         file: *const u8, file_len: usize) -> u32;
 }
 
@@ -82,23 +82,25 @@ pub fn circle_row_span((left, top): Place, diameter: u32, y: i32) -> (i32, i32) 
 
 /// How many bytes the frame's image file has.
 pub fn image_size(width: u32, height: u32, depth: u32) -> usize {
-    accepted(unsafe { beamacorn_image_size(width, height, depth) })
+    accepted(unsafe { beamacorn_image_size(width, height, depth, distance(width, depth)) })
 }
 
 /// Writes it, and says the same.
 pub fn write_image(buf: &[u8], width: u32, height: u32, depth: u32, order: u32, out: &mut [u8]) -> usize {
-    accepted(unsafe { beamacorn_write_image(buf.as_ptr(), buf.len(), width, height, depth, order, out.as_mut_ptr(), out.len()) })
+    let distance = distance(width, depth);
+    accepted(unsafe { beamacorn_write_image(buf.as_ptr(), buf.len(), width, height, depth, order, distance, out.as_mut_ptr(), out.len()) })
 }
 
 /// Reads the file into the frame.
 pub fn read_image(buf: &mut [u8], width: u32, height: u32, depth: u32, order: u32, file: &[u8]) {
-    let number = unsafe { beamacorn_read_image(buf.as_mut_ptr(), buf.len(), width, height, depth, order, file.as_ptr(), file.len()) };
+    let distance = distance(width, depth);
+    let number = unsafe { beamacorn_read_image(buf.as_mut_ptr(), buf.len(), width, height, depth, order, distance, file.as_ptr(), file.len()) };
     assert_eq!(number, 0, "our library refused");
 }
 
 /// How many pixels of a one-bit frame are lit.
 pub fn lit(buf: &[u8], width: u32, height: u32) -> u32 {
-    let lights = unsafe { beamacorn_lit(buf.as_ptr(), buf.len(), width, height, 1, 0) };
+    let lights = unsafe { beamacorn_lit(buf.as_ptr(), buf.len(), width, height, 1, 0, distance(width, 1)) };
     assert_eq!(lights.number, 0, "our library refused");
     lights.count
 }
@@ -108,19 +110,20 @@ fn accepted(size: Size) -> usize {
     size.bytes as usize
 }
 
-/// A frame of our own over its bytes, little end first.
+/// A frame of our own over its bytes, little end first and without a gap between its rows.
 pub struct Frame {
     pub bytes: Vec<u8>,
     width: u32,
     height: u32,
     depth: u32,
+    distance: u32,
 }
 
 /// Calls a function of the library on a frame; it must not refuse.
 macro_rules! call {
     ($function:ident($frame:expr $(, $argument:expr)*)) => {{
-        let Frame { bytes, width, height, depth } = $frame;
-        let drawn = unsafe { $function(bytes.as_mut_ptr(), bytes.len(), *width, *height, *depth, 0 $(, $argument)*) };
+        let Frame { bytes, width, height, depth, distance } = $frame;
+        let drawn = unsafe { $function(bytes.as_mut_ptr(), bytes.len(), *width, *height, *depth, 0, *distance $(, $argument)*) };
         assert_eq!(drawn.number, 0, "our library refused");
     }};
 }
@@ -128,7 +131,7 @@ macro_rules! call {
 impl Frame {
     pub fn new(width: u32, height: u32, depth: u32) -> Self {
         let bytes = vec![0; row_bytes(width, depth) * height as usize];
-        Frame { bytes, width, height, depth }
+        Frame { bytes, width, height, depth, distance: distance(width, depth) }
     }
 
     pub fn set_pixel(&mut self, (x, y): Place, colour: u32) {
@@ -157,5 +160,10 @@ impl Frame {
 }
 
 pub fn row_bytes(width: u32, depth: u32) -> usize {
-    (width * depth).div_ceil(8) as usize
+    distance(width, depth) as usize
+}
+
+/// From a row to the next where there is no gap.
+fn distance(width: u32, depth: u32) -> u32 {
+    (width * depth).div_ceil(8)
 }

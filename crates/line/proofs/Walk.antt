@@ -22,7 +22,7 @@ use Rattle.line.specs.declared.Course.{Course}
 use Rattle.line.specs.declared.Walker.{Walker}
 use Rattle.line.specs.Line.{toward, wide, high, steep, major, minor, moves, xMoves, yMoves, pointAt}
 use Rattle.line.specs.Walk.{CourseOf, standing, Stands, isDue, DueAt, WalkerAt}
-use Rattle.line.proofs.Moves.{moves-is}
+use Rattle.line.proofs.Moves.{Band, moves-is, moves-band, moves-few}
 use Rattle.line.proofs.Lengths.{narrow, major-by, minor-by, major-size, minor-size, toward-size}
 
 -- ---- the parameters of a line, by its major axis
@@ -74,6 +74,9 @@ module _ {s e : Point} {c : Course} (h : CourseOf s e c) where
 
     pub up-of : Has w32 (c .up) (pos (2 * minor s e)) 524288
     up-of = record { is = h .up; size = omega (arith, minor-size start end); room = omega arith }
+
+    pub down-of : Has w32 (c .down) (pos (2 * major s e)) 524288
+    down-of = record { is = h .down; size = omega (arith, major-size start end); room = omega arith }
 
     pub threshold-read : Has w32 (toZ w32 (ofZ w32 (c .threshold))) (c .threshold) 262144
     threshold-read = read-as (h .threshold) (major-size start end) tt
@@ -262,6 +265,36 @@ module _ {s e : Point} {k : ℕ} {w : Walker} where
   -- after the major move
   pub advanced : {r : Walker} (at : WalkerAt s e k w) → Stands s e (k + 1) (at .m) r → DueAt s e (k + 1) r
   advanced at st = record { m = at .m; stands = st; due = then-due (major s e) (minor s e) k (at .m) (at .near) }
+
+-- a walker made at a step: where the rule's moves lead, with their error, it is the one that walked there
+module _ {s e : Point} {k : ℕ} (start : Bounded s) (end : Bounded e) (walked : k ≤ major s e) where
+  abbrev m : ℕ
+  m = moves (major s e) (minor s e) k
+
+  band : Band (major s e) (minor s e) k m
+  band = moves-band (major s e) (minor s e) k (narrow s e) walked
+
+  pub error-near : natAbs (pos (2 * minor s e) *ℤ pos k -ℤ pos (2 * major s e) *ℤ pos m) ≤ 262144
+  error-near =
+      minus-within (2 * minor s e * k) (2 * major s e * m) 262144 (omega (arith, band .high, major-size start end)) (omega (arith, band .low, major-size start end))
+
+  pub stands-at : {w : Walker} → CourseOf s e (w .course) → (w .x, w .y) ≡ standing s e k m → w .error ≡ pos (2 * minor s e) *ℤ pos k -ℤ pos (2 * major s e) *ℤ pos m
+      → WalkerAt s e k w
+  stands-at course place error =
+      record {
+        m = m;
+        stands = record {
+          start = start;
+          end = end;
+          course = course;
+          x = ap (λ (p : Point). p .0) place ∙ sym (course-x course k m);
+          y = ap (λ (p : Point). p .1) place ∙ sym (course-y course k m);
+          error = error;
+          few = moves-few (major s e) (minor s e) k (narrow s e);
+          low = band .low;
+        };
+        near = band .high;
+      }
 
 -- a walker that has not moved
 pub begins : (s e : Point) (w : Walker) → Bounded s → Bounded e → CourseOf s e (w .course) → w .x ≡ s .0 → w .y ≡ s .1 → w .error ≡ pos 0 → WalkerAt s e 0 w

@@ -34,6 +34,14 @@ pub record Reachable (a major along minor across : ℤ) : Type 0 where
   pub many : natAbs along ≤ 262144
   pub few : natAbs across ≤ 262144
 
+-- changes of the error with k major and m minor moves that take it to at most 262,144 from 0
+pub record Near (up down : ℤ) (k m : ℕ) : Type 0 where
+  pub rise : natAbs up ≤ 524288
+  pub fall : natAbs down ≤ 524288
+  pub many : k ≤ 262144
+  pub few : m ≤ 262144
+  pub near : natAbs (up *ℤ pos k -ℤ down *ℤ pos m) ≤ 262144
+
 -- the place so many moves along x and along y from s towards e
 abbrev pub placeAt : Point → Point → ℕ → ℕ → Point
 placeAt s e x y = (s .0 +ℤ toward (s .0) (e .0) *ℤ pos x, s .1 +ℤ toward (s .1) (e .1) *ℤ pos y)

@@ -9,7 +9,7 @@ ghost use Rattle.geometry.specs.declared.Point.{Point as Place};
 ghost use Rattle.geometry.specs.Bound.{Coord, Bounded};
 ghost use Rattle.geometry.specs.Answer.{verdict};
 ghost use Rattle.line.specs.Line.{toward, moves, major, minor, points, pointAt, onLine, hasPoint};
-ghost use Rattle.line.specs.Walk.{CourseOf, SomeCourse, Reachable, standing, isDue, Stands, Moving, Walking, DueAt, WalkerAt};
+ghost use Rattle.line.specs.Walk.{CourseOf, SomeCourse, Reachable, Near, standing, isDue, Stands, Moving, Walking, DueAt, WalkerAt};
 ghost use Rattle.line.specs.Answer.{endTests, stepTests, lengthAnswer, stepAnswer};
 use geometry::Point;
 use geometry::Verdict;
@@ -137,6 +137,23 @@ impl Walker {
         }
     }
 
+    // Inside the library: the walker that stands at the point of step k, without walking there.
+    pub fn at(start: Point, end: Point, k: u32) -> Self
+        requires { ⌜ (Bounded start × Bounded end) × (k ≤ major start end) ⌝ }
+        ensures { λ r. ⌜ WalkerAt start end k r ⌝ }
+    {
+        let c = course_of(start, end);
+        let m = moves_at(c.threshold as u32, c.up as u32, k);
+        let p = place_after(start, c, k, m);
+        let error = error_after(c.up, c.down, k, m);
+        Walker {
+            x: p.0,
+            y: p.1,
+            error: error,
+            course: c,
+        }
+    }
+
     // Inside the library: whether the walker's minor move is due.
     pub fn is_due(self) -> bool
         requires { ⌜ Moving self ⌝ }
@@ -225,14 +242,21 @@ pub fn place_after(start: Point, c: Course, k: u32, m: u32) -> Point
     Point(x, y)
 }
 
+// The error after k major and m minor moves. The products pass 32 bits, and their difference does not.
+fn error_after(up: i32, down: i32, k: u32, m: u32) -> i32
+    requires { ⌜ Near up down k m ⌝ }
+    ensures { λ r. ⌜ r ≡ up *ℤ pos k -ℤ down *ℤ pos m ⌝ }
+{
+    (up as i64 * k as i64 - down as i64 * m as i64) as i32
+}
+
 // The point at a step, without walking there.
 fn point_at(start: Point, end: Point, step: u32) -> Point
     requires { ⌜ (Bounded start × Bounded end) × (step ≤ major start end) ⌝ }
     ensures { λ r. ⌜ r ≡ pointAt start end step ⌝ }
 {
-    let c = course_of(start, end);
-    let m = moves_at(c.threshold as u32, c.up as u32, step);
-    place_after(start, c, step, m)
+    let w = Walker::at(start, end, step);
+    Point(w.x, w.y)
 }
 
 // Inside the library: 5 where a line end is out of bounds, else 0.

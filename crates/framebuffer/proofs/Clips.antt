@@ -27,12 +27,12 @@ use Rattle.framebuffer.proofs.Windows.{between-pos, between-in, window-
 
 -- ---- the nearest number of low to high
 -- below, above, and between
-data Nearest (x : ℤ) (low high : ℕ) (r : ℕ) : Type 0 where
+pub data Nearest (x : ℤ) (low high : ℕ) (r : ℕ) : Type 0 where
   under : ltZ x (pos low) ≡ true → r ≡ low → Nearest x low high r
   over : ltZ (pos high) x ≡ true → r ≡ high → Nearest x low high r
   within : x ≡ pos r → low ≤ r → r ≤ high → Nearest x low high r
 
-nearest : (x : ℤ) (low high : ℕ) → Nearest x low high (clipped x low high)
+pub nearest : (x : ℤ) (low high : ℕ) → Nearest x low high (clipped x low high)
 nearest (negsuc a) low high = under refl refl
 nearest (pos a) low high = go (lt-or-ge a low) (lt-or-ge high a)
   where
@@ -54,7 +54,7 @@ clip-bounds x low high h = go (clipped x low high) (nearest x low high)
 
 -- a column of low to high is on the same side of both
 module _ (x : ℤ) (low high u : ℕ) (h : low ≤ u) (k : u < high) where
-  from-le : (r : ℕ) → Nearest x low high r → (leZ x (pos u) ≡ true → r ≤ u) × (r ≤ u → leZ x (pos u) ≡ true)
+  pub from-le : (r : ℕ) → Nearest x low high r → (leZ x (pos u) ≡ true → r ≤ u) × (r ≤ u → leZ x (pos u) ≡ true)
   from-le r (under l e) = (λ q. omega arith, λ q. less x l)
     where
       less : (x : ℤ) → ltZ x (pos low) ≡ true → leZ x (pos u) ≡ true
@@ -70,7 +70,7 @@ module _ (x : ℤ) (low high u : ℕ) (h : low ≤ u) (k : u < high) where
       no′ q = omega arith
   from-le r (within e l m) = (λ q. leb-true r u (ap (λ (z : ℤ). leZ z (pos u)) (sym e) ∙ q), λ q. ap (λ (z : ℤ). leZ z (pos u)) e ∙ le-leb r u q)
 
-  past-gt : (r : ℕ) → Nearest x low high r → (ltZ (pos u) x ≡ true → u < r) × (u < r → ltZ (pos u) x ≡ true)
+  pub past-gt : (r : ℕ) → Nearest x low high r → (ltZ (pos u) x ≡ true → u < r) × (u < r → ltZ (pos u) x ≡ true)
   past-gt r (under l e) = (λ q. absurd (no x l q), λ q. absurd (no′ q))
     where
       no : (x : ℤ) → ltZ x (pos low) ≡ true → ltZ (pos u) x ≡ true → ⊥

@@ -4,3 +4,4 @@ pub mod Edges
 pub mod Clips
 pub mod Calls
 pub mod Determined
+pub mod Interval

@@ -2,4 +2,5 @@ pub mod Answer
 pub mod Window
 pub mod Description
 pub mod Judged
+pub mod Interval
 pub mod Drawing

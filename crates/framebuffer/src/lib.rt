@@ -7,6 +7,7 @@ ghost use lib.IntN.{pos};
 ghost use lib.ListN.{length};
 ghost use Rattle.whole.specs.Interval.{between};
 ghost use Rattle.refusals.specs.First.{first};
+ghost use Rattle.geometry.specs.Bound.{Coord};
 ghost use Rattle.layout.specs.Figure.{single, spanFigure, everywhere};
 ghost use Rattle.layout.specs.Layout.{putPixel, getPixel, painted};
 ghost use Rattle.layout.specs.Packed.{goodDepth};
@@ -15,6 +16,7 @@ ghost use Rattle.framebuffer.specs.Window.{inWindow, heldBy, wholeWindow
 ghost use Rattle.framebuffer.specs.Description.{described, packedDistance, packed, raster, noDistance, size, descriptionTests, frameTests, drawTests, readTests, colourAt};
 ghost use Rattle.framebuffer.specs.Judged.{Described, Accepted, Drawable, Within, Ready, wholeBrush, brushed};
 ghost use Rattle.framebuffer.specs.Drawing.{fillDrawing, outcome, pixelOutcome};
+ghost use Rattle.framebuffer.specs.Interval.{Held};
 
 // A frame as its owner describes it; `distance` is the number of bytes from a row to the next. It is made by Frame::new and Frame::packed and by nothing
 // else outside this crate.
@@ -60,6 +62,12 @@ pub struct Window {
     pub top: u32,
     pub right: u32,
     pub bottom: u32,
+}
+
+// Inside the library: steps of a walk, from `from` to one before `past`.
+pub struct Steps {
+    pub from: u32,
+    pub past: u32,
 }
 
 // Inside the library: what painters are given beside the bytes: a frame that was accepted, the rectangle of it that they stay within, and a colour of it.
@@ -334,6 +342,42 @@ pub fn pixel(buf: &[u8], frame: Frame, p: geometry::Point) -> Read
     }
 }
 
+// ---- what a rectangle holds
+
+// The nearest number of low to high.
+fn clip(x: i32, low: u32, high: u32) -> u32
+    requires { ⌜ (low ≤ high) × (high ≤ 262144) ⌝ }
+    ensures { λ r. ⌜ r ≡ clipped x low high ⌝ }
+{
+    if x < low as i32 {
+        return low;
+    }
+    if x > high as i32 {
+        return high;
+    }
+    x as u32
+}
+
+// Inside the library: of the steps below count, each of which takes a coordinate one place on from a, upwards if it grows, those that take it to a place from low
+// to one before high.
+pub fn held(a: i32, grows: bool, low: u32, high: u32, count: u32) -> Steps
+    requires { ⌜ Coord a × (low ≤ 2048) × (high ≤ 2048) × (count ≤ 262144) ⌝ }
+    ensures { λ r. ⌜ Held a grows low high count r ⌝ }
+{
+    let to_low = low as i32 - a;
+    let to_high = high as i32 - a;
+    if grows {
+        return Steps {
+            from: clip(to_low, 0, count),
+            past: clip(to_high, 0, count),
+        };
+    }
+    Steps {
+        from: clip(1 - to_high, 0, count),
+        past: clip(1 - to_low, 0, count),
+    }
+}
+
 // ---- spans
 
 // Columns of row y at depths 1, 2 and 4: the rest of the first byte, whole bytes, and the start of the last.
@@ -370,20 +414,6 @@ fn paint_columns(buf: &mut [u8], frame: Frame, y: u32, from: u32, past: u32, col
     let start = byte_of(frame, from, y);
     let end = byte_of(frame, past, y);
     packing::fill_part(&mut buf[start..end], frame.depth, frame.big, colour);
-}
-
-// The nearest number of low to high.
-fn clip(x: i32, low: u32, high: u32) -> u32
-    requires { ⌜ (low ≤ high) × (high ≤ 2048) ⌝ }
-    ensures { λ r. ⌜ r ≡ clipped x low high ⌝ }
-{
-    if x < low as i32 {
-        return low;
-    }
-    if x > high as i32 {
-        return high;
-    }
-    x as u32
 }
 
 // Inside the library: row y's columns from `start` to one before `end` get the colour, as far as the rectangle holds them; and how many these are.

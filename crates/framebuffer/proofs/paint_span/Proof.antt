@@ -46,10 +46,10 @@ inner : (c : tie.Else1) → (let a = c .before .before .before .before .args in 
 inner c = row (c .before) ∙ not-false _ (c .if1 .left)
 
 clip-requires : tie.Need-clip-requires
-clip-requires c κs = let h = small (c .before .before .before .before) in (h .0, h .1)
+clip-requires c κs = let h = small (c .before .before .before .before) in (h .0, omega (arith, h .1))
 
 clip-requires-2 : tie.Need-clip-requires-2
-clip-requires-2 c κs = let h = small (c .before .before .before .before .before) in (h .0, h .1)
+clip-requires-2 c κs = let h = small (c .before .before .before .before .before) in (h .0, omega (arith, h .1))
 
 -- the columns that are left
 from : (c : tie.After-clip) → (let a = c .before .before .before .before .before .args in c .clip .result ≡ clipped (a .start) (a .brush .window .left) (a .brush .window .right))

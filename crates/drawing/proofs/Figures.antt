@@ -2,12 +2,14 @@
 use mathlib.Core.Path.{_≡_, refl, sym, ap, ap₂, _∙_}
 use mathlib.Core.Bool.{Bool, true, false, not, _&&_, _||_}
 use mathlib.Core.List.{List}
+use mathlib.Core.Logic.{⊎-elim}
 use Prim.Native.Nat.{ℕ, zero, suc, _+_, _*_, _≤_, _<_}
 use native.Mathlib.Nat.{mul-le-mul}
 use native.Mathlib.Numerals.{add-one}
 use native.Mathlib.Omega.{arith}
 use lib.IntN.{ℤ, pos}
 use Rattle.whole.proofs.Decides.{decides-no}
+use Rattle.whole.proofs.Tests.{lt-or-ge}
 use Rattle.geometry.specs.declared.Point.{Point}
 use Rattle.geometry.specs.Place.{samePlace}
 use Rattle.geometry.proofs.Place.{same-decides}
@@ -19,6 +21,7 @@ use Rattle.layout.proofs.Placing.{Placing, Everywhere}
 use Rattle.layout.proofs.Painted.{painted-cong, painted-none, painted-painted}
 use Rattle.layout.proofs.Pixels.{pixels-cong, pixels-none, pixels-le, pixels-add, marked-then}
 use Rattle.framebuffer.specs.declared.Brush.{Brush}
+use Rattle.framebuffer.specs.declared.Window.{Window}
 use Rattle.framebuffer.specs.Description.{raster}
 use Rattle.framebuffer.specs.Judged.{Ready, brushed}
 use Rattle.framebuffer.specs.Window.{inWindow, heldBy}
@@ -83,6 +86,23 @@ connected-walked s e = refl
 none-leads : (path : ℕ → Point) (p : Point) (k : ℕ) → ((j : ℕ) → j < k → p ≡ path j → ⊥) → someStep path p k ≡ false
 none-leads path p zero h = refl
 none-leads path p (suc k) h = λ i. decides-no (same-decides p (path k)) (h k (omega arith)) i || none-leads path p k (λ j l. h j (omega arith)) i
+
+-- at one place: the steps from j to n all lead out of the rectangle
+module _ (q : Window) (path : ℕ → Point) (x y : ℤ) where
+  skip-one : (n : ℕ) (t : Bool) → inWindow q (path n .0) (path n .1) ≡ false → (inWindow q x y && t) ≡ (inWindow q x y && (samePlace (x, y) (path n) || t))
+  skip-one n t out = by (samePlace (x, y) (path n)) (same-decides (x, y) (path n) .yes)
+    where
+      by : (m : Bool) → (m ≡ true → (x, y) ≡ path n) → (inWindow q x y && t) ≡ (inWindow q x y && (m || t))
+      by true h =
+          let off : inWindow q x y ≡ false = ap (λ (p : Point). inWindow q (p .0) (p .1)) (h refl) ∙ out in
+          ap (λ (w : Bool). w && t) off ∙ sym (ap (λ (w : Bool). w && true) off)
+      by false h = refl
+
+  walked-skip : (n j : ℕ) → j ≤ n → ((i : ℕ) → j ≤ i → i < n → inWindow q (path i .0) (path i .1) ≡ false) → heldBy q (walked path j) x y ≡ heldBy q (walked path n) x y
+  walked-skip zero j l out = let z : j ≡ 0 = omega arith in ap (λ (k : ℕ). heldBy q (walked path k) x y) z
+  walked-skip (suc n) j l out =
+      ⊎-elim (λ h. let z : j ≡ suc n = omega arith in ap (λ (k : ℕ). heldBy q (walked path k) x y) z)
+      (λ h. walked-skip n j h (λ i a b. out i a (omega arith)) ∙ skip-one n (walked path n x y) (out n h (omega arith))) (lt-or-ge n j)
 
 module _ (q : Brush) (P : Placing (raster (q .frame))) (b : List ℕ) where
   -- one figure, then another
@@ -226,6 +246,25 @@ module _ {q : Brush} {len : ℕ} (R : Ready q len) (before : ℤ → ℤ → Boo
             ∙ new-more R before path b k apart;
         bytes = put ∙ ap₂ (λ (p : Point) (b : List ℕ). brushed q (single (p .0) (p .1)) b .1) here (a .bytes) ∙ walked-more q (brush-sound R) b path k;
       }
+
+  -- steps that lead out of the rectangle add nothing, and need not be walked
+  pub along-skip : {j seen : ℕ} {now : List ℕ} → Along q before path b j seen now → (n : ℕ) → j ≤ n → ((i : ℕ) → j ≤ i → i < n → inWindow (q .window) (path i .0) (path i .1) ≡ false)
+      → Along q before path b n seen now
+  along-skip {j} a n l out =
+      record {
+        count =
+            a .count
+            ∙ pixels-cong (raster (q .frame)) _ _ (λ x y hx hy.
+            within-new (inWindow (q .window) (pos x) (pos y)) (walked path j (pos x) (pos y)) (walked path n (pos x) (pos y)) (not (before (pos x) (pos y))) (same x y));
+        bytes = a .bytes ∙ painted-cong (raster (q .frame)) (brush-sound R) (q .colour) b _ _ (λ x y hx hy. same x y);
+      }
+    where
+      within-new : (w s t u : Bool) → (w && s) ≡ (w && t) → (w && (s && u)) ≡ (w && (t && u))
+      within-new true s t u e = ap (λ (v : Bool). v && u) e
+      within-new false s t u e = refl
+
+      same : (x y : ℕ) → heldBy (q .window) (walked path j) (pos x) (pos y) ≡ heldBy (q .window) (walked path n) (pos x) (pos y)
+      same x y = walked-skip (q .window) path (pos x) (pos y) n j l out
 
   -- after all its turns: the figure that the walk is
   pub along-end : {k n seen : ℕ} {now : List ℕ} {figure : ℤ → ℤ → Bool} → Along q before path b k seen now → k ≡ n → walked path n ≡ figure

@@ -1,4 +1,5 @@
 pub mod Figures
+pub mod Clipped
 pub mod Rows
 pub mod Fill
 pub mod Circles

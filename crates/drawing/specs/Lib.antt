@@ -1,3 +1,4 @@
 pub mod Figure
+pub mod Clipped
 pub mod Earlier
 pub mod Drawing

@@ -3,6 +3,7 @@
 ghost use mathlib.Core.Path.{_≡_};
 ghost use mathlib.Core.Bool.{not, _&&_};
 ghost use mathlib.Core.List.{_++_};
+ghost use Prim.Native.Nat.{_≤_};
 ghost use lib.ListN.{length};
 ghost use Rattle.refusals.specs.First.{first};
 ghost use Rattle.layout.specs.Count.{oneIf};
@@ -14,12 +15,15 @@ ghost use Rattle.framebuffer.specs.Description.{drawTests};
 ghost use Rattle.framebuffer.specs.Drawing.{outcome};
 ghost use Rattle.framebuffer.specs.Judged.{Ready, brushed};
 ghost use Rattle.framebuffer.specs.Window.{wholeWindow};
+ghost use Rattle.drawing.specs.Clipped.{LineSteps};
 ghost use Rattle.drawing.specs.Earlier.{Ends, earlierFigure, newIn};
 ghost use Rattle.drawing.specs.Figure.{lineFigure, connectedFigure, outlineFigure, triangleFigure, circleFigure};
 ghost use Rattle.drawing.specs.Drawing.{lineDrawing, connectedDrawing, outlineDrawing, triangleDrawing, circleDrawing};
 use framebuffer::Brush;
 use framebuffer::Drawn;
 use framebuffer::Frame;
+use framebuffer::Steps;
+use framebuffer::Window;
 use geometry::Point;
 
 // The edges of an outline that are drawn already: the first `edges` of the lines a to b and b to c.
@@ -63,17 +67,39 @@ impl Earlier {
     }
 }
 
+// The steps of an accepted line on which its major coordinate is one of the rectangle's. No other step leads into the rectangle, so that a line is walked from the
+// first of them to the last, however long it is.
+fn line_steps(window: Window, start: Point, end: Point) -> Steps
+    requires { ⌜ ((window .left ≤ window .right) × (window .right ≤ 2048) × (window .top ≤ window .bottom) × (window .bottom ≤ 2048)) × (Bounded start × Bounded end) ⌝ }
+    ensures { λ r. ⌜ LineSteps window start end r ⌝ }
+{
+    let x0 = start.0;
+    let y0 = start.1;
+    let x1 = end.0;
+    let y1 = end.1;
+    let wide = line::distance(x0, x1);
+    let high = line::distance(y0, y1);
+    if wide <= high {
+        return framebuffer::held(y0, y0 <= y1, window.top, window.bottom, high as u32 + 1);
+    }
+    framebuffer::held(x0, x0 <= x1, window.left, window.right, wide as u32 + 1)
+}
+
 // The points of an accepted line, as far as the rectangle holds them; and how many of these are on no earlier edge.
 fn draw_edge(buf: &mut [u8], brush: Brush, earlier: Earlier, start: Point, end: Point) -> u32
     requires { ⌜ Ready brush (length (now buf)) × Ends earlier × (Bounded start × Bounded end) ⌝ }
     ensures { λ r. ⌜ (r ≡ brushed brush (newIn (earlierFigure earlier) (lineFigure start end)) (now (buf .entry)) .0)
         × (now (buf .exit) ≡ brushed brush (lineFigure start end) (now (buf .entry)) .1) ⌝ }
 {
-    let mut walker = line::Walker::new(start, end);
-    let count = line::last_step(start, end) + 1;
+    let steps = line_steps(brush.window, start, end);
+    let past = steps.past;
+    let mut k = steps.from;
+    if past <= k {
+        return 0;
+    }
+    let mut walker = line::Walker::at(start, end, k);
     let mut seen = 0u32;
-    let mut k = 0u32;
-    while k < count {
+    while k < past {
         let stepped = walker.step();
         let inside = framebuffer::put_point(buf, brush, stepped.point);
         seen += earlier.adds(inside, stepped.point);

@@ -15,7 +15,7 @@ use Rattle.layout.proofs.Pixels.{marked-cong, marked-none}
 use Rattle.framebuffer.specs.declared.Brush.{Brush}
 use Rattle.framebuffer.specs.Description.{raster}
 use Rattle.framebuffer.specs.Judged.{brushed}
-use Rattle.framebuffer.specs.Window.{inWindow}
+use Rattle.framebuffer.specs.Window.{inWindow, heldBy}
 use Rattle.drawing.proofs.Figures.{within-both, brushed-more}
 
 -- the figure's rows above y
@@ -42,7 +42,7 @@ row-place v y f s on off = by (ltZ v y) (eqZ v y) refl refl
         let less : ltZ v (y +ℤ pos 1) ≡ false = decides-no (decides-lt v (y +ℤ pos 1)) (λ l. decides-eq v y .no he (le-antisym (more-lt-le l) (lt-no hl))) in
         (λ i. (hl i && f) || off he i) ∙ sym (ap (λ (t : Bool). t && f) less)
 
-span-off : (a b : Bool) → b ≡ false → (a && b) ≡ false
+pub span-off : (a b : Bool) → b ≡ false → (a && b) ≡ false
 span-off true b e = e
 span-off false b e = refl
 
@@ -58,14 +58,15 @@ apart true true true f s h = absurd (h refl refl)
 apart true true false f s h = span-off f (s && false) (span-off s false refl)
 
 module _ (q : Brush) (P : Placing (raster (q .frame))) (b : List ℕ) (figure : ℤ → ℤ → Bool) where
-  -- no row of the figure is above y
-  pub rows-start : (y : ℤ) → ((u v : ℕ) → pos v <ℤ y → figure (pos u) (pos v) ≡ false) → brushed q (above figure y) b ≡ (0, b)
-  rows-start y none = marked-none (raster (q .frame)) P (q .colour) b _ (λ u v hu hv. by (inWindow (q .window) (pos u) (pos v)) (ltZ (pos v) y) (λ l. none u v (lt-yes l)))
+  -- the rectangle holds no row of the figure above y
+  pub rows-start : (y : ℤ) → ((u v : ℕ) → pos v <ℤ y → heldBy (q .window) figure (pos u) (pos v) ≡ false) → brushed q (above figure y) b ≡ (0, b)
+  rows-start y none =
+      marked-none (raster (q .frame)) P (q .colour) b _
+      (λ u v hu hv. by (inWindow (q .window) (pos u) (pos v)) (ltZ (pos v) y) (figure (pos u) (pos v)) (λ l. none u v (lt-yes l)))
     where
-      by : (p l : Bool) {f : Bool} → (l ≡ true → f ≡ false) → (p && (l && f)) ≡ false
-      by true true h = h refl
-      by true false h = refl
-      by false l h = refl
+      by : (p l f : Bool) → (l ≡ true → (p && f) ≡ false) → (p && (l && f)) ≡ false
+      by p true f h = h refl
+      by p false f h = span-off p false refl
 
   -- the span of row y has the figure's columns: one row more is painted, and its pixels are counted
   pub rows-turn : (y start end : ℤ) {m n : ℕ} {now next : List ℕ}
@@ -82,12 +83,12 @@ module _ (q : Brush) (P : Placing (raster (q .frame))) (b : List ℕ) (figure : 
       (λ e. span-on (leZ start (pos u) && ltZ (pos u) end) (eqZ (pos v) y) e ∙ same u v hu hv (decides-eq (pos v) y .yes e))
       (λ e. span-off (leZ start (pos u) && ltZ (pos u) end) (eqZ (pos v) y) e)))
 
-  -- no row of the figure is at y or below
-  pub rows-end : (y : ℤ) → ((u v : ℕ) → y ≤ℤ pos v → figure (pos u) (pos v) ≡ false) → brushed q (above figure y) b ≡ brushed q figure b
+  -- nor one at y or below
+  pub rows-end : (y : ℤ) → ((u v : ℕ) → y ≤ℤ pos v → heldBy (q .window) figure (pos u) (pos v) ≡ false) → brushed q (above figure y) b ≡ brushed q figure b
   rows-end y none =
       marked-cong (raster (q .frame)) P (q .colour) b _ _
-      (λ u v hu hv. ap (λ (t : Bool). inWindow (q .window) (pos u) (pos v) && t) (by (ltZ (pos v) y) (λ l. none u v (lt-no l))))
+      (λ u v hu hv. by (inWindow (q .window) (pos u) (pos v)) (ltZ (pos v) y) (figure (pos u) (pos v)) (λ l. none u v (lt-no l)))
     where
-      by : (l : Bool) {f : Bool} → (l ≡ false → f ≡ false) → (l && f) ≡ f
-      by true h = refl
-      by false h = sym (h refl)
+      by : (p l f : Bool) → (l ≡ false → (p && f) ≡ false) → (p && (l && f)) ≡ (p && f)
+      by p true f h = refl
+      by p false f h = span-off p false refl ∙ sym (h refl)

@@ -245,15 +245,18 @@ pub fn draw_outline(
     }
 }
 
-// The rows of an accepted circle, as far as the rectangle holds them; and how many pixels these have.
+// The rows of an accepted circle that the rectangle has, as far as it holds them; and how many pixels these have.
 fn fill_circle(buf: &mut [u8], brush: Brush, topleft: Point, diameter: u32) -> u32
     requires { ⌜ Ready brush (length (now buf)) × Fits topleft diameter ⌝ }
     ensures { λ r. ⌜ (r, now (buf .exit)) ≡ brushed brush (circleFigure topleft diameter) (now (buf .entry)) ⌝ }
 {
+    let window = brush.window;
     let top = topleft.1;
+    let rows = framebuffer::held(top, true, window.top, window.bottom, diameter);
+    let past = rows.past;
     let mut seen = 0u32;
-    let mut k = 0u32;
-    while k < diameter {
+    let mut k = rows.from;
+    while k < past {
         let y = top + (k as i32);
         let row = circle::accepted_row_span(topleft, diameter, y);
         seen += framebuffer::paint_span(buf, brush, y, row.start, row.end);

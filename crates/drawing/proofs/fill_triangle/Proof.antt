@@ -22,11 +22,12 @@ use Rattle.triangle.proofs.Triangle.{upper, lower}
 use Rattle.edges.specs.declared.Row.{Row}
 use Rattle.edges.specs.Edges.{WalkAt, Rowed}
 use Rattle.layout.specs.Figure.{spanFigure}
+use Rattle.framebuffer.specs.Window.{inWindow}
 use Rattle.framebuffer.specs.Judged.{Ready, brushed}
 use Rattle.drawing.specs.Figure.{triangleFigure}
 use Rattle.drawing.proofs.Figures.{brush-sound, few-pixels}
 use Rattle.drawing.proofs.Fill.{solid, none-above, none-below, row-columns, past-fits, row-fits, nearer, still-below}
-use Rattle.drawing.proofs.Rows.{above, rows-start, rows-turn, rows-end}
+use Rattle.drawing.proofs.Rows.{above, span-off, rows-start, rows-turn, rows-end}
 use Rattle.drawing.proofs.fill_triangle.Statement.{statement}
 use Rattle.drawing.proofs.fill_triangle.Tie as tie
 
@@ -99,7 +100,8 @@ loop-holds c =
       le-self _,
       λ v1 v2 v3 ok first at. (
         at,
-        sym (rows-start (a .brush) (brush-sound ok) (a .buf .now) (triangleFigure v1 v2 v3) (top c) (λ u v l. none-above v1 v2 v3 u v (subst (λ (z : ℤ). pos v <ℤ z) first l))),
+        sym (rows-start (a .brush) (brush-sound ok) (a .buf .now) (triangleFigure v1 v2 v3) (top c)
+            (λ u v l. span-off (inWindow (a .brush .window) (pos u) (pos v)) _ (none-above v1 v2 v3 u v (subst (λ (z : ℤ). pos v <ℤ z) first l)))),
       ),
     )
 
@@ -217,7 +219,7 @@ returns c =
     let past : bottom d <ℤ toZ w32 (l .y) = search tests in
     l .inv .2 (v1 d) (v2 d) (v3 d) (entry d .pre .0) (top-is d) (begun d) .1
     ∙ rows-end (a .brush) (brush-sound (entry d .pre .0)) (a .buf .now) (triangleFigure (v1 d) (v2 d) (v3 d)) (toZ w32 (l .y))
-    (λ u v k. none-below (v1 d) (v2 d) (v3 d) u v (nat-lt (omega (arith, lt-nat past, le-nat k, eq-nat (bottom-is d)))))
+    (λ u v k. span-off (inWindow (a .brush .window) (pos u) (pos v)) _ (none-below (v1 d) (v2 d) (v3 d) u v (nat-lt (omega (arith, lt-nat past, le-nat k, eq-nat (bottom-is d))))))
 
 pub fill-triangle-spec : {M : Type 1} → statement M
 fill-triangle-spec =

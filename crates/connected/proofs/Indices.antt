@@ -5,13 +5,14 @@ use mathlib.Core.Bool.{Bool, true, false, cond, not}
 use Prim.Native.Nat.{ℕ, zero, suc, _+_, _-_, _≤_, _<_}
 use native.Mathlib.Decide.{decLt}
 use native.Mathlib.Omega.{arith}
-use borrow.Author.Tests.{le-leb, lt-leb, eq-eqb, ne-eqb}
+use borrow.Author.Tests.{ltb-false, le-leb, lt-leb, eq-eqb, ne-eqb}
+use lib.Dec.{ltb}
 use Rattle.geometry.specs.declared.Point.{Point}
 use Rattle.geometry.specs.Bound.{Bounded}
 use Rattle.line.specs.Line.{major, minor, moves, pointAt}
 use Rattle.line.proofs.Moves.{moves-start, moves-end, moves-mono, moves-one}
 use Rattle.line.proofs.Lengths.{narrow, major-size, minor-size}
-use Rattle.connected.specs.Connected.{lastUpTo, indexOf, lastIndex, stepOf, isExtra, extraAt, connectedAt}
+use Rattle.connected.specs.Connected.{lastUpTo, indexOf, lastIndex, connectedPoints, pointsBefore, stepOf, isExtra, extraAt, connectedAt}
 
 -- the last index of an accepted line
 pub last-size : {s e : Point} → Bounded s → Bounded e → lastIndex s e ≤ 524288
@@ -132,3 +133,11 @@ module _ (s e : Point) where
           by (grows g) = extra k (not-last i k (omega arith) q) g (omega arith)
           by (stays g) = normal (k + 1) (omega (arith, not-last i k (omega arith) q)) (omega arith)
       next (extra k h g q) = normal (k + 1) (omega arith) (omega (arith, grows-index k g))
+
+  -- ---- no step has more points before it than there are
+  pub before-most : (k : ℕ) → pointsBefore s e k ≤ connectedPoints s e
+  before-most k = by (ltb (major s e) k) (ltb-false (major s e) k)
+    where
+      by : (t : Bool) → (t ≡ false → k ≤ major s e) → cond t (connectedPoints s e) (indexOf s e k) ≤ connectedPoints s e
+      by true h = omega arith
+      by false h = omega (arith, index-more k (major s e) (h refl), index-last)

@@ -13,9 +13,10 @@ use Rattle.line.specs.declared.Course.{Course}
 use Rattle.line.specs.declared.Walker.{Walker}
 use Rattle.line.specs.Line.{toward, steep, major, minor}
 use Rattle.line.specs.Walk.{CourseOf, standing, Stands, isDue, WalkerAt, Moving, Walking}
-use Rattle.line.proofs.Walk.{course-x, course-y, settled-not}
-use Rattle.connected.specs.Connected.{lastIndex, alike}
+use Rattle.line.proofs.Walk.{course-x, course-y, m-is, settled-not}
+use Rattle.connected.specs.Connected.{indexOf, lastIndex, alike}
 use Rattle.connected.specs.Walk.{mirrored, MovesMade, NextAt, Connecting}
+use Rattle.connected.proofs.Indices.{index-is}
 use Rattle.connected.proofs.Made.{made-within}
 
 -- ---- the moves of a walker
@@ -61,9 +62,10 @@ module _ {s e : Point} {k m : ℕ} {w : Walker} (st : Stands s e k m w) (some : 
       ap (λ (z : ℤ). z -ℤ w .course .ymajor) (st .y ∙ ap (λ (n : ℕ). s .1 +ℤ w .course .ymajor *ℤ pos n +ℤ w .course .yminor *ℤ pos m) one-more)
       ∙ back (s .1) (w .course .ymajor) (w .course .yminor) (pos (k - 1)) (pos m) ∙ course-y (st .course) (k - 1) m
 
--- a walker that has made no move
-pub fresh : {s e : Point} {w : Walker} → WalkerAt s e 0 w → NextAt s e 0 w
-fresh at = record { k = 0; here = record { m = at .m; stands = at .stands; due = omega (arith, at .near) }; sum = omega (arith, at .stands .few) }
+-- a walker that stands at the point of a step
+pub normal-next : {s e : Point} {k : ℕ} {w : Walker} → WalkerAt s e k w → k ≤ major s e → NextAt s e (indexOf s e k) w
+normal-next {s} {e} {k} at walked =
+    record { k = k; here = record { m = at .m; stands = at .stands; due = omega (arith, at .near) }; sum = omega (arith, m-is at walked, index-is s e k) }
 
 -- ---- the test for mirrored extra points, by the line's parameters
 no-move : (a b : ℤ) → toward a b ≡ pos 0 → ⊥

@@ -3,7 +3,7 @@
 use mathlib.Core.Path.{_≡_}
 use mathlib.Core.Bool.{Bool, true, false, cond, not}
 use Prim.Native.Nat.{ℕ, zero, suc, _+_, _≤_}
-use lib.Dec.{leb, eqb}
+use lib.Dec.{leb, ltb, eqb}
 use Rattle.whole.specs.Equal.{eqZ}
 use Rattle.geometry.specs.declared.Point.{Point}
 use Rattle.line.specs.Line.{toward, major, minor, moves, pointAt, someStep}
@@ -30,6 +30,10 @@ module _ (s e : Point) where
   -- major + minor + 1 points
   abbrev pub connectedPoints : ℕ
   connectedPoints = lastIndex + 1
+
+  -- the points before the normal point of step k: its index, or all of them for a step past the last
+  abbrev pub pointsBefore : ℕ → ℕ
+  pointsBefore k = cond (ltb (major s e) k) connectedPoints (indexOf k)
 
   -- the step of the last normal point up to index i
   unfoldable pub stepOf : ℕ → ℕ

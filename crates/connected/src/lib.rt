@@ -7,9 +7,10 @@ ghost use Rattle.refusals.specs.First.{first};
 ghost use Rattle.geometry.specs.declared.Point.{Point as Place};
 ghost use Rattle.geometry.specs.Bound.{Bounded};
 ghost use Rattle.geometry.specs.Answer.{verdict};
+ghost use Rattle.line.specs.Line.{major};
 ghost use Rattle.line.specs.Walk.{CourseOf, SomeCourse, isDue};
 ghost use Rattle.line.specs.Answer.{endTests, lengthAnswer, stepAnswer};
-ghost use Rattle.connected.specs.Connected.{lastIndex, connectedPoints, connectedAt, hasConnected};
+ghost use Rattle.connected.specs.Connected.{indexOf, lastIndex, connectedPoints, pointsBefore, connectedAt, hasConnected};
 ghost use Rattle.connected.specs.Walk.{mirrored, MovesMade, NextAt, Connecting, HandedOut};
 ghost use Rattle.connected.specs.Answer.{indexTests};
 use geometry::Point;
@@ -38,12 +39,12 @@ fn mirrors(c: Course) -> bool
     c.ymajor == -c.xminor
 }
 
-// Inside the library: the walker that stands at a connected line's start and has handed out no point.
-pub fn walker(start: Point, end: Point) -> Walker
-    requires { ⌜ Bounded start × Bounded end ⌝ }
-    ensures { λ r. ⌜ NextAt start end 0 r ⌝ }
+// Inside the library: the walker of an accepted connected line that hands out the normal point of a step next, without walking there.
+pub fn walker_at(start: Point, end: Point, step: u32) -> Walker
+    requires { ⌜ (Bounded start × Bounded end) × (step ≤ major start end) ⌝ }
+    ensures { λ r. ⌜ NextAt start end (indexOf start end step) r ⌝ }
 {
-    Walker::new(start, end)
+    Walker::at(start, end, step)
 }
 
 // Inside the library: the next point of a connected line, whether it is an extra one, and the walker at the point after it. The walker is handed on before its
@@ -85,6 +86,17 @@ pub fn last_index(start: Point, end: Point) -> u32
     let wide = line::distance(start.0, end.0) as u32;
     let high = line::distance(start.1, end.1) as u32;
     wide + high
+}
+
+// Inside the library: how many points of an accepted connected line come before the normal point of a step; all of them, for a step past the last.
+pub fn points_before(start: Point, end: Point, step: u32) -> u32
+    requires { ⌜ Bounded start × Bounded end ⌝ }
+    ensures { λ r. ⌜ r ≡ pointsBefore start end step ⌝ }
+{
+    if line::last_step(start, end) < step {
+        return last_index(start, end) + 1;
+    }
+    step + line::minor_moves(start, end, step)
 }
 
 // The minor ones of the i moves that come before the point of index i.

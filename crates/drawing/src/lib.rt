@@ -3,7 +3,7 @@
 ghost use mathlib.Core.Path.{_≡_};
 ghost use mathlib.Core.Bool.{not, _&&_};
 ghost use mathlib.Core.List.{_++_};
-ghost use Prim.Native.Nat.{_≤_};
+ghost use Prim.Native.Nat.{_-_, _≤_};
 ghost use lib.ListN.{length};
 ghost use Rattle.refusals.specs.First.{first};
 ghost use Rattle.layout.specs.Count.{oneIf};
@@ -148,16 +148,32 @@ pub fn draw_line(buf: &mut [u8], frame: Frame, start: Point, end: Point, colour:
     }
 }
 
-// The points of an accepted connected line, as far as the rectangle holds them; and how many these are. No two are the same.
+// The step before one, or the first.
+fn one_before(k: u32) -> u32
+    ensures { λ r. ⌜ r ≡ k - 1 ⌝ }
+{
+    if k == 0 {
+        return 0;
+    }
+    k - 1
+}
+
+// The points of an accepted connected line, as far as the rectangle holds them; and how many these are. No two are the same. An extra point may be in the rectangle
+// where the step before it is not, so that the walk starts one step before the line's would.
 fn draw_connected(buf: &mut [u8], brush: Brush, start: Point, end: Point) -> u32
     requires { ⌜ Ready brush (length (now buf)) × (Bounded start × Bounded end) ⌝ }
     ensures { λ r. ⌜ (r, now (buf .exit)) ≡ brushed brush (connectedFigure start end) (now (buf .entry)) ⌝ }
 {
-    let mut walker = connected::walker(start, end);
-    let count = connected::last_index(start, end) + 1;
+    let steps = line_steps(brush.window, start, end);
+    if steps.past <= steps.from {
+        return 0;
+    }
+    let first = one_before(steps.from);
+    let past = connected::points_before(start, end, steps.past);
+    let mut walker = connected::walker_at(start, end, first);
     let mut seen = 0u32;
-    let mut i = 0u32;
-    while i < count {
+    let mut i = connected::points_before(start, end, first);
+    while i < past {
         let next = connected::next_all(walker);
         seen += framebuffer::put_point(buf, brush, next.point) as u32;
         walker = next.walker;

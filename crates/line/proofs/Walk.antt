@@ -136,7 +136,7 @@ module _ {s e : Point} {k m : ℕ} {w : Walker} (h : Stands s e k m w) where
   standing-y = h .y ∙ course-y (h .course) k m
 
 module _ {s e : Point} {k : ℕ} {w : Walker} (at : WalkerAt s e k w) (walked : k ≤ major s e) where
-  m-is : at .m ≡ moves (major s e) (minor s e) k
+  pub m-is : at .m ≡ moves (major s e) (minor s e) k
   m-is = sym (moves-is (major s e) (minor s e) k (at .m) walked (at .stands .few) (record { low = at .stands .low; high = at .near }))
 
   here : standing s e k (at .m) ≡ pointAt s e k

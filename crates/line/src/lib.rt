@@ -143,7 +143,7 @@ impl Walker {
         ensures { λ r. ⌜ WalkerAt start end k r ⌝ }
     {
         let c = course_of(start, end);
-        let m = moves_at(c.threshold as u32, c.up as u32, k);
+        let m = minor_moves(start, end, k);
         let p = place_after(start, c, k, m);
         let error = error_after(c.up, c.down, k, m);
         Walker {
@@ -220,6 +220,15 @@ pub fn moves_at(major: u32, up: u32, k: u32) -> u32
     }
     let whole = up as u64 * k as u64 + (major as u64 - 1);
     (whole / (2 * major as u64)) as u32
+}
+
+// Inside the library: the moves along the minor axis at step k of an accepted line.
+pub fn minor_moves(start: Point, end: Point, k: u32) -> u32
+    requires { ⌜ (Bounded start × Bounded end) × (k ≤ major start end) ⌝ }
+    ensures { λ r. ⌜ r ≡ moves (major start end) (minor start end) k ⌝ }
+{
+    let c = course_of(start, end);
+    moves_at(c.threshold as u32, c.up as u32, k)
 }
 
 // The coordinate that is so many major and minor moves from a, each move being -1, 0 or 1.

@@ -1,23 +1,29 @@
--- `drawing::draw_connected` sets the points that the walker hands out, one a turn: before turn i those of the indices below i are set, and those inside are counted.
--- No two are the same. Assumes nothing.
+-- `drawing::draw_connected` sets the points that the walker hands out, one a turn: before index i those of the indices below i are set, and those inside are counted.
+-- The points that are left out are outside the rectangle. No two are the same. Assumes nothing.
 use mathlib.Core.Path.{_≡_, refl, sym, ap, subst, _∙_}
-use mathlib.Core.Bool.{Bool, true, false, not, _&&_}
+use mathlib.Core.Bool.{Bool, true, false, cond, not, _&&_}
 use Prim.Native.Nat.{ℕ, _+_, _-_, _≤_}
 use native.Mathlib.Omega.{arith}
 use lib.IntN.{ℤ}
 use lib.ListN.{length}
 use mir.Val.{boolByte}
 use borrow.Author.Needs.{needs}
+use borrow.Author.Tests.{le-ltb}
 use Rattle.geometry.specs.declared.Point.{Point}
-use Rattle.connected.specs.Connected.{lastIndex, connectedPoints, connectedAt}
+use Rattle.line.specs.Line.{major}
+use Rattle.connected.specs.Connected.{indexOf, lastIndex, connectedPoints, pointsBefore, connectedAt}
 use Rattle.connected.specs.Walk.{NextAt}
-use Rattle.connected.proofs.Indices.{last-size}
+use Rattle.connected.proofs.Indices.{last-size, index-last, index-more, before-most}
 use Rattle.connected.proofs.Members.{distinct}
 use Rattle.layout.specs.Count.{oneIf}
 use Rattle.layout.proofs.Counts.{one-small}
+use Rattle.framebuffer.specs.declared.Steps.{Steps}
 use Rattle.framebuffer.specs.Judged.{Ready}
+use Rattle.framebuffer.proofs.Windows.{within-small}
+use Rattle.drawing.specs.Clipped.{LineSteps}
 use Rattle.drawing.specs.Figure.{connectedFigure}
-use Rattle.drawing.proofs.Figures.{connected-walked, none-earlier, Along, along-start, along-turn, along-end}
+use Rattle.drawing.proofs.Figures.{connected-walked, none-earlier, Along, along-start, along-turn, along-skip, along-end}
+use Rattle.drawing.proofs.Clipped.{connected-before, connected-after, connected-none}
 use Rattle.drawing.proofs.draw_connected.Statement.{statement}
 use Rattle.drawing.proofs.draw_connected.Tie as tie
 
@@ -26,50 +32,131 @@ abbrev none : ℤ → ℤ → Bool
 none x y = false
 
 abbrev Inv-loop : tie.InvT-loop
-Inv-loop buf₀ brush walker₀ count seen₀ i₀ buf walker seen i =
-    (length buf ≡ length buf₀) × (i ≤ count) × (seen ≤ i)
-    × ((s e : Point) → count ≡ connectedPoints s e → Ready brush (length buf₀) → NextAt s e 0 walker₀
-    → NextAt s e i walker × Along brush none (connectedAt s e) buf₀ i seen buf)
+Inv-loop buf₀ brush first past walker₀ seen₀ i₀ buf walker seen i =
+    (length buf ≡ length buf₀) × (seen ≤ i)
+    × ((s e : Point) → past ≤ connectedPoints s e → i₀ ≤ connectedPoints s e → Ready brush (length buf₀) → NextAt s e i₀ walker₀
+    → Along brush none (connectedAt s e) buf₀ i₀ 0 buf₀
+    → NextAt s e i walker × Along brush none (connectedAt s e) buf₀ i seen buf × (i ≤ connectedPoints s e))
 
 abbrev μ-loop : tie.MeasureT-loop
-μ-loop buf₀ brush walker₀ count seen₀ i₀ buf walker seen i = count - i
+μ-loop buf₀ brush first past walker₀ seen₀ i₀ buf walker seen i = past - i
 
-walker-requires : tie.Need-walker-requires Inv-loop μ-loop
-walker-requires c κs = search needs
+line-steps-requires : tie.Need-line-steps-requires Inv-loop μ-loop
+line-steps-requires c κs = let s = c .before in (within-small (s .pre .0 .within) (s .pre .0 .drawable .accepted .described), s .pre .1)
 
-last-index-requires : tie.Need-last-index-requires Inv-loop μ-loop
-last-index-requires c κs = search needs
+-- the steps beside which points are set
+module _ (c : tie.After-line-steps Inv-loop μ-loop) where
+  abbrev entry : tie.Start Inv-loop μ-loop
+  entry = c .before .before
 
-add-count : tie.Need-add-count Inv-loop μ-loop
-add-count c = let s = c .before .before .before in omega (arith, c .last-index .ensures, last-size (s .pre .1 .0) (s .pre .1 .1))
+  abbrev s : Point
+  s = entry .args .start
+
+  abbrev e : Point
+  e = entry .args .end
+
+  abbrev steps : Steps
+  steps = c .line-steps .result
+
+  clipped : LineSteps (entry .args .brush .window) s e steps
+  clipped = c .line-steps .ensures
+
+  begun : Along (entry .args .brush) none (connectedAt s e) (entry .args .buf .now) 0 0 (entry .args .buf .now)
+  begun = along-start (entry .pre .0) none (connectedAt s e) (entry .args .buf .now)
+
+returns : tie.Need-returns Inv-loop μ-loop
+returns c =
+    let l = c .before .before in
+    let a = entry l .args in
+    let r =
+    along-end (entry l .pre .0) none (connectedAt (s l) (e l)) (a .buf .now)
+    (along-skip (entry l .pre .0) none (connectedAt (s l) (e l)) (a .buf .now) (begun l) (connectedPoints (s l) (e l)) (omega arith)
+    (λ i h few. connected-none (clipped l) (c .if1 .taken) i (omega arith)))
+    refl (connected-walked (s l) (e l)) in
+    none-earlier (a .brush) (connectedFigure (s l) (e l)) (a .buf .now) (r .0) (r .1)
+
+one-before-requires : tie.Need-one-before-requires Inv-loop μ-loop
+one-before-requires c κs = search needs
+
+points-before-requires : tie.Need-points-before-requires Inv-loop μ-loop
+points-before-requires c κs = search needs
+
+-- the step that the walk starts at
+module _ (c : tie.After-one-before Inv-loop μ-loop) where
+  abbrev l : tie.After-line-steps Inv-loop μ-loop
+  l = c .before .before .before
+
+  some : steps l .from ≤ major (s l) (e l)
+  some = omega (arith, clipped l .most, c .before .if1 .left)
+
+  first-walked : c .one-before .result ≤ major (s l) (e l)
+  first-walked = omega (arith, some, c .one-before .ensures)
+
+  -- its index
+  first-index : pointsBefore (s l) (e l) (c .one-before .result) ≡ indexOf (s l) (e l) (c .one-before .result)
+  first-index =
+      ap (λ (t : Bool). cond t (connectedPoints (s l) (e l)) (indexOf (s l) (e l) (c .one-before .result))) (le-ltb (major (s l) (e l)) (c .one-before .result) first-walked)
+
+walker-at-requires : tie.Need-walker-at-requires Inv-loop μ-loop
+walker-at-requires c κs = let o = c .before in (entry (l o) .pre .1, first-walked o)
+
+points-before-requires-2 : tie.Need-points-before-requires-2 Inv-loop μ-loop
+points-before-requires-2 c κs = search needs
+
+-- the points that are walked
+module _ (c : tie.After-points-before2 Inv-loop μ-loop) where
+  abbrev o : tie.After-one-before Inv-loop μ-loop
+  o = c .before .before .before
+
+  abbrev past : ℕ
+  past = c .before .before .points-before .result
+
+  from-index : c .points-before2 .result ≡ indexOf (s (l o)) (e (l o)) (o .one-before .result)
+  from-index = c .points-before2 .ensures ∙ first-index o
+
+  few-before : c .points-before2 .result ≤ lastIndex (s (l o)) (e (l o))
+  few-before =
+      omega (arith, from-index, index-more (s (l o)) (e (l o)) (o .one-before .result) (major (s (l o)) (e (l o))) (first-walked o), index-last (s (l o)) (e (l o)))
+
+  most : past ≤ connectedPoints (s (l o)) (e (l o))
+  most = omega (arith, c .before .before .points-before .ensures, before-most (s (l o)) (e (l o)) (steps (l o) .past))
+
+  started : NextAt (s (l o)) (e (l o)) (c .points-before2 .result) (c .before .walker-at .result)
+  started = subst (λ (i : ℕ). NextAt (s (l o)) (e (l o)) i (c .before .walker-at .result)) (sym from-index) (c .before .walker-at .ensures)
+
+  -- those before them are outside
+  skipped : Along (entry (l o) .args .brush) none (connectedAt (s (l o)) (e (l o))) (entry (l o) .args .buf .now) (c .points-before2 .result) 0 (entry (l o) .args .buf .now)
+  skipped =
+      along-skip (entry (l o) .pre .0) none (connectedAt (s (l o)) (e (l o))) (entry (l o) .args .buf .now) (begun (l o)) (c .points-before2 .result) (omega arith)
+      (λ i h few. connected-before (clipped (l o)) i (omega (arith, few-before)) (some o)
+      (omega (arith, from-index, ap (indexOf (s (l o)) (e (l o))) (o .one-before .ensures))))
 
 loop-holds : tie.Need-loop-holds Inv-loop μ-loop
-loop-holds c =
-    let a = c .before .before .before .args in
-    (refl, omega arith, omega arith, λ s e n ok at. (at, along-start ok none (connectedAt s e) (a .buf .now)))
+loop-holds c = (refl, omega arith, λ s e n few ok at a. (at, a, few))
 
--- at the loop's head the walker stands at index i, and the points below it are set and counted
+-- at the loop's head the walker hands out the point of index i next, and the points below it are set and counted
 module _ (c : tie.At-loop Inv-loop μ-loop) where
-  abbrev entry : tie.Start Inv-loop μ-loop
-  entry = c .before .before .before .before
+  abbrev p : tie.After-points-before2 Inv-loop μ-loop
+  p = c .before
 
-  head : NextAt (entry .args .start) (entry .args .end) (c .loop .i) (c .loop .walker)
-      × Along (entry .args .brush) none (connectedAt (entry .args .start) (entry .args .end)) (entry .args .buf .now) (c .loop .i) (c .loop .seen) (c .loop .buf)
-  head = c .loop .inv .3 (entry .args .start) (entry .args .end) (ap (λ (n : ℕ). n + 1) (c .before .last-index .ensures)) (entry .pre .0) (c .before .before .walker .ensures)
+  abbrev k : tie.After-line-steps Inv-loop μ-loop
+  k = l (o p)
 
-  few-points : c .loop .i ≤ 524289
-  few-points = omega (arith, c .loop .inv .1, c .before .last-index .ensures, last-size (entry .pre .1 .0) (entry .pre .1 .1))
+  head : NextAt (s k) (e k) (c .loop .i) (c .loop .walker)
+      × Along (entry k .args .brush) none (connectedAt (s k) (e k)) (entry k .args .buf .now) (c .loop .i) (c .loop .seen) (c .loop .buf)
+      × (c .loop .i ≤ connectedPoints (s k) (e k))
+  head = c .loop .inv .2 (s k) (e k) (most p) (omega (arith, few-before p)) (entry k .pre .0) (started p) (skipped p)
+
+few-points : (c : tie.In-loop Inv-loop μ-loop) → c .before .loop .i ≤ 524288
+few-points c = let b = c .before in omega (arith, most (p b), last-size (entry (k b) .pre .1 .0) (entry (k b) .pre .1 .1))
 
 next-all-requires : tie.Need-next-all-requires Inv-loop μ-loop
-next-all-requires c κs =
-    let s = entry (c .before) in
-    record { s = s .args .start; e = s .args .end; i = c .before .loop .i; more = omega (arith, c .before .before .last-index .ensures); here = head (c .before) .0 }
+next-all-requires c κs = let b = c .before in record { s = s (k b); e = e (k b); i = b .loop .i; more = omega (arith, most (p b)); here = head b .0 }
 
 put-point-requires : tie.Need-put-point-requires Inv-loop μ-loop
 put-point-requires c κs =
-    let h = c .before .before .before in
-    let s = entry h in
-    subst (Ready (s .args .brush)) (sym (h .loop .inv .0)) (s .pre .0)
+    let b = c .before .before .before in
+    subst (Ready (entry (k b) .args .brush)) (sym (b .loop .inv .0)) (entry (k b) .pre .0)
 
 -- a point inside adds one
 adds : (inside : Bool) → boolByte inside ≡ oneIf (inside && not false)
@@ -85,11 +172,11 @@ cast-seen c = tt
 add-seen : tie.Need-add-seen Inv-loop μ-loop
 add-seen c =
     let put = c .before .before in
-    let h = put .before .before .before .before in
-    omega (arith, few-points h, h .loop .inv .2, one (put .put-point .result))
+    let h = put .before .before .before in
+    omega (arith, few-points h, h .before .loop .inv .1, one (put .put-point .result))
 
 add-i : tie.Need-add-i Inv-loop μ-loop
-add-i c = omega (arith, few-points (c .before .before .before .before .before .before .before))
+add-i c = omega (arith, few-points (c .before .before .before .before .before .before))
 
 loop-less : tie.Need-loop-less Inv-loop μ-loop
 loop-less c = search needs
@@ -98,32 +185,36 @@ loop-again : tie.Need-loop-again Inv-loop μ-loop
 loop-again c =
     let put = c .before .before .before in
     let next = put .before .before in
-    let h = next .before .before in
-    let a = entry h .args in (
-      put .put-point .kept .0 ∙ h .loop .inv .0,
-      omega arith,
-      omega (arith, h .loop .inv .2, one (put .put-point .result)),
-      λ s e n ok at.
-          let j = h .loop .inv .3 s e n ok at in
-          let last : h .loop .i ≤ lastIndex s e = omega arith in
-          let g = next .next-all .ensures s e (h .loop .i) last (j .0) in (
+    let b = next .before .before in
+    let a = entry (k b) .args in (
+      put .put-point .kept .0 ∙ b .loop .inv .0,
+      omega (arith, b .loop .inv .1, one (put .put-point .result)),
+      λ s e n few ok at f.
+          let j = b .loop .inv .2 s e n few ok at f in
+          let last : b .loop .i ≤ lastIndex s e = omega arith in
+          let g = next .next-all .ensures s e (b .loop .i) last (j .0) in (
             g .walker,
             along-turn ok none (connectedAt s e) (a .buf .now) (j .1) (g .point)
-                (λ k l e′. let z = distinct s e (h .loop .i) k last (omega arith) e′ in omega arith)
+                (λ k l e′. let z = distinct s e (b .loop .i) k last (omega arith) e′ in omega arith)
                 (put .put-point .ensures .0) (adds (put .put-point .result)) (put .put-point .ensures .1),
+            omega arith,
           ),
     )
 
 same-length : tie.Need-same-length Inv-loop μ-loop
 same-length c = c .before .loop .inv .0
 
-returns : tie.Need-returns Inv-loop μ-loop
-returns c =
-    let s = entry (c .before) in
-    let a = s .args in
-    let all : c .before .loop .i ≡ connectedPoints (a .start) (a .end) = omega (arith, c .before .before .last-index .ensures) in
-    let r = along-end (s .pre .0) none (connectedAt (a .start) (a .end)) (a .buf .now) (head (c .before) .1) all (connected-walked (a .start) (a .end)) in
-    none-earlier (a .brush) (connectedFigure (a .start) (a .end)) (a .buf .now) (r .0) (r .1)
+returns-2 : tie.Need-returns-2 Inv-loop μ-loop
+returns-2 c =
+    let b = c .before in
+    let a = entry (k b) .args in
+    let all : past (p b) ≤ b .loop .i = omega arith in
+    let r =
+    along-end (entry (k b) .pre .0) none (connectedAt (s (k b)) (e (k b))) (a .buf .now)
+    (along-skip (entry (k b) .pre .0) none (connectedAt (s (k b)) (e (k b))) (a .buf .now) (head b .1) (connectedPoints (s (k b)) (e (k b))) (head b .2)
+    (λ i h few. connected-after (clipped (k b)) i (omega arith) (omega (arith, p b .before .before .points-before .ensures))))
+    refl (connected-walked (s (k b)) (e (k b))) in
+    none-earlier (a .brush) (connectedFigure (s (k b)) (e (k b))) (a .buf .now) (r .0) (r .1)
 
 pub draw-connected-spec : {M : Type 1} → statement M
 draw-connected-spec =
@@ -131,9 +222,12 @@ draw-connected-spec =
     (tie.spec
     Inv-loop
     μ-loop
-    walker-requires
-    last-index-requires
-    add-count
+    line-steps-requires
+    returns
+    one-before-requires
+    points-before-requires
+    walker-at-requires
+    points-before-requires-2
     loop-holds
     next-all-requires
     put-point-requires
@@ -143,4 +237,4 @@ draw-connected-spec =
     loop-less
     loop-again
     same-length
-    returns)
+    returns-2)

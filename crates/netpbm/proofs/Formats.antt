@@ -8,7 +8,7 @@ use native.Mathlib.Omega.{arith}
 use lib.Dec.{eqb}
 use borrow.Author.Tests.{eq-eqb, eqb-true, eqb-false, not-false, not-true}
 use Rattle.whole.proofs.Tests.{and-true, or-true, or-false}
-use Rattle.layout.specs.Packed.{rowBytes, parts}
+use Rattle.layout.specs.Packed.{parts}
 use Rattle.layout.proofs.Places.{depth-pos}
 use Rattle.framebuffer.specs.declared.Frame.{Frame}
 use Rattle.framebuffer.specs.Description.{size}
@@ -42,19 +42,9 @@ module _ (f : Frame) where
     pub has-width : 0 < f .width
     has-width = let n = eqb-false (f .width) 0 (or-false (eqb (f .width) 0) (eqb (f .height) 0) (or-false (not depths) _ (W .format) .1) .0) in omega arith
 
-    has-height : 0 < f .height
-    has-height = let n = eqb-false (f .height) 0 (or-false (eqb (f .width) 0) (eqb (f .height) 0) (or-false (not depths) _ (W .format) .1) .1) in omega arith
-
-    -- the bits of a row, and the bytes of all
+    -- the bits of a row
     pub has-bits : 0 < f .width * f .depth
     has-bits = mul-pos has-width (depth-pos (f .depth) (W .accepted .described .depth))
-
-    pub has-bytes : 0 < size f
-    unfolding size rowBytes
-    has-bytes =
-        let p : 0 < f .distance = omega (arith, has-bits, W .accepted .described .apart) in
-        let q : 0 < f .height * f .distance = mul-pos has-height p in
-        omega (arith, q)
 
     -- unless a pixel's bytes are turned round, it has one byte, or the orders are one
     pub same-bytes : (g : Frame) → isTurned g f ≡ false → (parts (f .depth) ≡ 1) ⊎ (g .big ≡ f .big)

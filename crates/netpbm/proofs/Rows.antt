@@ -26,9 +26,9 @@ use Rattle.packing.specs.Words.{merged}
 use Rattle.framebuffer.specs.declared.Frame.{Frame}
 use Rattle.framebuffer.specs.Description.{arranged, raster, size}
 use Rattle.framebuffer.proofs.Refusals.{spaced}
-use Rattle.netpbm.specs.Words.{Alike, transferred, maskedRows, copiedRow, turnedRow, isTurned, isRun}
+use Rattle.netpbm.specs.Words.{Alike, transferred, maskedRows, copied, copiedRow, turnedRow, isTurned, isRun}
 use Rattle.netpbm.proofs.Bits.{rendered-bytes, sourceOf, same-source, turned-place, mixed, mixed-cong, cut, full, beside, by-bits}
-use Rattle.netpbm.proofs.Formats.{row-pos, row-room, has-bits, has-bytes, same-bytes, run-full, same-distance, not-turned}
+use Rattle.netpbm.proofs.Formats.{row-pos, row-room, has-bits, same-bytes, run-full, same-distance, not-turned}
 
 -- ---- runs from the first byte on
 run-front : (n : ℕ) (h : ℕ → ℕ) (b : List ℕ) (j : ℕ) → j < n → n ≤ length b → getD (setRun 0 n h b) j 0 ≡ h j
@@ -187,19 +187,13 @@ module _ {f g : Frame} {a b : List ℕ} (K : Transfer f a g b) (kept : ℕ) wher
           ∙ full bits j (getD a (at + j) 0) (old y j) (omega (arith, N, mod-lt i p)) (K .from (at + j))
           ∙ ap (λ (n : ℕ). getD a (y * n + j) 0) E ∙ ap (λ (k : ℕ). getD a k 0) e
 
-      bytes-copied : (n : ℕ) → suc n ≡ size g → copiedRow a 0 0 n 255 0 b ≡ all
-      bytes-copied n s =
-          let u = getD a (0 + n) 0 in
-          let v = bitAnd (getD b (0 + n) 0) 0 in
-          let same : (j : ℕ) → j < suc n → getD a (0 + j) 0 ≡ getD all j 0 =
-          λ j h. let z : 0 + j ≡ j = omega arith in ap (λ (k : ℕ). getD a k 0) z ∙ sym (byte-kept j (omega arith)) in
-          let low : v < 256 = (let h = K .to (0 + n) in let l = and-le-l (getD b (0 + n) 0) 0 in omega arith) in
-          let last : merged v u 255 ≡ u = sym (cut 8 0 0 u v (omega arith) (omega arith) (K .from (0 + n)) low) ∙ full 8 0 u v (omega arith) (K .from (0 + n)) in
-          ap₂ (λ (c : List ℕ) (w : ℕ). set c (0 + n) w) (run-cong 0 n _ _ b (λ j h. same j (omega arith))) (last ∙ same n (omega arith))
-          ∙ ap (λ (k : ℕ). setRun 0 k (λ i. getD all i 0) b) s ∙ all-is
+      bytes-copied : copied a 0 0 (size g) b ≡ all
+      bytes-copied =
+          let z : (j : ℕ) → 0 + j ≡ j = λ j. omega arith in
+          run-cong 0 (size g) _ _ b (λ j h. ap (λ (k : ℕ). getD a k 0) (z j) ∙ sym (byte-kept j h)) ∙ all-is
 
-  pub run-copied : isRun f g ≡ true → copiedRow a 0 0 (size g - 1) 255 0 b ≡ all
-  run-copied t = bytes-copied (not-turned f g t) (run-full f g t) (same-distance f g t) (size g - 1) (omega (arith, has-bytes g (K .frames .target)))
+  pub run-copied : isRun f g ≡ true → copied a 0 0 (size g) b ≡ all
+  run-copied t = bytes-copied (not-turned f g t) (run-full f g t) (same-distance f g t)
 
   -- ---- three bytes, in the other order
   pub row-turned : isTurned f g ≡ true → (y : ℕ) → y < g .height

@@ -31,10 +31,14 @@ transferred f a g b = rendered (raster g) (shown (raster f) a) b
 abbrev pub maskedRows : Frame → ℕ → List ℕ → List ℕ
 maskedRows g kept b = setRun 0 (size g) (λ k. cond (ltb (k % g .distance) (rowBytes (g .width) (g .depth))) (bitAnd (getD b k 0) kept) (getD b k 0)) b
 
--- the n bytes from `at` on, at `start`, and in the byte behind them the bits that the mask has
+-- the n bytes from `at` on, at `start`
+abbrev pub copied : List ℕ → ℕ → ℕ → ℕ → List ℕ → List ℕ
+copied a at start n b = setRun start n (λ k. getD a (at + k) 0) b
+
+-- these, and in the byte behind them the bits that the mask has
 abbrev pub copiedRow : List ℕ → ℕ → ℕ → ℕ → ℕ → ℕ → List ℕ → List ℕ
 copiedRow a at start n mask kept b =
-    set (setRun start n (λ k. getD a (at + k) 0) b) (start + n) (merged (bitAnd (getD b (start + n) 0) kept) (getD a (at + n) 0) mask)
+    set (copied a at start n b) (start + n) (merged (bitAnd (getD b (start + n) 0) kept) (getD a (at + n) 0) mask)
 
 -- n pixels of three bytes from `at` on, each from its last byte to its first, at `start`
 abbrev pub turnedRow : List ℕ → ℕ → ℕ → ℕ → List ℕ → List ℕ

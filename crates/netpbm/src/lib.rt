@@ -11,7 +11,7 @@ ghost use Rattle.framebuffer.specs.Judged.{Described};
 ghost use Rattle.netpbm.specs.Image.{header, bigFirst, imageLength};
 ghost use Rattle.netpbm.specs.Written.{noFormat, imageSizeTests, written};
 ghost use Rattle.netpbm.specs.Reading.{fileTests, loaded};
-ghost use Rattle.netpbm.specs.Words.{Alike, transferred, maskedRows, copiedRow, turnedRow, isTurned, isRun};
+ghost use Rattle.netpbm.specs.Words.{Alike, transferred, maskedRows, copied, copiedRow, turnedRow, isTurned, isRun};
 use framebuffer::Frame;
 use framebuffer::Size;
 use headers::Header;
@@ -83,16 +83,37 @@ fn write_header(out: &mut [u8], frame: Frame) -> usize
 
 // ---- the pixels, from one frame into another of the same size and depth, row by row
 
-// Bytes from one place to another, and of the byte behind them the bits that the mask has. Its other bits stay as far as `kept` has them.
-fn copy_row(from: &[u8], at: usize, to: &mut [u8], start: usize, count: usize, mask: u8, kept: u8)
-    requires { ⌜ (at + count < length (now from)) × (start + count < length (now to)) ⌝ }
-    ensures { λ r. ⌜ now (to .exit) ≡ copiedRow (now (from .entry)) at start count mask kept (now (to .entry)) ⌝ }
+// Bytes from one place to another.
+fn copy_bytes(from: &[u8], at: usize, to: &mut [u8], start: usize, count: usize)
+    requires { ⌜ (at + count ≤ length (now from)) × (start + count ≤ length (now to)) ⌝ }
+    ensures { λ r. ⌜ now (to .exit) ≡ copied (now (from .entry)) at start count (now (to .entry)) ⌝ }
 {
     let mut i = 0usize;
     while i < count {
         to[start + i] = from[at + i];
         i += 1;
     }
+}
+
+// The first bytes of one buffer to the first of another. Those before `lead` go by themselves, so that the loop over all others begins there.
+fn copy_run(from: &[u8], to: &mut [u8], count: usize, lead: usize)
+    requires { ⌜ (count ≤ length (now from)) × (count ≤ length (now to)) ⌝ }
+    ensures { λ r. ⌜ now (to .exit) ≡ copied (now (from .entry)) 0 0 count (now (to .entry)) ⌝ }
+{
+    if count <= lead {
+        copy_bytes(from, 0, to, 0, count);
+        return;
+    }
+    copy_bytes(from, 0, to, 0, lead);
+    copy_bytes(from, lead, to, lead, count - lead);
+}
+
+// Bytes from one place to another, and of the byte behind them the bits that the mask has. Its other bits stay as far as `kept` has them.
+fn copy_row(from: &[u8], at: usize, to: &mut [u8], start: usize, count: usize, mask: u8, kept: u8)
+    requires { ⌜ (at + count < length (now from)) × (start + count < length (now to)) ⌝ }
+    ensures { λ r. ⌜ now (to .exit) ≡ copiedRow (now (from .entry)) at start count mask kept (now (to .entry)) ⌝ }
+{
+    copy_bytes(from, at, to, start, count);
     let last = start + count;
     to[last] = (to[last] & kept & !mask) | (from[at + count] & mask);
 }
@@ -149,14 +170,15 @@ fn is_run(source: Frame, target: Frame) -> bool
     (source.distance * 8 == bits) & (target.distance * 8 == bits) & !is_turned(source, target)
 }
 
-// All rows. The padding in a row's last byte stays as far as `kept` has its bits; the bytes between the rows and behind the frame stay.
-fn transfer_rows(from: &[u8], source: Frame, to: &mut [u8], target: Frame, kept: u8)
+// All rows. The padding in a row's last byte stays as far as `kept` has its bits; the bytes between the rows and behind the frame stay. Rows that are one run are
+// copied from byte `lead` on by one loop.
+fn transfer_rows(from: &[u8], source: Frame, to: &mut [u8], target: Frame, kept: u8, lead: usize)
     requires { ⌜ Alike source (length (now from)) target (length (now to)) ⌝ }
     ensures { λ r. ⌜ now (to .exit) ≡ transferred source (now (from .entry)) target (maskedRows target kept (now (to .entry))) ⌝ }
 {
     if is_run(source, target) {
         let bytes = target.distance * target.height;
-        copy_row(from, 0, to, 0, (bytes - 1) as usize, 255, 0);
+        copy_run(from, to, bytes as usize, lead);
         return;
     }
     let height = target.height;
@@ -187,7 +209,7 @@ pub fn write_image(buf: &[u8], frame: Frame, out: &mut [u8]) -> Size
         };
     }
     let start = write_header(out, frame);
-    transfer_rows(buf, frame, &mut out[start..end], in_file(frame), 0);
+    transfer_rows(buf, frame, &mut out[start..end], in_file(frame), 0, 0);
     image
 }
 
@@ -228,6 +250,8 @@ pub fn read_image(buf: &mut [u8], frame: Frame, file: &[u8]) -> u32
         return refusal;
     }
     let start = header.start;
-    transfer_rows(&file[start..], in_file(frame), buf, frame, 255);
+    // Most files begin at a multiple of 16 bytes in memory, and loads across such a multiple take longer than stores (docs/BENCHMARKS.md): the loads are to begin at one.
+    let lead = (16 - start % 16) % 16;
+    transfer_rows(&file[start..], in_file(frame), buf, frame, 255, lead);
     0
 }

@@ -65,6 +65,9 @@ number c =
 returns-2 : tie.Need-returns-2
 returns-2 c = let a = c .before .before .before .before .before .before .before .args in refused-loaded (a .frame) (a .file .now) (a .buf .now) (number (c .before)) (c .if2 .taken)
 
+sub-lead : tie.Need-sub-lead
+sub-lead c = search needs
+
 sub-transfer-rows : tie.Need-sub-transfer-rows
 sub-transfer-rows c = omega (arith, room c)
 
@@ -112,6 +115,7 @@ read-image-spec =
     read-header-requires
     file-refusal-requires
     returns-2
+    sub-lead
     sub-transfer-rows
     part-transfer-rows-start
     part-transfer-rows-end

@@ -1,6 +1,6 @@
 -- `netpbm::transfer_rows` copies the rows as one run where it may, else has taken the first y rows over after y turns. Assumes nothing.
 use mathlib.Core.Path.{_≡_, refl, sym, ap, subst, _∙_}
-use Prim.Native.Nat.{ℕ, _-_, _*_, _≤_, _<_}
+use Prim.Native.Nat.{ℕ, _-_, _*_, _≤_}
 use native.Mathlib.Omega.{arith}
 use lib.ListN.{length}
 use borrow.Author.Needs.{needs}
@@ -8,16 +8,16 @@ use Rattle.framebuffer.specs.declared.Frame.{Frame}
 use Rattle.framebuffer.specs.Description.{size}
 use Rattle.framebuffer.proofs.Refusals.{size-fits}
 use Rattle.netpbm.specs.Words.{Alike}
-use Rattle.netpbm.proofs.Formats.{has-bytes, same-size}
+use Rattle.netpbm.proofs.Formats.{same-size}
 use Rattle.netpbm.proofs.Rows.{Transfer, run-copied, rows, no-row, one-row, all-rows}
 use Rattle.netpbm.proofs.transfer_rows.Statement.{statement}
 use Rattle.netpbm.proofs.transfer_rows.Tie as tie
 
 abbrev Inv-loop : tie.InvT-loop
-Inv-loop from source to₀ target kept height y₀ to y = (y ≤ target .height) × (length to ≡ length to₀) × (to ≡ rows source from target kept to₀ y)
+Inv-loop from source to₀ target kept lead height y₀ to y = (y ≤ target .height) × (length to ≡ length to₀) × (to ≡ rows source from target kept to₀ y)
 
 abbrev μ-loop : tie.MeasureT-loop
-μ-loop from source to₀ target kept height y₀ to y = target .height - y
+μ-loop from source to₀ target kept lead height y₀ to y = target .height - y
 
 -- what is known of both buffers
 transfer : (c : tie.After-slice-known Inv-loop μ-loop) → (let a = c .before .before .args in Transfer (a .source) (a .from .now) (a .target) (a .to .now))
@@ -26,9 +26,8 @@ transfer c = record { frames = c .before .before .pre; from = λ i. c .before .s
 is-run-requires : tie.Need-is-run-requires Inv-loop μ-loop
 is-run-requires c κs = let A = c .before .before .pre in (A .source .described, A .target .accepted .described)
 
--- the bytes of a run: some, few, and within both buffers
+-- the bytes of a run: few, and within both buffers
 record Run (f : Frame) (m : ℕ) (g : Frame) (n : ℕ) : Type 0 where
-  some : 0 < g .distance * g .height
   few : g .distance * g .height ≤ 33554432
   from : g .distance * g .height ≤ m
   to : g .distance * g .height ≤ n
@@ -40,7 +39,6 @@ run c =
     let g = c .before .before .before .before .args .target in
     let A = c .before .before .before .before .pre in
     record {
-      some = has-bytes g (A .target);
       few = size-fits g (A .target .accepted .described);
       from = omega (arith, A .source .room, same-size f g (sym (c .before .is-run .ensures) ∙ c .if1 .taken) (A .height));
       to = A .target .accepted .room;
@@ -49,14 +47,11 @@ run c =
 mul-bytes : tie.Need-mul-bytes Inv-loop μ-loop
 mul-bytes c = omega (arith, run (c .before) .few)
 
-sub-copy-row : tie.Need-sub-copy-row Inv-loop μ-loop
-sub-copy-row c = omega (arith, run (c .before .before) .some)
+cast-copy-run : tie.Need-cast-copy-run Inv-loop μ-loop
+cast-copy-run c = omega (arith, run (c .before .before) .few)
 
-cast-copy-row : tie.Need-cast-copy-row Inv-loop μ-loop
-cast-copy-row c = omega (arith, run (c .before .before) .few)
-
-copy-row-requires : tie.Need-copy-row-requires Inv-loop μ-loop
-copy-row-requires c κs = let r = run (c .before .before) in (omega (arith, r .some, r .from), omega (arith, r .some, r .to))
+copy-run-requires : tie.Need-copy-run-requires Inv-loop μ-loop
+copy-run-requires c κs = let r = run (c .before .before) in (r .from, r .to)
 
 same-length : tie.Need-same-length Inv-loop μ-loop
 same-length c = search needs
@@ -66,7 +61,7 @@ unfolding size
 returns c =
     let k = c .before .before .before .before .before in
     let a = k .before .before .before .before .args in
-    c .before .before .copy-row .ensures ∙ run-copied (transfer (k .before .before)) (a .kept) (sym (k .before .is-run .ensures) ∙ k .if1 .taken)
+    c .before .before .copy-run .ensures ∙ run-copied (transfer (k .before .before)) (a .kept) (sym (k .before .is-run .ensures) ∙ k .if1 .taken)
 
 loop-holds : tie.Need-loop-holds Inv-loop μ-loop
 loop-holds c = (omega arith, refl, no-row (transfer (c .before .before)) (c .before .before .before .before .args .kept))
@@ -108,9 +103,8 @@ transfer-rows-spec =
     μ-loop
     is-run-requires
     mul-bytes
-    sub-copy-row
-    cast-copy-row
-    copy-row-requires
+    cast-copy-run
+    copy-run-requires
     same-length
     returns
     loop-holds

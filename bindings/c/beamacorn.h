@@ -26,10 +26,10 @@
 #include <stdint.h>
 
 /* The version of this header and of the library, as in CHANGELOG.md. */
-#define BEAMACORN_VERSION "0.4.0"
+#define BEAMACORN_VERSION "0.4.1"
 #define BEAMACORN_VERSION_MAJOR 0
 #define BEAMACORN_VERSION_MINOR 4
-#define BEAMACORN_VERSION_PATCH 0
+#define BEAMACORN_VERSION_PATCH 1
 
 #if defined BEAMACORN_STRICT && defined __GNUC__ && !defined __cplusplus
 #define BEAMACORN_BEHIND_THE_NUMBER __attribute__((deprecated("no with a refusal too: ask beamacorn_says")))

@@ -1,4 +1,4 @@
-//! Lines, triangles and circles with the names of embedded-graphics, answered by a library that is proved exact for every input.
+//! Lines, triangles, circles and packed frames with the names of embedded-graphics, answered by a library that is proved exact for every input.
 //!
 //! The questions are those of the original, but an answer is a [`Result`]: a figure whose coordinates are out of bounds is
 //! [refused](Refusal), which is not the same as "no". Nothing here wraps, panics or allocates.
@@ -14,10 +14,26 @@
 //! assert_eq!(far.contains(Point::new(0, 0)), Err(Refusal::OUT_OF_BOUNDS));
 //! ```
 //!
+//! A [`Frame`] describes pixels in bytes that the caller lends, and draws figures into them, reads them, and writes them as an image file:
+//!
+//! ```
+//! use beamacorn::{ByteOrder, Circle, Frame, Point};
+//!
+//! let pane = Frame::packed(32, 24, 1, ByteOrder::LittleEndian);
+//! let mut buf = vec![0; pane.size()?];
+//! let seen = pane.draw_circle(&mut buf, Circle::new(Point::new(-3, 8), 9), 1)?;
+//! assert_eq!(pane.lit(&buf), Ok(seen));
+//!
+//! let mut file = vec![0; pane.image_size()?];
+//! pane.write_image(&buf, &mut file)?;
+//! assert!(file.starts_with(b"P4\n32 24\n"));
+//! # Ok::<(), beamacorn::Refusal>(())
+//! ```
+//!
 //! # The range
 //!
-//! Coordinates of line ends, vertices and a circle's top-left corner are accepted from -131,072 to 131,071. A pixel or a row that is asked about may
-//! have any.
+//! Coordinates of line ends, vertices and a circle's top-left corner are accepted from -131,072 to 131,071. A pixel or a row that is asked about, or set,
+//! may have any. A frame has at most 2,048 by 2,048 pixels, and its rows at most 16,384 bytes from one to the next.
 //!
 //! What is larger must be counted in a larger unit before it is asked about: 160,000 Mbit/s are 16,000 units of 10 Mbit/s. The answer is then that of the
 //! coarser grid, and a sample within one unit of an edge may count otherwise. The 604,800 seconds of a week do not fit: use the second of the day or the
@@ -42,6 +58,8 @@ mod circle;
 mod connected;
 mod contains;
 mod filled;
+mod frame;
+#[allow(unsafe_code)]
 mod library;
 mod line;
 mod point;
@@ -54,6 +72,7 @@ pub use circle::Circle;
 pub use connected::ConnectedLine;
 pub use contains::ContainsPoint;
 pub use filled::FilledPoints;
+pub use frame::{ByteOrder, Frame};
 pub use line::Line;
 pub use point::Point;
 pub use points::Points;

@@ -179,7 +179,10 @@ fn a_refusal_says_why() {
     assert_eq!(Refusal::OUT_OF_BOUNDS.to_string(), "refused with 5: a coordinate is outside -131072 to 131071");
     assert_eq!([Refusal::OUT_OF_BOUNDS, Refusal::CIRCLE_TOO_FAR, Refusal::PAST_LAST_STEP].map(Refusal::number), [5, 6, 7]);
     assert_eq!([Refusal::SHORT_OUTPUT, Refusal::UNFIT_FRAME].map(Refusal::number), [9, 10]);
-    assert_eq!([Refusal::BAD_HEADER, Refusal::SHORT_FILE, Refusal::OTHER_SIZE, Refusal::BAD_DISTANCE].map(Refusal::number), [11, 12, 13, 14]);
+    assert_eq!(
+        [Refusal::BAD_HEADER, Refusal::SHORT_FILE, Refusal::OTHER_SIZE, Refusal::BAD_DISTANCE].map(Refusal::number),
+        [11, 12, 13, 14]
+    );
     assert_eq!(Refusal::SHORT_OUTPUT.to_string(), "refused with 9: the output is too short");
 }
 

@@ -175,15 +175,26 @@ fn the_ends_of_the_range_are_accepted() {
 }
 
 #[test]
-fn a_refusal_says_why() {
-    assert_eq!(Refusal::OUT_OF_BOUNDS.to_string(), "refused with 5: a coordinate is outside -131072 to 131071");
-    assert_eq!([Refusal::OUT_OF_BOUNDS, Refusal::CIRCLE_TOO_FAR, Refusal::PAST_LAST_STEP].map(Refusal::number), [5, 6, 7]);
-    assert_eq!([Refusal::SHORT_OUTPUT, Refusal::UNFIT_FRAME].map(Refusal::number), [9, 10]);
-    assert_eq!(
-        [Refusal::BAD_HEADER, Refusal::SHORT_FILE, Refusal::OTHER_SIZE, Refusal::BAD_DISTANCE].map(Refusal::number),
-        [11, 12, 13, 14]
-    );
-    assert_eq!(Refusal::SHORT_OUTPUT.to_string(), "refused with 9: the output is too short");
+fn every_refusal_has_its_number_and_says_why() {
+    let table = [
+        (Refusal::BAD_DEPTH, "the depth is not 1, 2, 4, 8, 16, 24 or 32"),
+        (Refusal::TOO_LARGE, "the frame's width or height is above 2048"),
+        (Refusal::SHORT_BUFFER, "the buffer is too short"),
+        (Refusal::BAD_COLOUR, "the colour does not fit the depth"),
+        (Refusal::OUT_OF_BOUNDS, "a coordinate is outside -131072 to 131071"),
+        (Refusal::CIRCLE_TOO_FAR, "the circle's box ends past 131072"),
+        (Refusal::PAST_LAST_STEP, "the step is past the line's last"),
+        (Refusal::OUTSIDE_FRAME, "the pixel is outside the frame"),
+        (Refusal::SHORT_OUTPUT, "the output is too short"),
+        (Refusal::UNFIT_FRAME, "the frame's depth or size is not taken"),
+        (Refusal::BAD_HEADER, "the file's header is not taken"),
+        (Refusal::SHORT_FILE, "the file has too few pixels"),
+        (Refusal::OTHER_SIZE, "the file's picture has another size"),
+        (Refusal::BAD_DISTANCE, "the rows are too close or too far apart"),
+    ];
+    for (number, (refusal, why)) in (1..).zip(table) {
+        assert_eq!((refusal.number(), refusal.to_string()), (number, format!("refused with {number}: {why}")));
+    }
 }
 
 #[test]

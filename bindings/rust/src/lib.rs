@@ -17,16 +17,19 @@
 //! A [`Frame`] describes pixels in bytes that the caller lends, and draws figures into them, reads them, and writes them as an image file:
 //!
 //! ```
-//! use beamacorn::{ByteOrder, Circle, Frame, Point};
+//! use beamacorn::{ByteOrder, Frame, Line, Point};
 //!
-//! let pane = Frame::packed(32, 24, 1, ByteOrder::LittleEndian);
+//! let pane = Frame::packed(320, 200, 1, ByteOrder::LittleEndian);
 //! let mut buf = vec![0; pane.size()?];
-//! let seen = pane.draw_circle(&mut buf, Circle::new(Point::new(-3, 8), 9), 1)?;
-//! assert_eq!(pane.lit(&buf), Ok(seen));
+//! let on = Line::new(Point::new(300, 100), Point::new(900, 400));
+//! let below = Line::new(Point::new(0, 250), Point::new(319, 300));
+//! assert_eq!(pane.draw_line(&mut buf, on, 1), Ok(20));
+//! assert_eq!(pane.draw_line(&mut buf, below, 1), Ok(0));
+//! assert_eq!(pane.lit(&buf), Ok(20));
 //!
 //! let mut file = vec![0; pane.image_size()?];
 //! pane.write_image(&buf, &mut file)?;
-//! assert!(file.starts_with(b"P4\n32 24\n"));
+//! assert!(file.starts_with(b"P4\n320 200\n"));
 //! # Ok::<(), beamacorn::Refusal>(())
 //! ```
 //!

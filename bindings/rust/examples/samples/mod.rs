@@ -16,7 +16,9 @@ pub enum Trouble {
     TooLong,
     /// The number of the first line that is no such line, and which field, counted from 1: 0, if it has another number of fields or more than 128 bytes.
     BadLine(u64, usize),
+    /// The wedge is refused, or a call on a frame.
     Refused(Refusal),
+    /// A read failed.
     Unread(io::Error),
 }
 

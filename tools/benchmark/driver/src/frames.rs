@@ -180,7 +180,13 @@ fn grown_circle<'a>() -> Race<'a> {
 }
 
 fn grown<'a>(figure: &str, small: Work<'a>, large: Work<'a>) -> Race<'a> {
-    Race { name: format!("{figure} grown from n to 4n, cost a painted byte"), against: "ours at n", goal: Some(1.2), ours: large, other: small }
+    Race {
+        name: format!("{figure} grown from n to 4n, cost a painted byte"),
+        against: "ours at n",
+        goal: Some(1.2),
+        ours: large,
+        other: small,
+    }
 }
 
 fn draw_half<'a>(depth: u32) -> Work<'a> {

@@ -15,19 +15,21 @@ const STACK: usize = 256 << 20;
 
 fn main() -> ExitCode {
     let Some(runs) = env::args().nth(1).and_then(|word| word.parse().ok()) else {
-        eprintln!("usage: benchmark RUNS");
+        eprintln!("usage: benchmark RUNS [TEXT]");
         return ExitCode::from(2);
     };
-    let measuring = thread::Builder::new().stack_size(STACK).spawn(move || table(runs)).unwrap();
+    let text = env::args().nth(2).unwrap_or_default();
+    let measuring = thread::Builder::new().stack_size(STACK).spawn(move || table(runs, &text)).unwrap();
     // What a panic has to say, it has said: the sides disagree, or our library refused.
     measuring.join().map_or(ExitCode::FAILURE, |()| ExitCode::SUCCESS)
 }
 
-fn table(runs: usize) {
+/// The rows whose name has the text.
+fn table(runs: usize, text: &str) {
     println!("| Work | Against | Ours, median (quartiles) | The other | Ratio | Goal | |");
     println!("|---|---|---|---|---|---|---|");
     let races = [figures::races(), frames::races(), images::races(), lights::races()];
-    for race in races.into_iter().flatten() {
+    for race in races.into_iter().flatten().filter(|race| race.name.contains(text)) {
         println!("{}", race.row(runs));
     }
 }

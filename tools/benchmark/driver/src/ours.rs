@@ -94,7 +94,8 @@ pub fn write_image(buf: &[u8], width: u32, height: u32, depth: u32, order: u32, 
 /// Reads the file into the frame.
 pub fn read_image(buf: &mut [u8], width: u32, height: u32, depth: u32, order: u32, file: &[u8]) {
     let distance = distance(width, depth);
-    let number = unsafe { beamacorn_read_image(buf.as_mut_ptr(), buf.len(), width, height, depth, order, distance, file.as_ptr(), file.len()) };
+    let number =
+        unsafe { beamacorn_read_image(buf.as_mut_ptr(), buf.len(), width, height, depth, order, distance, file.as_ptr(), file.len()) };
     assert_eq!(number, 0, "our library refused");
 }
 

@@ -1,12 +1,15 @@
 //! Prints the table of docs/BENCHMARKS.md: our library beside the Rust, `memset` and `memcpy`, from one run.
 
+mod expected;
 mod figures;
 mod frames;
+mod growth;
 mod images;
 mod inputs;
 mod lights;
 mod ours;
 mod race;
+mod shapes;
 
 use std::{env, process::ExitCode, thread};
 
@@ -28,7 +31,7 @@ fn main() -> ExitCode {
 fn table(runs: usize, text: &str) {
     println!("| Work | Against | Ours, median (quartiles) | The other | Ratio | Goal | |");
     println!("|---|---|---|---|---|---|---|");
-    let races = [figures::races(), frames::races(), images::races(), lights::races()];
+    let races = [figures::races(), frames::races(), growth::races(), images::races(), lights::races()];
     for race in races.into_iter().flatten().filter(|race| race.name.contains(text)) {
         println!("{}", race.row(runs));
     }

@@ -1,4 +1,4 @@
-//! Prints the table of docs/BENCHMARKS.md: our library beside the Rust, `memset` and `memcpy`, from one run.
+//! Prints the table of docs/BENCHMARKS.md: our library beside the Rust, `memset`, `memcpy`, libgd and cairo, from one run.
 
 mod expected;
 mod figures;
@@ -8,6 +8,7 @@ mod images;
 mod inputs;
 mod lights;
 mod ours;
+mod peers;
 mod race;
 mod shapes;
 
@@ -29,10 +30,25 @@ fn main() -> ExitCode {
 
 /// The rows whose name has the text.
 fn table(runs: usize, text: &str) {
+    say_what_is_at_hand();
     println!("| Work | Against | Ours, median (quartiles) | The other | Ratio | Goal | |");
     println!("|---|---|---|---|---|---|---|");
     let races = [figures::races(), frames::races(), growth::races(), images::races(), lights::races()];
-    for race in races.into_iter().flatten().filter(|race| race.name.contains(text)) {
+    for race in races.into_iter().flatten().chain(peers::races()).filter(|race| race.name.contains(text)) {
         println!("{}", race.row(runs));
     }
+}
+
+fn say_what_is_at_hand() {
+    for (name, version) in peers::versions() {
+        match version {
+            Some(version) => println!("{name} {version}"),
+            None => {
+                let missing = format!("{name} is not at hand: no row is measured beside it");
+                eprintln!("{missing}");
+                println!("{missing}");
+            }
+        }
+    }
+    println!();
 }

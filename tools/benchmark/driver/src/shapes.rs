@@ -2,11 +2,14 @@
 
 use crate::{
     expected::{colour, new_frame, painted, SIDE},
-    inputs::Vertices,
+    inputs::{Inputs, Vertices},
     ours::{Frame, Place},
     race::Work,
 };
 use std::hint::black_box;
+
+/// So many small figures are drawn in turn, each at a place of its own.
+const PLACES: usize = 100;
 
 /// So many level or upright lines are drawn in turn, side by side. Their bytes at depth 8 fit the processor's nearest cache.
 pub const LINES: i32 = 16;
@@ -45,6 +48,7 @@ pub const FAR_EDGE_15_000: Disc = ((-1_173, -1_173), 15_000);
 /// Calls of one kind.
 #[derive(Clone)]
 pub enum Shapes {
+    Pixels(Vec<Place>),
     Lines(Vec<[Place; 2]>),
     Triangles(Vec<Vertices>),
     Circles(Vec<Disc>),
@@ -55,6 +59,7 @@ impl Shapes {
     /// How many calls these are.
     pub fn count(&self) -> usize {
         match self {
+            Shapes::Pixels(pixels) => pixels.len(),
             Shapes::Lines(lines) => lines.len(),
             Shapes::Triangles(triangles) => triangles.len(),
             Shapes::Circles(circles) => circles.len(),
@@ -74,6 +79,10 @@ impl Shapes {
         Shapes::Circles(vec![disc])
     }
 
+    pub fn pixels() -> Self {
+        Shapes::Pixels(Inputs::new().pixels(PIXELS, (0, LAST), |_| true))
+    }
+
     pub fn level_lines((first, last): Place) -> Self {
         Shapes::Lines((0..LINES).map(|y| [(first, y), (last, y)]).collect())
     }
@@ -81,6 +90,26 @@ impl Shapes {
     pub fn upright_lines((first, last): Place) -> Self {
         Shapes::Lines((0..LINES).map(|x| [(x, first), (x, last)]).collect())
     }
+
+    /// Each of 40 points.
+    pub fn small_lines() -> Self {
+        Shapes::Lines(places().map(|(x, y)| [(x, y), (x + 39, y + 17)]).collect())
+    }
+
+    /// Each in a box of 30 by 34 pixels.
+    pub fn small_triangles() -> Self {
+        Shapes::Triangles(places().map(|(x, y)| [(x, y), (x + 29, y + 11), (x + 8, y + 33)]).collect())
+    }
+
+    /// Each of a diameter of 31.
+    pub fn small_circles() -> Self {
+        Shapes::Circles(places().map(|place| (place, 31)).collect())
+    }
+}
+
+/// Places of small figures, which then lie on the frame as a whole.
+fn places() -> impl Iterator<Item = Place> {
+    Inputs::new().pixels(PLACES, (0, LAST - 40), |_| true).into_iter()
 }
 
 /// One that draws on a frame of its own.
@@ -114,6 +143,7 @@ impl Side for Ours {
     fn draw(&mut self, shapes: &Shapes) {
         let (frame, colour) = (&mut self.frame, colour(self.depth));
         match shapes {
+            Shapes::Pixels(pixels) => pixels.iter().for_each(|p| frame.set_pixel(*p, colour)),
             Shapes::Lines(lines) => lines.iter().for_each(|[start, end]| frame.draw_line(*start, *end, colour)),
             Shapes::Triangles(triangles) => triangles.iter().for_each(|vertices| frame.draw_triangle(*vertices, colour)),
             Shapes::Circles(circles) => circles.iter().for_each(|(top_left, diameter)| frame.draw_circle(*top_left, *diameter, colour)),

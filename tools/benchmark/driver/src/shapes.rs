@@ -37,7 +37,7 @@ pub const BEYOND_THE_FRAME: Place = (-98_976, 101_023);
 /// A circle by the corner of its box and its diameter.
 pub type Disc = (Place, u32);
 
-/// About the frame's corner (0, 0). The first is as large as covers the frame wherever it is, since its box must end within the range.
+/// About the frame's corner (0, 0), and over the whole frame: wherever the range lets a circle of 200,000 lie, it covers that.
 pub const FAR_CIRCLE: Disc = ((-100_000, -100_000), 200_000);
 pub const FAR_CIRCLE_20_000: Disc = ((-10_000, -10_000), 20_000);
 

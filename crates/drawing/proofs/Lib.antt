@@ -1,5 +1,6 @@
 pub mod Figures
 pub mod Clipped
+pub mod Level
 pub mod Rows
 pub mod Fill
 pub mod Circles

@@ -109,11 +109,24 @@ fn draw_edge(buf: &mut [u8], brush: Brush, earlier: Earlier, start: Point, end: 
     seen
 }
 
+// A level line is a span of its row.
+fn draw_level(buf: &mut [u8], brush: Brush, start: Point, end: Point) -> u32
+    requires { ⌜ Ready brush (length (now buf)) × (Bounded start × Bounded end) × (start .1 ≡ end .1) ⌝ }
+    ensures { λ r. ⌜ (r, now (buf .exit)) ≡ brushed brush (lineFigure start end) (now (buf .entry)) ⌝ }
+{
+    let y = start.1;
+    let row = triangle::bresenham_intersection(start, end, y);
+    framebuffer::paint_span(buf, brush, y, row.0, row.1)
+}
+
 // The same of a line by itself: no edge comes before it.
 fn draw_alone(buf: &mut [u8], brush: Brush, start: Point, end: Point) -> u32
     requires { ⌜ Ready brush (length (now buf)) × (Bounded start × Bounded end) ⌝ }
     ensures { λ r. ⌜ (r, now (buf .exit)) ≡ brushed brush (lineFigure start end) (now (buf .entry)) ⌝ }
 {
+    if start.1 == end.1 {
+        return draw_level(buf, brush, start, end);
+    }
     let none = Earlier {
         edges: 0,
         a: start,

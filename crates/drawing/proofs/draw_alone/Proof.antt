@@ -1,21 +1,35 @@
--- `drawing::draw_alone` draws an edge before which there is none, so that all its points are new. Assumes nothing.
+-- `drawing::draw_alone` paints a level line as a span, and draws any other as an edge before which there is none, so that all its points are new. Assumes nothing.
+use mir.Syntax.{w32}
 use borrow.Author.Needs.{needs}
+use Rattle.whole.proofs.Machine.{eq-bits}
+use Rattle.geometry.proofs.Bound.{coord-fits}
 use Rattle.drawing.specs.Figure.{lineFigure}
 use Rattle.drawing.proofs.Figures.{none-earlier}
 use Rattle.drawing.proofs.draw_alone.Statement.{statement}
 use Rattle.drawing.proofs.draw_alone.Tie as tie
 
-draw-edge-requires : tie.Need-draw-edge-requires
-draw-edge-requires c κs = let s = c .before .before in let h = s .pre .1 .0 in (s .pre .0, (h, h, h), s .pre .1)
+draw-level-requires : tie.Need-draw-level-requires
+draw-level-requires c κs =
+    let s = c .before .before .before .before .before .before .before in
+    (s .pre .0, s .pre .1, eq-bits {w = w32} (coord-fits (s .pre .1 .0 .y)) (coord-fits (s .pre .1 .1 .y)) (c .before .if1 .taken))
 
 same-length : tie.Need-same-length
 same-length c = search needs
 
 returns : tie.Need-returns
-returns c =
+returns c = search needs
+
+draw-edge-requires : tie.Need-draw-edge-requires
+draw-edge-requires c κs = let s = c .before .before .before .before .before .before .before in let h = s .pre .1 .0 in (s .pre .0, (h, h, h), s .pre .1)
+
+same-length-2 : tie.Need-same-length-2
+same-length-2 c = search needs
+
+returns-2 : tie.Need-returns-2
+returns-2 c =
     let edge = c .before .before in
-    let a = edge .before .before .before .args in
+    let a = edge .before .before .before .before .before .before .before .before .args in
     none-earlier (a .brush) (lineFigure (a .start) (a .end)) (a .buf .now) (edge .draw-edge .ensures .0) (edge .draw-edge .ensures .1)
 
 pub draw-alone-spec : {M : Type 1} → statement M
-draw-alone-spec = tie.close (tie.spec draw-edge-requires same-length returns)
+draw-alone-spec = tie.close (tie.spec draw-level-requires same-length returns draw-edge-requires same-length-2 returns-2)

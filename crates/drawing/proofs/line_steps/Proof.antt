@@ -70,7 +70,7 @@ add-held c = omega (arith, rows-few c)
 held-requires : tie.Need-held-requires
 held-requires c κs =
     let p = entry (c .before) .pre in
-    (coord-read (p .1 .0 .y), omega (arith, p .0 .2, p .0 .3), p .0 .3, rows-few c)
+    (coord-read (p .1 .0 .y), omega (arith, p .0 .2, p .0 .3), p .0 .3, omega (arith, rows-few c))
 
 returns : tie.Need-returns
 returns c =
@@ -89,7 +89,7 @@ add-held-2 c = omega (arith, columns-few c)
 held-requires-2 : tie.Need-held-requires-2
 held-requires-2 c κs =
     let p = entry (c .before) .pre in
-    (coord-read (p .1 .0 .x), omega (arith, p .0 .0, p .0 .1), p .0 .1, columns-few c)
+    (coord-read (p .1 .0 .x), omega (arith, p .0 .0, p .0 .1), p .0 .1, omega (arith, columns-few c))
 
 returns-2 : tie.Need-returns-2
 returns-2 c =

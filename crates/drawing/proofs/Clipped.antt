@@ -18,7 +18,7 @@ use Rattle.connected.specs.Connected.{besideBoth, indexOf, lastIndex, connected
 use Rattle.connected.proofs.Indices.{Grows, View, normal, extra, view, index-more, grows-index, normal-at, extra-at}
 use Rattle.framebuffer.specs.declared.Steps.{Steps}
 use Rattle.framebuffer.specs.declared.Window.{Window}
-use Rattle.framebuffer.specs.Interval.{isStep, Held}
+use Rattle.framebuffer.specs.Interval.{Held}
 use Rattle.framebuffer.specs.Window.{inWindow}
 use Rattle.framebuffer.proofs.Interval.{step-before, step-after}
 use Rattle.drawing.specs.Clipped.{majorHeld, LineSteps}

@@ -166,6 +166,38 @@ after-earlier q P s t before b {m} same e f g =
         ∙ pixels-cong (raster (q .frame)) _ _ (λ x y hx hy.
         all (inWindow (q .window) (pos x) (pos y)) (s (pos x) (pos y)) (t (pos x) (pos y)) (before (pos x) (pos y)) (same (pos x) (pos y)))
 
+-- a figure drawn after that part of it which an earlier one has: what is new is the rest
+pub after-part : (q : Brush) → Placing (raster (q .frame)) → (before t : ℤ → ℤ → Bool) (b : List ℕ) {old all : ℕ} {now next : List ℕ}
+    → (old, now) ≡ brushed q (λ x y. t x y && before x y) b → (all, next) ≡ brushed q t now
+    → (old + brushed q (newIn before t) b .0 ≡ all) × (next ≡ brushed q t b .1)
+after-part q P before t b {old} {all} e f = (
+  (λ i. e i .0 + brushed q (newIn before t) b .0) ∙ together ∙ sym (λ i. f i .0),
+  (λ i. f i .1) ∙ (λ i. brushed q t (e i .1) .1) ∙ brushed-then q P b (λ x y. t x y && before x y) t
+      ∙ painted-cong (raster (q .frame)) P (q .colour) b _ _
+      (λ x y hx hy. ap (λ (u : Bool). inWindow (q .window) (pos x) (pos y) && u) (whole (t (pos x) (pos y)) (before (pos x) (pos y)))),
+)
+  where
+    none : (w a e : Bool) → (w && (a && e)) && (w && (a && not e)) ≡ false
+    none false a e = refl
+    none true false e = refl
+    none true true true = refl
+    none true true false = refl
+
+    all-of : (w a e : Bool) → (w && (a && e)) || (w && (a && not e)) ≡ (w && a)
+    all-of false a e = refl
+    all-of true false e = refl
+    all-of true true true = refl
+    all-of true true false = refl
+
+    whole : (a e : Bool) → (a && e) || a ≡ a
+    whole true e = or-true e
+    whole false e = refl
+
+    together : brushed q (λ x y. t x y && before x y) b .0 + brushed q (newIn before t) b .0 ≡ brushed q t b .0
+    together =
+        sym (pixels-add (raster (q .frame)) _ _ (λ x y hx hy. none (inWindow (q .window) (pos x) (pos y)) (t (pos x) (pos y)) (before (pos x) (pos y))))
+        ∙ pixels-cong (raster (q .frame)) _ _ (λ x y hx hy. all-of (inWindow (q .window) (pos x) (pos y)) (t (pos x) (pos y)) (before (pos x) (pos y)))
+
 -- along a walk
 module _ {q : Brush} {len : ℕ} (R : Ready q len) (before : ℤ → ℤ → Bool) (path : ℕ → Point) (b : List ℕ) where
   abbrev new : ℕ → ℤ → ℤ → Bool

@@ -5,6 +5,7 @@ ghost use mathlib.Core.Bool.{not, _&&_};
 ghost use mathlib.Core.List.{_++_};
 ghost use Prim.Native.Nat.{_-_, _≤_};
 ghost use lib.ListN.{length};
+ghost use lib.Signed.{_≤ℤ_};
 ghost use Rattle.refusals.specs.First.{first};
 ghost use Rattle.layout.specs.Count.{oneIf};
 ghost use Rattle.geometry.specs.Bound.{Bounded};
@@ -226,7 +227,41 @@ fn triangle_number(frame: Frame, len: usize, v1: Point, v2: Point, v3: Point, co
     triangle::refusal(v1, v2, v3)
 }
 
-// The three sorted edges of an accepted outline, as far as the rectangle holds them; a pixel of two of them counts once.
+// The level edge b to c behind the edge a to b, which runs down to it: a span, of which the columns that a to b has on its row are not new. These are painted first, and
+// counted by that.
+fn draw_level_after(buf: &mut [u8], brush: Brush, a: Point, b: Point, c: Point) -> u32
+    requires { ⌜ Ready brush (length (now buf)) × (Bounded a × Bounded b × Bounded c) × (a .1 ≤ℤ b .1) × (b .1 ≡ c .1) ⌝ }
+    ensures { λ r. ⌜ (r ≡ brushed brush (newIn (lineFigure a b) (lineFigure b c)) (now (buf .entry)) .0)
+        × (now (buf .exit) ≡ brushed brush (lineFigure b c) (now (buf .entry)) .1) ⌝ }
+{
+    let y = b.1;
+    let row = triangle::bresenham_intersection(b, c, y);
+    let had = triangle::bresenham_intersection(a, b, y);
+    let first = geometry::greater(row.0, had.0);
+    let past = geometry::lesser(row.1, had.1);
+    let old = framebuffer::paint_span(buf, brush, y, first, past);
+    framebuffer::paint_span(buf, brush, y, row.0, row.1) - old
+}
+
+// An outline's second edge, b to c, behind its first, a to b.
+fn draw_second(buf: &mut [u8], brush: Brush, a: Point, b: Point, c: Point) -> u32
+    requires { ⌜ Ready brush (length (now buf)) × (Bounded a × Bounded b × Bounded c) × (a .1 ≤ℤ b .1) ⌝ }
+    ensures { λ r. ⌜ (r ≡ brushed brush (newIn (lineFigure a b) (lineFigure b c)) (now (buf .entry)) .0)
+        × (now (buf .exit) ≡ brushed brush (lineFigure b c) (now (buf .entry)) .1) ⌝ }
+{
+    if b.1 == c.1 {
+        return draw_level_after(buf, brush, a, b, c);
+    }
+    let first = Earlier {
+        edges: 1,
+        a: a,
+        b: b,
+        c: c,
+    };
+    draw_edge(buf, brush, first, b, c)
+}
+
+// The three sorted edges of an accepted outline, as far as the rectangle holds them; a pixel of two of them counts once. At zero area they are the longest of them.
 fn draw_edges(buf: &mut [u8], brush: Brush, v1: Point, v2: Point, v3: Point) -> u32
     requires { ⌜ Ready brush (length (now buf)) × (Bounded v1 × Bounded v2 × Bounded v3) ⌝ }
     ensures { λ r. ⌜ (r, now (buf .exit)) ≡ brushed brush (outlineFigure v1 v2 v3) (now (buf .entry)) ⌝ }
@@ -235,12 +270,9 @@ fn draw_edges(buf: &mut [u8], brush: Brush, v1: Point, v2: Point, v3: Point) -> 
     let p1 = t.p1;
     let p2 = t.p2;
     let p3 = t.p3;
-    let first = Earlier {
-        edges: 1,
-        a: p1,
-        b: p2,
-        c: p3,
-    };
+    if !triangle::is_solid(v1, v2, v3) {
+        return draw_alone(buf, brush, p1, p3);
+    }
     let both = Earlier {
         edges: 2,
         a: p1,
@@ -248,7 +280,7 @@ fn draw_edges(buf: &mut [u8], brush: Brush, v1: Point, v2: Point, v3: Point) -> 
         c: p3,
     };
     let of_first = draw_alone(buf, brush, p1, p2);
-    let of_second = draw_edge(buf, brush, first, p2, p3);
+    let of_second = draw_second(buf, brush, p1, p2, p3);
     of_first + of_second + draw_edge(buf, brush, both, p1, p3)
 }
 

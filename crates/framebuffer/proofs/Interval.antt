@@ -7,7 +7,6 @@ use lib.Dec.{leb, ltb}
 use lib.IntN.{ℤ, pos, negsuc, _+ℤ_, _-ℤ_, _*ℤ_}
 use lib.Signed.{leZ, ltZ, _≤ℤ_, _<ℤ_}
 use borrow.Author.Tests.{leb-true, ltb-true, le-leb, lt-leb, lt-ltb, le-ltb}
-use Rattle.whole.specs.Interval.{between}
 use Rattle.whole.proofs.Decides.{decides-one, decides-map, decides-le, decides-lt}
 use Rattle.whole.proofs.Difference.{as-mk, mks, mk-eq, eq-mk, le-nat, lt-nat, nat-le, nat-lt}
 use Rattle.whole.proofs.Tests.{same-test}

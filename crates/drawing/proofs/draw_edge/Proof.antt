@@ -1,14 +1,14 @@
 -- `drawing::draw_edge` sets the points that the walker hands out, one a turn: before step k those of the steps below k are set, and those that no earlier
 -- edge has are counted. The steps that are left out lead out of the rectangle. No step leads where one before it led. Assumes nothing.
-use mathlib.Core.Path.{_≡_, refl, sym, ap, subst, _∙_}
+use mathlib.Core.Path.{_≡_, refl, sym, subst, _∙_}
 use mathlib.Core.Bool.{not, _&&_}
-use Prim.Native.Nat.{ℕ, _+_, _-_, _≤_}
+use Prim.Native.Nat.{ℕ, _-_, _≤_}
 use native.Mathlib.Omega.{arith}
 use lib.ListN.{length}
 use borrow.Author.Needs.{needs}
 use Rattle.geometry.specs.declared.Point.{Point}
 use Rattle.line.specs.Line.{points, pointAt}
-use Rattle.line.specs.Walk.{WalkerAt, Walking}
+use Rattle.line.specs.Walk.{WalkerAt}
 use Rattle.line.proofs.Apart.{steps-apart}
 use Rattle.line.proofs.Lengths.{points-most}
 use Rattle.layout.proofs.Counts.{one-small}

@@ -30,6 +30,7 @@ module _ (q : Window) (s e : Point) {t : Steps} where
   steep-steps axis h =
       let n : points s e ≡ high s e + 1 = ap (λ (n : ℕ). n + 1) (major-by s e true axis) in
       record {
+        first = omega (arith, h .first);
         most = omega (arith, h .most);
         exactly = λ k few.
             h .exactly k (omega arith)
@@ -42,6 +43,7 @@ module _ (q : Window) (s e : Point) {t : Steps} where
   level-steps axis h =
       let n : points s e ≡ wide s e + 1 = ap (λ (n : ℕ). n + 1) (major-by s e false axis) in
       record {
+        first = omega (arith, h .first);
         most = omega (arith, h .most);
         exactly = λ k few.
             h .exactly k (omega arith)

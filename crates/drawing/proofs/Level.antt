@@ -1,9 +1,12 @@
--- Laws of level lines: the points of an edge on one row are the columns of a span, and a level line is the span of its row. Assumes nothing.
+-- Laws of level and of upright lines: the points of an edge on one row are the columns of a span, a level line is the span of its row, and an upright one has one point on each
+-- row. Assumes nothing.
 use mathlib.Core.Path.{_≡_, refl, sym, ap, _∙_}
 use mathlib.Core.Bool.{Bool, true, false, _&&_}
 use mathlib.Core.Logic.{inl, inr, ⊎-elim}
+use Prim.Native.Nat.{ℕ, _≤_}
 use native.Mathlib.Omega.{arith}
-use lib.IntN.{ℤ, pos}
+use borrow.Author.Tests.{le-leb}
+use lib.IntN.{ℤ, pos, natAbs, _+ℤ_, _-ℤ_, _*ℤ_, +ℤ-invr}
 use lib.Signed.{_≤ℤ_}
 use Rattle.whole.specs.Equal.{eqZ}
 use Rattle.whole.specs.Interval.{between}
@@ -13,8 +16,10 @@ use Rattle.whole.proofs.Order.{le-antisym, le-of, le-trans, lt-le-lt, le-lt-mor
 use Rattle.geometry.specs.declared.Point.{Point}
 use Rattle.geometry.specs.Extreme.{lesser, greater}
 use Rattle.geometry.proofs.Extreme.{extremes}
-use Rattle.line.specs.Line.{hasPoint, HasPoint}
-use Rattle.line.proofs.Points.{has-decides}
+use Rattle.line.specs.Line.{toward, wide, high, steep, major, xMoves, pointAt, hasPoint, HasPoint}
+use Rattle.line.proofs.Lengths.{major-by, x-by, y-by}
+use Rattle.line.proofs.Moves.{moves-minor}
+use Rattle.line.proofs.Points.{stay, has-decides}
 use Rattle.triangle.specs.declared.Columns.{Columns}
 use Rattle.triangle.specs.Row.{hull, inSpan, lineColumns}
 use Rattle.triangle.proofs.Edge.{edge-rows, no-gap}
@@ -103,3 +108,12 @@ level-both a b c down level =
         off : (p q r s : Bool) → r ≡ false → ((p && q) && r) ≡ ((p && r) && s)
         off true q r s h = and-none q r h ∙ sym (ap (λ (r : Bool). r && s) h)
         off false q r s h = refl
+
+-- ---- an upright line stays in its column: each step is a row on
+pub upright-at : (s e : Point) (k : ℕ) → s .0 ≡ e .0 → k ≤ major s e → pointAt s e k ≡ (s .0, s .1 +ℤ toward (s .1) (e .1) *ℤ pos k)
+unfolding pointAt wide
+upright-at s e k same walked =
+    let none : wide s e ≡ 0 = ap (λ (z : ℤ). natAbs (z -ℤ s .0)) (sym same) ∙ ap natAbs (+ℤ-invr (s .0)) in
+    let axis : steep s e ≡ true = le-leb (wide s e) (high s e) (omega arith) in
+    let still : xMoves s e k ≡ 0 = x-by s e true axis k ∙ omega (arith, moves-minor (high s e) (wide s e) k (omega (arith, major-by s e true axis))) in
+    λ i. ((ap (λ (n : ℕ). s .0 +ℤ toward (s .0) (e .0) *ℤ pos n) still ∙ stay (s .0) (e .0)) i, s .1 +ℤ toward (s .1) (e .1) *ℤ pos (y-by s e true axis k i))

@@ -16,5 +16,6 @@ majorHeld q s e p = cond (steep s e) (between (pos (q .top)) (pos (q .bottom)) (
 
 -- t are exactly the steps at which it has that of the line's point
 pub record LineSteps (q : Window) (s e : Point) (t : Steps) : Type 0 where
+  pub first : t .from ≤ points s e
   pub most : t .past ≤ points s e
   pub exactly : (k : ℕ) → k < points s e → isStep t k ≡ majorHeld q s e (pointAt s e k)

@@ -7,7 +7,7 @@ use Rattle.circle.specs.Refusal.{circleTests}
 use Rattle.framebuffer.specs.Drawing.{Drawing}
 use Rattle.drawing.specs.Figure.{lineFigure, connectedFigure, triangleFigure, outlineFigure, circleFigure}
 
--- "Drawing a line, a triangle, an outline: 1 to 5"
+-- "Drawing a line, a triangle, an outline: 1 to 5", and 14 behind 2 (02, T-07)
 abbrev pub lineDrawing : Point → Point → ℕ → Drawing
 lineDrawing s e colour = record { figure = lineFigure s e; colour = colour; own = endTests s e }
 
@@ -17,7 +17,7 @@ triangleDrawing v1 v2 v3 colour = record { figure = triangleFigure v1 v2 v3; col
 abbrev pub outlineDrawing : Point → Point → Point → ℕ → Drawing
 outlineDrawing v1 v2 v3 colour = record { figure = outlineFigure v1 v2 v3; colour = colour; own = vertexTests v1 v2 v3 }
 
--- "a circle: 1 to 6"
+-- "a circle: 1 to 6", and 14 behind 2
 abbrev pub circleDrawing : Point → ℕ → ℕ → Drawing
 circleDrawing c d colour = record { figure = circleFigure c d; colour = colour; own = circleTests c d }
 

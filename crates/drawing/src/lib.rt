@@ -120,6 +120,26 @@ fn draw_level(buf: &mut [u8], brush: Brush, start: Point, end: Point) -> u32
     framebuffer::paint_span(buf, brush, y, row.0, row.1)
 }
 
+// An upright line stays in its column.
+fn draw_upright(buf: &mut [u8], brush: Brush, start: Point, end: Point) -> u32
+    requires { ⌜ Ready brush (length (now buf)) × (Bounded start × Bounded end) × (start .0 ≡ end .0) ⌝ }
+    ensures { λ r. ⌜ (r, now (buf .exit)) ≡ brushed brush (lineFigure start end) (now (buf .entry)) ⌝ }
+{
+    let steps = line_steps(brush.window, start, end);
+    let past = steps.past;
+    let x = start.0;
+    let from = start.1;
+    let on = line::direction(from, end.1);
+    let mut seen = 0u32;
+    let mut k = steps.from;
+    while k < past {
+        let y = from + on * (k as i32);
+        seen += framebuffer::put_point(buf, brush, Point(x, y)) as u32;
+        k += 1;
+    }
+    seen
+}
+
 // The same of a line by itself: no edge comes before it.
 fn draw_alone(buf: &mut [u8], brush: Brush, start: Point, end: Point) -> u32
     requires { ⌜ Ready brush (length (now buf)) × (Bounded start × Bounded end) ⌝ }
@@ -127,6 +147,9 @@ fn draw_alone(buf: &mut [u8], brush: Brush, start: Point, end: Point) -> u32
 {
     if start.1 == end.1 {
         return draw_level(buf, brush, start, end);
+    }
+    if start.0 == end.0 {
+        return draw_upright(buf, brush, start, end);
     }
     let none = Earlier {
         edges: 0,

@@ -76,6 +76,7 @@ module _ (a : ℤ) (low high count : ℕ) {t : Steps} where
   pub held-up : t .from ≡ clipped (pos low -ℤ a) 0 count → t .past ≡ clipped (pos high -ℤ a) 0 count → Held a true low high count t
   held-up from past =
       record {
+        first = rw from (clip-bounds (pos low -ℤ a) 0 count (omega arith) .1);
         most = rw past (clip-bounds (pos high -ℤ a) 0 count (omega arith) .1);
         exactly = λ k few.
             rw (from, past) (ap₂ _&&_ (near-le (pos low -ℤ a) few ∙ up-from a (pos low) (pos k)) (near-lt (pos high -ℤ a) few ∙ up-past a (pos high) (pos k)));
@@ -84,6 +85,7 @@ module _ (a : ℤ) (low high count : ℕ) {t : Steps} where
   pub held-down : t .from ≡ clipped (pos 1 -ℤ (pos high -ℤ a)) 0 count → t .past ≡ clipped (pos 1 -ℤ (pos low -ℤ a)) 0 count → Held a false low high count t
   held-down from past =
       record {
+        first = rw from (clip-bounds (pos 1 -ℤ (pos high -ℤ a)) 0 count (omega arith) .1);
         most = rw past (clip-bounds (pos 1 -ℤ (pos low -ℤ a)) 0 count (omega arith) .1);
         exactly = λ k few.
             rw (from, past)

@@ -67,11 +67,11 @@ descriptionTests f = (1, noDepth f) ∷ (2, tooLarge f) ∷ (14, noDistance f) �
 unfoldable pub frameTests : Frame → ℕ → Tests
 frameTests f len = descriptionTests f ++ ((3, tooShort f len) ∷ [])
 
--- "Setting a pixel, filling the frame: 1 to 4"
+-- "Setting a pixel, filling the frame: 1 to 4", and 14 behind 2
 unfoldable pub drawTests : Frame → ℕ → ℕ → Tests
 drawTests f len colour = frameTests f len ++ ((4, noColour f colour) ∷ [])
 
--- "Reading: 1 to 3, 8"
+-- "Reading: 1 to 3, 8", and 14 behind 2
 unfoldable pub readTests : Frame → ℕ → Point → Tests
 readTests f len p = frameTests f len ++ ((8, isOutside f p) ∷ [])
 

@@ -16,5 +16,6 @@ onFrom grows a k = a +ℤ cond grows (pos 1) (negsuc 0) *ℤ pos k
 
 -- t are, of the steps below count, exactly those at which a coordinate that begins at a lies from low to one before high
 pub record Held (a : ℤ) (grows : Bool) (low high count : ℕ) (t : Steps) : Type 0 where
+  pub first : t .from ≤ count
   pub most : t .past ≤ count
   pub exactly : (k : ℕ) → k < count → isStep t k ≡ between (pos low) (pos high) (onFrom grows a k)

@@ -12,7 +12,7 @@ use Rattle.lights.specs.declared.Lights.{Lights}
 abbrev pub notOneBit : Frame → Bool
 notOneBit f = not (eqb (f .depth) 1)
 
--- a frame over len bytes: "1 to 3, then 10 for another depth"
+-- a frame over len bytes: "1 to 3, then 10 for another depth", and 14 behind 2 (02, T-07)
 unfoldable pub litTests : Frame → ℕ → Tests
 litTests f len = frameTests f len ++ ((10, notOneBit f) ∷ [])
 

@@ -64,8 +64,8 @@ pub fn distance(a: i32, b: i32) -> i32
     d
 }
 
-// One place from a towards b.
-fn direction(a: i32, b: i32) -> i32
+// Inside the library: one place from a towards b.
+pub fn direction(a: i32, b: i32) -> i32
     ensures { λ r. ⌜ r ≡ toward a b ⌝ }
 {
     if a <= b {

@@ -1,4 +1,5 @@
--- `drawing::draw_alone` paints a level line as a span, and draws any other as an edge before which there is none, so that all its points are new. Assumes nothing.
+-- `drawing::draw_alone` paints a level line as a span and an upright one in its column, and draws any other as an edge before which there is none, so that all its points
+-- are new. Assumes nothing.
 use mir.Syntax.{w32}
 use borrow.Author.Needs.{needs}
 use Rattle.whole.proofs.Machine.{eq-bits}
@@ -17,19 +18,43 @@ same-length : tie.Need-same-length
 same-length c = search needs
 
 returns : tie.Need-returns
-returns c = search needs
+returns c = c .before .before .draw-level .ensures
 
-draw-edge-requires : tie.Need-draw-edge-requires
-draw-edge-requires c κs = let s = c .before .before .before .before .before .before .before in let h = s .pre .1 .0 in (s .pre .0, (h, h, h), s .pre .1)
+draw-upright-requires : tie.Need-draw-upright-requires
+draw-upright-requires c κs =
+    let s = c .before .before .before .before .before .before .before .before .before .before .before .before in
+    (s .pre .0, s .pre .1, eq-bits {w = w32} (coord-fits (s .pre .1 .0 .x)) (coord-fits (s .pre .1 .1 .x)) (c .before .if2 .taken))
 
 same-length-2 : tie.Need-same-length-2
 same-length-2 c = search needs
 
 returns-2 : tie.Need-returns-2
-returns-2 c =
+returns-2 c = c .before .before .draw-upright .ensures
+
+draw-edge-requires : tie.Need-draw-edge-requires
+draw-edge-requires c κs =
+    let s = c .before .before .before .before .before .before .before .before .before .before .before .before in
+    let h = s .pre .1 .0 in (s .pre .0, (h, h, h), s .pre .1)
+
+same-length-3 : tie.Need-same-length-3
+same-length-3 c = search needs
+
+returns-3 : tie.Need-returns-3
+returns-3 c =
     let edge = c .before .before in
-    let a = edge .before .before .before .before .before .before .before .before .args in
+    let a = edge .before .before .before .before .before .before .before .before .before .before .before .before .before .args in
     none-earlier (a .brush) (lineFigure (a .start) (a .end)) (a .buf .now) (edge .draw-edge .ensures .0) (edge .draw-edge .ensures .1)
 
 pub draw-alone-spec : {M : Type 1} → statement M
-draw-alone-spec = tie.close (tie.spec draw-level-requires same-length returns draw-edge-requires same-length-2 returns-2)
+draw-alone-spec =
+    tie.close
+    (tie.spec
+    draw-level-requires
+    same-length
+    returns
+    draw-upright-requires
+    same-length-2
+    returns-2
+    draw-edge-requires
+    same-length-3
+    returns-3)

@@ -1,13 +1,11 @@
 -- `drawing::draw_second` paints a level edge as a span, and walks any other, with the first edge before it. Assumes nothing.
-use mathlib.Core.Path.{_≡_, ap, _∙_}
-use mathlib.Core.Bool.{not, _&&_, _||_}
-use lib.IntN.{ℤ}
+use mathlib.Core.Path.{_∙_}
+use mathlib.Core.Bool.{not, _&&_}
 use mir.Syntax.{w32}
 use borrow.Author.Needs.{needs}
 use Rattle.whole.proofs.Machine.{eq-bits}
 use Rattle.geometry.proofs.Bound.{coord-fits}
 use Rattle.framebuffer.specs.Judged.{brushed}
-use Rattle.drawing.specs.Earlier.{newIn}
 use Rattle.drawing.specs.Figure.{lineFigure}
 use Rattle.drawing.proofs.Figures.{or-false}
 use Rattle.drawing.proofs.draw_second.Statement.{statement}

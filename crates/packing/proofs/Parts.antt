@@ -1,23 +1,22 @@
--- A colour in whole bytes, as the machine works its digits out, puts them together again, and repeats them. Assumes nothing.
-use mathlib.Core.Path.{_≡_, sym, ap, ap₂, _∙_, subst}
+-- A colour in whole bytes, as the machine works its digits out and puts them together again, and runs of such bytes. Assumes nothing.
+use mathlib.Core.Path.{_≡_, refl, sym, ap, ap₂, _∙_, subst}
 use mathlib.Core.Bool.{Bool, true}
 use mathlib.Core.List.{List, _++_}
-use mathlib.Core.Logic.{_⊎_, inl, inr}
-use Prim.Native.Nat.{ℕ, zero, suc, _+_, _-_, _*_, _/_, _%_, _^_, _≤_, _<_, min}
-use native.Mathlib.Nat.{mod-lt, mod-eq-of-lt, div-add-mod', mul-zero, mul-suc, mul-comm, div-one, div-div-eq-div-mul, not-suc-le-zero, mul-lt-mul-of-pos-right, pow-suc}
+use Prim.Native.Nat.{ℕ, zero, suc, _+_, _-_, _*_, _/_, _%_, _^_, _≤_, _<_}
+use native.Mathlib.Nat.{zero-add, le-refl, mod-eq-of-lt, mod-add-mod, mul-zero, mul-suc, mul-comm, div-one, div-div-eq-div-mul, not-suc-le-zero, mul-lt-mul-of-pos-right, pow-suc}
+use native.Mathlib.Numerals.{add-one}
 use native.Mathlib.Omega.{arith}
-use lib.Arith.{digits-mod}
 use lib.Bits.{bitAnd, bitOr, and-mask, or-shifted}
 use lib.Pow.{pow-pos, pow-add, pow-mono}
-use lib.ListN.{length, getD, set, take, drop, length-append, length-drop, List·getD-append}
-use lib.Seq.{getD-set-same, getD-set-other, getD-take, length-take-le}
+use lib.ListN.{length, getD, set, take, drop, replicate, length-drop}
+use lib.Seq.{length-take-le}
 use Rattle.layout.specs.Digits.{digit, value, setRun}
 use Rattle.layout.specs.Packed.{goodDepth, turned, fullByte}
-use Rattle.whole.proofs.Tests.{eq-or-not}
 use Rattle.layout.proofs.Cells.{value-cong}
 use Rattle.layout.proofs.Places.{large}
-use Rattle.layout.proofs.Runs.{run-length, run-in, run-is}
+use Rattle.layout.proofs.Runs.{run-in, run-cong, run-then, run-part}
 use Rattle.layout.proofs.Fields.{pow-mul, value-lt}
+use Rattle.packing.specs.Words.{pixelByte}
 
 -- a digit is what is left of a shift and a mask
 pub digit-is : (j v : ℕ) → bitAnd (v / 2 ^ (8 * j)) 255 ≡ digit 256 j v
@@ -50,98 +49,73 @@ next-digit n (suc j) sum x d b l p h es ex =
         let u : 2 ^ (8 * suc (n - suc j)) ≤ 4294967296 = pow-mono {i = 8 * suc (n - suc j)} {j = 32} (omega arith) in
         omega arith
 
--- ---- repeated bytes
--- one byte more takes what stands `lag` bytes before it
-pub repeat-turn : (b b₀ : List ℕ) (lag i : ℕ) → 0 < lag → lag ≤ i → i < length b → ((j : ℕ) → j < i → getD b j 0 ≡ getD b₀ (j % lag) 0)
-    → (j : ℕ) → j < i + 1 → getD (set b i (getD b (i - lag) 0)) j 0 ≡ getD b₀ (j % lag) 0
-repeat-turn b b₀ lag i p h l ih j q = go (eq-or-not j i)
-  where
-    back : (i - lag) % lag ≡ i % lag
-    back =
-        let e = div-add-mod' (i - lag) lag in
-        let f : ((i - lag) / lag + 1) * lag + (i - lag) % lag ≡ i = omega arith in
-        sym (ap (λ (k : ℕ). k % lag) (sym f) ∙ digits-mod ((i - lag) / lag + 1) (mod-lt (i - lag) p))
+-- ---- runs of bytes
+-- a run goes on by a byte
+pub run-turn : (i v : ℕ) (b₀ b : List ℕ) (g : ℕ → ℕ) → b ≡ setRun 0 i g b₀ → v ≡ g i → set b i v ≡ setRun 0 (i + 1) g b₀
+run-turn i v b₀ b g e f =
+    (λ z. set (e z) (sym (zero-add i) z) (f z)) ∙ ap (λ (k : ℕ). setRun 0 k g b₀) (sym (add-one i))
 
-    go : (j ≡ i) ⊎ (j ≡ i → ⊥) → getD (set b i (getD b (i - lag) 0)) j 0 ≡ getD b₀ (j % lag) 0
-    go (inl e) =
-        ap (λ (k : ℕ). getD (set b i (getD b (i - lag) 0)) k 0) e
-        ∙ getD-set-same b i (getD b (i - lag) 0) 0 l
-        ∙ ih (i - lag) (omega arith)
-        ∙ ap (λ (k : ℕ). getD b₀ k 0) (back ∙ ap (λ (k : ℕ). k % lag) (sym e))
-    go (inr f) = getD-set-other b i j (getD b (i - lag) 0) 0 f ∙ ih j (omega arith)
+-- as many bytes are lent as lie between the ends
+lent : (i e : ℕ) (b : List ℕ) → e ≤ length b → length (take (e - i) (drop i b)) ≡ e - i
+lent i e b h = length-take-le (e - i) (drop i b) (simp length-drop (omega arith))
 
--- the first bytes of b are repeated at a distance of p, and the others stay
-module _ (b t : List ℕ) (head p : ℕ) (h0 : 0 < p) (hh : head ≤ length b) (et : length t ≡ length (take head b)) where
-  head-length : length (take head b) ≡ head
-  head-length = length-take-le head b hh
+-- a run goes on through a part that follows it
+run-on : (i e : ℕ) (b₀ b s : List ℕ) (g h : ℕ → ℕ) → i ≤ e → e ≤ length b → b ≡ setRun 0 i g b₀
+    → s ≡ setRun 0 (length (take (e - i) (drop i b))) h (take (e - i) (drop i b)) → ((j : ℕ) → j < e - i → h j ≡ g (i + j))
+    → take i b ++ (s ++ drop (e - i) (drop i b)) ≡ setRun 0 e g b₀
+run-on i e b₀ b s g h l m eb es same =
+    let n : i + (e - i) ≡ e = omega arith in
+    run-part i (e - i) (length (take (e - i) (drop i b))) b (take (e - i) (drop i b)) s h (omega arith) refl (le-refl _) es
+    ∙ ap (λ (k : ℕ). setRun i k h b) (lent i e b m)
+    ∙ run-cong i (e - i) h (λ j. g (i + j)) b same
+    ∙ ap₂ (λ (k : ℕ) (t : List ℕ). setRun k (e - i) (λ j. g (i + j)) t) (sym (zero-add i)) eb
+    ∙ run-then 0 i (e - i) g b₀
+    ∙ ap (λ (k : ℕ). setRun 0 k g b₀) n
 
-  pub head-keeps : length (t ++ drop head b) ≡ length b
-  head-keeps = length-append t (drop head b) ∙ ap₂ (λ (i j : ℕ). i + j) (et ∙ head-length) (length-drop head b) ∙ omega arith
+-- of blocks, through as much of the next as there is room for
+pub block-on : (i e : ℕ) (b₀ b s block : List ℕ) → i % 48 ≡ 0 → e ≤ i + 48 → i ≤ e → e ≤ length b → b ≡ setRun 0 i (λ j. getD block (j % 48) 0) b₀
+    → s ≡ setRun 0 (length (take (e - i) (drop i b))) (λ j. getD block j 0) (take (e - i) (drop i b))
+    → take i b ++ (s ++ drop (e - i) (drop i b)) ≡ setRun 0 e (λ j. getD block (j % 48) 0) b₀
+block-on i e b₀ b s block z w l m eb es =
+    run-on i e b₀ b s (λ j. getD block (j % 48) 0) (λ j. getD block j 0) l m eb es (λ j h. let k : j ≡ (i + j) % 48 = omega arith in ap (λ (n : ℕ). getD block n 0) k)
 
-  pub head-repeats : ((j : ℕ) → j < length (take head b) → getD t j 0 ≡ getD (take head b) (j % p) 0) → (j : ℕ) → j < head → getD (t ++ drop head b) j 0 ≡ getD b (j % p) 0
-  head-repeats g j l =
-      let m = mod-lt j h0 in
-      List·getD-append t (drop head b) 0 j (subst (λ (k : ℕ). j < k) (sym (et ∙ head-length)) l)
-      ∙ g j (subst (λ (k : ℕ). j < k) (sym head-length) l)
-      ∙ getD-take head b (j % p) 0 (let e = div-add-mod' j p in omega arith)
+-- of pixels, through the next
+module _ (p i : ℕ) (b : List ℕ) (l : i + p ≤ length b) where
+  pub pixel-lent : length (take (i + p - i) (drop i b)) ≡ p
+  pixel-lent = let e = lent i (i + p) b l in omega arith
 
--- so are these to the end, at a distance of 768: that is a distance of 48
-pub repeated-on : (b t b′ : List ℕ) (head : ℕ) → head ≡ min (length b) 768 → length t ≡ length (take head b)
-    → ((j : ℕ) → j < length (take head b) → getD t j 0 ≡ getD (take head b) (j % 48) 0)
-    → ((j : ℕ) → j < length (t ++ drop head b) → getD b′ j 0 ≡ getD (t ++ drop head b) (j % 768) 0)
-    → (j : ℕ) → j < length b → getD b′ j 0 ≡ getD b (j % 48) 0
-repeated-on b t b′ head hh et gt g j l =
-    let k : head ≤ length b = omega arith in
-    g j (subst (λ (i : ℕ). j < i) (sym (head-keeps b t head 48 (omega arith) k et)) l)
-    ∙ head-repeats b t head 48 (omega arith) k et gt (j % 768) (omega arith)
-    ∙ ap (λ (i : ℕ). getD b i 0) (omega arith)
+  pub pixel-on : (b₀ s : List ℕ) (big : Bool) (c : ℕ) → i % p ≡ 0 → b ≡ setRun 0 i (pixelByte p big c) b₀
+      → s ≡ (let n = length (take (i + p - i) (drop i b)) in setRun 0 n (λ j. digit 256 (turned big n j) c) (take (i + p - i) (drop i b)))
+      → take i b ++ (s ++ drop (i + p - i) (drop i b)) ≡ setRun 0 (i + p) (pixelByte p big c) b₀
+  pixel-on b₀ s big c z eb es =
+      run-on i (i + p) b₀ b s (pixelByte p big c) _ (omega arith) l eb es
+      (λ j h. ap₂ (λ (n k : ℕ). digit 256 (turned big n k) c) pixel-lent (sym (within j (omega arith))))
+    where
+      within : (j : ℕ) → j < p → (i + j) % p ≡ j
+      within j h = sym (mod-add-mod i p j) ∙ ap (λ (k : ℕ). (k + j) % p) z ∙ ap (λ (k : ℕ). k % p) (zero-add j) ∙ mod-eq-of-lt h
 
--- 48 bytes hold whole pixels
-pub whole-pixels : (p j : ℕ) → 0 < p → p ≤ 4 → j % 48 % p ≡ j % p
-whole-pixels zero j h l = absurd (omega arith)
-whole-pixels (suc zero) j h l = omega arith
-whole-pixels (suc (suc zero)) j h l = omega arith
-whole-pixels (suc (suc (suc zero))) j h l = omega arith
-whole-pixels (suc (suc (suc (suc zero)))) j h l = omega arith
-whole-pixels (suc (suc (suc (suc (suc p))))) j h l = absurd (omega arith)
+-- among whole pixels there is room for one wherever one begins; and 48 bytes hold whole ones
+pub whole-pixels : (p i n : ℕ) → 0 < p → p ≤ 4 → (i % p ≡ 0 → n % p ≡ 0 → i < n → i + p ≤ n) × (n % 48 % p ≡ n % p)
+whole-pixels zero i n h l = absurd (omega arith)
+whole-pixels (suc zero) i n h l = (λ a b c. omega arith, omega arith)
+whole-pixels (suc (suc zero)) i n h l = (λ a b c. omega arith, omega arith)
+whole-pixels (suc (suc (suc zero))) i n h l = (λ a b c. omega arith, omega arith)
+whole-pixels (suc (suc (suc (suc zero)))) i n h l = (λ a b c. omega arith, omega arith)
+whole-pixels (suc (suc (suc (suc (suc p))))) i n h l = absurd (omega arith)
 
--- a pixel is stored at the front, repeated within the first bytes, and these to the end
-module _ (b s : List ℕ) (p colour : ℕ) (big : Bool) (h0 : 0 < p) (h4 : p ≤ 4) (hp : p ≤ length b)
-    (es : s ≡ setRun 0 (length (take p b)) (λ j. digit 256 (turned big (length (take p b)) j) colour) (take p b)) where
-  stored-length : length s ≡ p
-  stored-length = ap length es ∙ run-length 0 (length (take p b)) _ (take p b) ∙ length-take-le p b hp
+-- so 48 bytes of pixels, again and again, are a run of pixels
+pub block-of-pixels : (p : ℕ) (big : Bool) (c n : ℕ) (block b : List ℕ) → 0 < p → p ≤ 4 → block ≡ setRun 0 48 (pixelByte p big c) (replicate 48 0)
+    → setRun 0 n (λ j. getD block (j % 48) 0) b ≡ setRun 0 n (pixelByte p big c) b
+block-of-pixels p big c n block b h l e =
+    run-cong 0 n _ _ b
+    (λ j k. ap₂ (λ (t : List ℕ) (i : ℕ). getD t i 0) e (sym (zero-add (j % 48)))
+    ∙ run-in 0 48 (pixelByte p big c) (replicate 48 0) (j % 48) (omega arith) (omega arith)
+    ∙ ap (λ (i : ℕ). digit 256 (turned big p i) c) (whole-pixels p 0 j h l .1))
 
-  pub front-length : length (s ++ drop p b) ≡ length b
-  front-length = length-append s (drop p b) ∙ ap₂ (λ (i j : ℕ). i + j) stored-length (length-drop p b) ∙ omega arith
-
-  front-at : (j : ℕ) → j < p → getD (s ++ drop p b) j 0 ≡ digit 256 (turned big p j) colour
-  front-at j l =
-      List·getD-append s (drop p b) 0 j (subst (λ (k : ℕ). j < k) (sym stored-length) l)
-      ∙ ap (λ (z : List ℕ). getD z j 0) (es ∙ ap (λ (k : ℕ). setRun 0 k (λ i. digit 256 (turned big k i) colour) (take p b)) (length-take-le p b hp))
-      ∙ ap (λ (k : ℕ). getD (setRun 0 p (λ i. digit 256 (turned big p i) colour) (take p b)) k 0) (omega arith)
-      ∙ run-in 0 p (λ i. digit 256 (turned big p i) colour) (take p b) j l (let e = length-take-le p b hp in omega arith)
-
-  module _ (t : List ℕ) (head : ℕ) (hh : head ≡ min (length b) 48) (et : length t ≡ length (take head (s ++ drop p b))) where
-    fits : head ≤ length (s ++ drop p b)
-    fits = let e = front-length in omega arith
-
-    pub all-length : length (t ++ drop head (s ++ drop p b)) ≡ length b
-    all-length = head-keeps (s ++ drop p b) t head p h0 fits et ∙ front-length
-
-    pub pixels-repeated : ((j : ℕ) → j < length (take head (s ++ drop p b)) → getD t j 0 ≡ getD (take head (s ++ drop p b)) (j % p) 0)
-        → (b′ : List ℕ) → ((j : ℕ) → j < length (t ++ drop head (s ++ drop p b)) → getD b′ j 0 ≡ getD (t ++ drop head (s ++ drop p b)) (j % 48) 0)
-        → (j : ℕ) → j < length b → getD b′ j 0 ≡ digit 256 (turned big p (j % p)) colour
-    pixels-repeated gt b′ g j l =
-        g j (subst (λ (k : ℕ). j < k) (sym all-length) l)
-        ∙ head-repeats (s ++ drop p b) t head p h0 fits et gt (j % 48) (omega arith)
-        ∙ front-at (j % 48 % p) (mod-lt (j % 48) h0)
-        ∙ ap (λ (k : ℕ). digit 256 (turned big p k) colour) (whole-pixels p j h0 h4)
-
--- a byte of a run of pixels
-pub run-of-pixels : (d : ℕ) (big : Bool) (c n : ℕ) (b b′ : List ℕ) → goodDepth d ≡ true → 8 ≤ d → length b ≡ n → length b′ ≡ n
-    → ((j : ℕ) → j < n → getD b′ j 0 ≡ digit 256 (turned big (d / 8) (j % (d / 8))) c) → b′ ≡ setRun 0 n (fullByte d big c) b
+-- pixels of a depth from 8 on
+pub run-of-pixels : (d : ℕ) (big : Bool) (c n : ℕ) (b : List ℕ) → goodDepth d ≡ true → 8 ≤ d → setRun 0 n (pixelByte (d / 8) big c) b ≡ setRun 0 n (fullByte d big c) b
 unfolding fullByte
-run-of-pixels d big c n b b′ g h e e′ f =
+run-of-pixels d big c n b g h =
     let l = large d g h in
-    run-is n (fullByte d big c) b b′ e e′
-    (λ j k. f j k ∙ sym ((λ z. value (2 ^ (l .0 z)) (l .1 z) (λ i. digit (2 ^ (l .0 z)) (turned big (l .2 z) (j % (l .2 z))) c)) ∙ omega arith))
+    run-cong 0 n _ _ b
+    (λ j k. sym ((λ z. value (2 ^ (l .0 z)) (l .1 z) (λ i. digit (2 ^ (l .0 z)) (turned big (l .2 z) (j % (l .2 z))) c)) ∙ omega arith))

@@ -1,12 +1,12 @@
 -- The numbers that the code works out on its way to the bytes: masks of pixels in a byte, and a byte changed where a mask has ones.
 use mathlib.Core.Path.{_≡_}
-use mathlib.Core.Bool.{true}
+use mathlib.Core.Bool.{Bool, true}
 use mathlib.Core.List.{List, []}
-use Prim.Native.Nat.{ℕ, _+_, _-_, _*_, _^_, _≤_, _<_}
+use Prim.Native.Nat.{ℕ, _+_, _-_, _*_, _%_, _^_, _≤_, _<_}
 use lib.Bits.{bitAnd, bitOr}
 use lib.ListN.{getD, set}
-use Rattle.layout.specs.Digits.{value}
-use Rattle.layout.specs.Packed.{goodDepth, field, per, slotOf}
+use Rattle.layout.specs.Digits.{digit, value}
+use Rattle.layout.specs.Packed.{goodDepth, field, per, turned, slotOf}
 
 -- pixel x is a part of a byte: at depths 1, 2 and 4, in a row or at its end
 pub record Part (depth x : ℕ) : Type 0 where
@@ -33,3 +33,7 @@ merged v p m = bitOr (bitAnd v (255 - m)) (bitAnd p m)
 -- the byte at a place so changed
 abbrev pub mergedAt : ℕ → ℕ → ℕ → List ℕ → List ℕ
 mergedAt at p m b = set b at (merged (getD b at 0) p m)
+
+-- byte j of pixels side by side that all have the colour, each of `parts` bytes
+abbrev pub pixelByte : ℕ → Bool → ℕ → ℕ → ℕ
+pixelByte parts big colour j = digit 256 (turned big parts (j % parts)) colour

@@ -2,11 +2,11 @@
 // runs of bytes that hold pixels of one colour.
 ghost use mathlib.Core.Path.{_≡_};
 ghost use mathlib.Core.Bool.{true};
-ghost use Prim.Native.Nat.{ℕ, _+_, _*_, _%_, _^_, _≤_, _<_, min};
-ghost use lib.ListN.{length, getD};
+ghost use Prim.Native.Nat.{_+_, _*_, _/_, _%_, _^_, _≤_, _<_};
+ghost use lib.ListN.{length, getD, replicate};
 ghost use Rattle.layout.specs.Digits.{digit, value, replaced, setRun};
 ghost use Rattle.layout.specs.Packed.{goodDepth, field, parts, per, turned, slotOf, fullByte};
-ghost use Rattle.packing.specs.Words.{Part, pixelMask, masksOf, bitsFrom, merged, mergedAt};
+ghost use Rattle.packing.specs.Words.{Part, pixelMask, masksOf, bitsFrom, merged, mergedAt, pixelByte};
 
 // ---- a pixel's field of its byte, at depths 1, 2 and 4
 
@@ -204,50 +204,74 @@ pub fn set_all(part: &mut [u8], v: u8)
     }
 }
 
-// From byte `lag` on, each byte takes what stands `lag` bytes before it.
-fn repeat(part: &mut [u8], lag: usize)
-    requires { ⌜ 0 < lag ⌝ }
-    ensures { λ r. ⌜ ((j : ℕ) → j < length (now (part .entry)) → getD (now (part .exit)) j 0 ≡ getD (now (part .entry)) (j % lag) 0) ⌝ }
+// Whole pixels of the colour side by side over all of a part of the buffer.
+fn pixels(part: &mut [u8], parts: usize, big: bool, colour: u32)
+    requires { ⌜ (0 < parts) × (parts ≤ 4) × (length (now part) % parts ≡ 0) ⌝ }
+    ensures { λ r. ⌜ now (part .exit) ≡ setRun 0 (length (now (part .entry))) (pixelByte parts big colour) (now (part .entry)) ⌝ }
 {
-    let mut i = lag;
+    let mut i = 0usize;
     while i < part.len() {
-        part[i] = part[i - lag];
+        let end = i + parts;
+        store(&mut part[i..end], big, colour);
+        i = end;
+    }
+}
+
+// 48 bytes of pixels, whole ones at each depth above 8. Each call has the number of a pixel's bytes as a constant, of which the compiler makes stores without a loop.
+fn block(depth: u32, big: bool, colour: u32) -> [u8; 48]
+    requires { ⌜ (goodDepth depth ≡ true) × (8 < depth) ⌝ }
+    ensures { λ r. ⌜ r ≡ setRun 0 48 (pixelByte (depth / 8) big colour) (replicate 48 0) ⌝ }
+{
+    let mut bytes = [0u8; 48];
+    if depth == 16 {
+        pixels(&mut bytes, 2, big, colour);
+        return bytes;
+    }
+    if depth == 24 {
+        pixels(&mut bytes, 3, big, colour);
+        return bytes;
+    }
+    pixels(&mut bytes, 4, big, colour);
+    bytes
+}
+
+// A part of the buffer takes the first bytes of a block, as many as it has.
+fn lay(part: &mut [u8], block: &[u8; 48])
+    requires { ⌜ length (now part) ≤ 48 ⌝ }
+    ensures { λ r. ⌜ now (part .exit) ≡ setRun 0 (length (now (part .entry))) (λ j. getD (now (block .entry)) j 0) (now (part .entry)) ⌝ }
+{
+    let mut i = 0usize;
+    while i < part.len() {
+        part[i] = block[i];
         i += 1;
     }
 }
 
-fn least(a: usize, b: usize) -> usize
-    ensures { λ r. ⌜ r ≡ min a b ⌝ }
+// A block again and again over all of a part of the buffer. It comes by value: of an own copy the compiler knows that no store into the part changes it, and a turn of the
+// loop becomes three stores of 16 bytes.
+fn repeat(part: &mut [u8], block: [u8; 48])
+    ensures { λ r. ⌜ now (part .exit) ≡ setRun 0 (length (now (part .entry))) (λ j. getD block (j % 48) 0) (now (part .entry)) ⌝ }
 {
-    if a < b {
-        return a;
+    let mut i = 0usize;
+    while 48 <= part.len() - i {
+        let end = i + 48;
+        lay(&mut part[i..end], &block);
+        i = end;
     }
-    b
+    lay(&mut part[i..], &block);
 }
 
-// From byte 48 on, each byte takes what stands 48 bytes before it. Past the first 768 bytes it takes what stands 768 before, which is the same; the
-// larger distance measured faster (docs/BENCHMARKS.md).
-fn repeat_on(part: &mut [u8])
-    ensures { λ r. ⌜ ((j : ℕ) → j < length (now (part .entry)) → getD (now (part .exit)) j 0 ≡ getD (now (part .entry)) (j % 48) 0) ⌝ }
+// Blocks of pixels over all of a part of the buffer, at a depth above 8. As it is called from two places the compiler does not inline it, and `fill_part` needs no stack
+// for the other depths (docs/BENCHMARKS.md).
+fn fill_blocks(part: &mut [u8], depth: u32, big: bool, colour: u32)
+    requires { ⌜ (goodDepth depth ≡ true) × (8 < depth) ⌝ }
+    ensures { λ r. ⌜ now (part .exit) ≡ setRun 0 (length (now (part .entry))) (fullByte depth big colour) (now (part .entry)) ⌝ }
 {
-    let head = least(part.len(), 768);
-    repeat(&mut part[..head], 48);
-    repeat(part, 768);
+    repeat(part, block(depth, big, colour));
 }
 
-// A part of the buffer filled with the bytes of a pixel, again and again. The first pixel is written, then repeated within the first 48 bytes, which
-// hold whole pixels at every depth; these are repeated to the end.
-fn repeat_pixel(part: &mut [u8], parts: usize, big: bool, colour: u32)
-    requires { ⌜ (0 < parts) × (parts ≤ 4) × (parts ≤ length (now part)) ⌝ }
-    ensures { λ r. ⌜ ((j : ℕ) → j < length (now (part .entry)) → getD (now (part .exit)) j 0 ≡ digit 256 (turned big parts (j % parts)) colour) ⌝ }
-{
-    let head = least(part.len(), 48);
-    store(&mut part[..parts], big, colour);
-    repeat(&mut part[..head], parts);
-    repeat_on(part);
-}
-
-// Inside the library: a part of the buffer that holds whole pixels, all of them in the colour.
+// Inside the library: a part of the buffer that holds whole pixels, all of them in the colour. A part shorter than a block is stored pixel by pixel, unless its end cuts
+// one off, which the contract allows.
 pub fn fill_part(part: &mut [u8], depth: u32, big: bool, colour: u32)
     requires { ⌜ (goodDepth depth ≡ true) × (colour < 2 ^ depth) × (parts depth ≤ length (now part)) ⌝ }
     ensures { λ r. ⌜ now (part .exit) ≡ setRun 0 (length (now (part .entry))) (fullByte depth big colour) (now (part .entry)) ⌝ }
@@ -256,5 +280,14 @@ pub fn fill_part(part: &mut [u8], depth: u32, big: bool, colour: u32)
         set_all(part, pattern(depth, colour));
         return;
     }
-    repeat_pixel(part, (depth / 8) as usize, big, colour);
+    if 48 <= part.len() {
+        fill_blocks(part, depth, big, colour);
+        return;
+    }
+    let parts = (depth / 8) as usize;
+    if part.len() % parts == 0 {
+        pixels(part, parts, big, colour);
+        return;
+    }
+    fill_blocks(part, depth, big, colour);
 }

@@ -1,52 +1,95 @@
--- `packing::repeat` has every byte below i right after each turn; the first `lag` are so from the start. Assumes nothing.
-use mathlib.Core.Path.{_≡_, refl, sym, ap}
-use Prim.Native.Nat.{ℕ, _-_, _%_, _≤_, _<_}
-use native.Mathlib.Nat.{mod-eq-of-lt}
+-- `packing::repeat` has whole blocks below byte i; the last call lays as much of one as is left. Assumes nothing.
+use mathlib.Core.Path.{_≡_, refl, ap, _∙_}
+use Prim.Native.Nat.{ℕ, _+_, _-_, _%_, _≤_}
 use native.Mathlib.Omega.{arith}
-use lib.ListN.{length, getD, length-set}
+use lib.ListN.{length, getD}
 use borrow.Author.Needs.{needs}
-use Rattle.packing.proofs.Parts.{repeat-turn}
+use Rattle.layout.specs.Digits.{setRun}
+use Rattle.layout.proofs.Runs.{run-length}
+use Rattle.packing.proofs.Parts.{block-on}
 use Rattle.packing.proofs.repeat.Statement.{statement}
 use Rattle.packing.proofs.repeat.Tie as tie
 
 abbrev Inv-loop : tie.InvT-loop
-Inv-loop part₀ lag i₀ part i = (lag ≤ i) × (length part ≡ length part₀) × ((j : ℕ) → j < i → getD part j 0 ≡ getD part₀ (j % lag) 0)
+Inv-loop part₀ block i₀ part i =
+    (i ≤ length part₀) × (i % 48 ≡ 0) × (length part ≡ length part₀) × (part ≡ setRun 0 i (λ j. getD block (j % 48) 0) part₀)
 
 abbrev μ-loop : tie.MeasureT-loop
-μ-loop part₀ lag i₀ part i = length part₀ - i
+μ-loop part₀ block i₀ part i = length part₀ - i
 
 loop-holds : tie.Need-loop-holds Inv-loop μ-loop
-loop-holds c = (omega arith, refl, λ j h. ap (λ (k : ℕ). getD (c .args .part .now) k 0) (sym (mod-eq-of-lt h)))
+loop-holds c = (omega arith, omega arith, refl, refl)
 
-sub-part : tie.Need-sub-part Inv-loop μ-loop
-sub-part c = search needs
+sub-loop : tie.Need-sub-loop Inv-loop μ-loop
+sub-loop c = search needs
 
-slice-read-part : tie.Need-slice-read-part Inv-loop μ-loop
-slice-read-part c = search needs
+add-end : tie.Need-add-end Inv-loop μ-loop
+add-end c = search needs
 
-slice-write-part : tie.Need-slice-write-part Inv-loop μ-loop
-slice-write-part c = search needs
+sub-lay : tie.Need-sub-lay Inv-loop μ-loop
+sub-lay c = search needs
 
-add-i : tie.Need-add-i Inv-loop μ-loop
-add-i c = search needs
+part-lay-start : tie.Need-part-lay-start Inv-loop μ-loop
+part-lay-start c = search needs
+
+part-lay-end : tie.Need-part-lay-end Inv-loop μ-loop
+part-lay-end c = search needs
+
+lay-requires : tie.Need-lay-requires Inv-loop μ-loop
+lay-requires c κs = search needs
 
 loop-less : tie.Need-loop-less Inv-loop μ-loop
-loop-less c = omega arith
+loop-less c = search needs
 
 loop-again : tie.Need-loop-again Inv-loop μ-loop
 loop-again c =
-    let s = c .before .before .before in
-    let a = s .args in
-    let l = c .before .before .loop in
-    (omega arith, simp length-set (l .inv .1), repeat-turn (l .part) (a .part .now) (a .lag) (l .i) (s .pre) (l .inv .0) (c .before .loop-test .taken) (l .inv .2))
+    let a = c .before .before .before .before .before .before .before .before .args in
+    let l = c .before .before .before .before .before .before .loop in
+    let lay = c .before .before .lay in
+    let next = block-on (l .i) (l .i + 48) (a .part .now) (l .part) (lay .last .0) (a .t2) (l .inv .1) (omega arith) (omega arith) (omega arith) (l .inv .3) (lay .ensures) in
+    (omega arith, omega arith, ap length next ∙ simp run-length, next)
+
+sub-lay-2 : tie.Need-sub-lay-2 Inv-loop μ-loop
+sub-lay-2 c = search needs
+
+part-lay-start-2 : tie.Need-part-lay-start-2 Inv-loop μ-loop
+part-lay-start-2 c = search needs
+
+part-lay-end-2 : tie.Need-part-lay-end-2 Inv-loop μ-loop
+part-lay-end-2 c = search needs
+
+lay-requires-2 : tie.Need-lay-requires-2 Inv-loop μ-loop
+lay-requires-2 c κs = search needs
 
 same-length : tie.Need-same-length Inv-loop μ-loop
-same-length c = c .before .loop .inv .1
+same-length c = search needs
 
 returns : tie.Need-returns Inv-loop μ-loop
-returns c = λ j h. c .before .loop .inv .2 j (omega arith)
+returns c =
+    let a = c .before .before .before .before .before .before .before .before .args in
+    let l = c .before .before .before .before .before .before .loop in
+    let lay = c .before .before .lay2 in
+    block-on (l .i) (length (l .part)) (a .part .now) (l .part) (lay .last .0) (a .t2) (l .inv .1) (omega arith) (omega arith) (omega arith) (l .inv .3) (lay .ensures)
+    ∙ ap (λ (n : ℕ). setRun 0 n (λ j. getD (a .t2) (j % 48) 0) (a .part .now)) (l .inv .2)
 
 pub repeat-spec : {M : Type 1} → statement M
 repeat-spec =
     tie.close
-    (tie.spec Inv-loop μ-loop loop-holds sub-part slice-read-part slice-write-part add-i loop-less loop-again same-length returns)
+    (tie.spec
+    Inv-loop
+    μ-loop
+    loop-holds
+    sub-loop
+    add-end
+    sub-lay
+    part-lay-start
+    part-lay-end
+    lay-requires
+    loop-less
+    loop-again
+    sub-lay-2
+    part-lay-start-2
+    part-lay-end-2
+    lay-requires-2
+    same-length
+    returns)

@@ -1,12 +1,11 @@
 -- `packing::set_all` has set the first i bytes after i turns. Assumes nothing.
-use mathlib.Core.Path.{_≡_, refl, sym, ap, ap₂, _∙_}
-use mathlib.Core.List.{List}
-use Prim.Native.Nat.{ℕ, _+_, _-_, _≤_}
-use native.Mathlib.Numerals.{add-one}
+use mathlib.Core.Path.{_≡_, refl, ap, _∙_}
+use Prim.Native.Nat.{ℕ, _-_, _≤_}
 use native.Mathlib.Omega.{arith}
-use lib.ListN.{length, set, length-set}
+use lib.ListN.{length, length-set}
 use borrow.Author.Needs.{needs}
 use Rattle.layout.specs.Digits.{setRun}
+use Rattle.packing.proofs.Parts.{run-turn}
 use Rattle.packing.proofs.set_all.Statement.{statement}
 use Rattle.packing.proofs.set_all.Tie as tie
 
@@ -30,13 +29,8 @@ loop-less c = omega arith
 
 loop-again : tie.Need-loop-again Inv-loop μ-loop
 loop-again c =
-    let a = c .before .before .args in
     let l = c .before .loop in
-    let z : l .i ≡ 0 + l .i = omega arith in (
-      omega arith,
-      simp length-set (l .inv .1),
-      ap₂ (λ (b : List ℕ) (i : ℕ). set b i (a .v)) (l .inv .2) z ∙ ap (λ (k : ℕ). setRun 0 k (λ j. a .v) (a .part .now)) (sym (add-one (l .i))),
-    )
+    (omega arith, simp length-set (l .inv .1), run-turn (l .i) _ _ (l .part) _ (l .inv .2) refl)
 
 same-length : tie.Need-same-length Inv-loop μ-loop
 same-length c = c .before .loop .inv .1

@@ -1,0 +1,62 @@
+-- `packing::block` says of each depth how many bytes a pixel has. Assumes nothing.
+use mathlib.Core.Path.{_≡_, ap, _∙_}
+use Prim.Native.Nat.{ℕ, _/_}
+use native.Mathlib.Nat.{le-of-lt}
+use native.Mathlib.Omega.{arith}
+use lib.ListN.{replicate}
+use borrow.Author.Needs.{needs}
+use Rattle.layout.specs.Digits.{setRun}
+use Rattle.layout.proofs.Places.{large, depth-le}
+use Rattle.packing.specs.Words.{pixelByte}
+use Rattle.packing.proofs.block.Statement.{statement}
+use Rattle.packing.proofs.block.Tie as tie
+
+-- the block, where a pixel has as many bytes as the depth says
+the-block : (s : tie.Start) (p : ℕ) → p ≡ s .args .depth / 8
+    → setRun 0 48 (pixelByte p (s .args .big) (s .args .colour)) (replicate 48 0) ≡ setRun 0 48 (pixelByte (s .args .depth / 8) (s .args .big) (s .args .colour)) (replicate 48 0)
+the-block s p e = ap (λ (q : ℕ). setRun 0 48 (pixelByte q (s .args .big) (s .args .colour)) (replicate 48 0)) e
+
+slice-aggregate-pixels : tie.Need-slice-aggregate-pixels
+slice-aggregate-pixels c = search needs
+
+pixels-requires : tie.Need-pixels-requires
+pixels-requires c κs = search needs
+
+returns : tie.Need-returns
+returns c = c .before .pixels .ensures ∙ the-block (c .before .before .before .before) 2 (omega arith)
+
+slice-aggregate-pixels-2 : tie.Need-slice-aggregate-pixels-2
+slice-aggregate-pixels-2 c = search needs
+
+pixels-requires-2 : tie.Need-pixels-requires-2
+pixels-requires-2 c κs = search needs
+
+returns-2 : tie.Need-returns-2
+returns-2 c = c .before .pixels2 .ensures ∙ the-block (c .before .before .before .before .before) 3 (omega arith)
+
+slice-aggregate-pixels-3 : tie.Need-slice-aggregate-pixels-3
+slice-aggregate-pixels-3 c = search needs
+
+pixels-requires-3 : tie.Need-pixels-requires-3
+pixels-requires-3 c κs = search needs
+
+returns-3 : tie.Need-returns-3
+returns-3 c =
+    let s = c .before .before .before .before .before in
+    let w = large (s .args .depth) (s .pre .0) (le-of-lt (s .pre .1)) .3 in
+    let m = depth-le (s .args .depth) (s .pre .0) in
+    c .before .pixels3 .ensures ∙ the-block s 4 (omega arith)
+
+pub block-spec : {M : Type 1} → statement M
+block-spec =
+    tie.close
+    (tie.spec
+    slice-aggregate-pixels
+    pixels-requires
+    returns
+    slice-aggregate-pixels-2
+    pixels-requires-2
+    returns-2
+    slice-aggregate-pixels-3
+    pixels-requires-3
+    returns-3)

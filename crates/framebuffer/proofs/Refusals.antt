@@ -1,5 +1,5 @@
 -- The tests of a frame: what it says that none of them holds, and what comes with it. Assumes nothing.
-use mathlib.Core.Path.{_≡_, refl, ap, _∙_}
+use mathlib.Core.Path.{_≡_, refl, sym, ap, _∙_}
 use mathlib.Core.Bool.{Bool, true, false, cond}
 use mathlib.Core.List.{[], _∷_}
 use Prim.Native.Nat.{ℕ, zero, suc, _+_, _*_, _/_, _%_, _^_, _≤_, _<_}
@@ -13,10 +13,11 @@ use Rattle.refusals.proofs.First.{exactly-0, both-pass, fails-alone}
 use Rattle.layout.specs.Packed.{goodDepth, rowBytes, parts}
 use Rattle.layout.proofs.Placing.{Placing}
 use Rattle.layout.proofs.Places.{Sound, placing, depth-le, pixel-in}
+use Rattle.framebuffer.specs.declared.Canvas.{Canvas}
 use Rattle.framebuffer.specs.declared.Frame.{Frame}
 use Rattle.framebuffer.specs.Answer.{sized, drawn, wasInside, read}
 use Rattle.framebuffer.specs.Description.{packedDistance, arranged, raster, size, tooShort, noColour, descriptionTests, frameTests, drawTests}
-use Rattle.framebuffer.specs.Judged.{Described, Accepted, Drawable}
+use Rattle.framebuffer.specs.Judged.{Described, Accepted, Drawable, overBytes, Over}
 
 -- ---- no number is 0
 pub description-numbered : (f : Frame) → numbered (descriptionTests f) ≡ true
@@ -30,6 +31,10 @@ frame-numbered f len = refl
 pub draw-numbered : (f : Frame) (len colour : ℕ) → numbered (drawTests f len colour) ≡ true
 unfolding descriptionTests frameTests drawTests
 draw-numbered f len colour = refl
+
+-- ---- a frame that was judged has the number of its tests
+pub judged : (f : Frame) (len : ℕ) {c : Canvas} → c ≡ overBytes f len → Over c len
+judged f len e = ap (λ (c : Canvas). c .number) e ∙ sym (ap (λ (c : Canvas). first (frameTests (c .frame) len)) e)
 
 -- ---- what 0 says
 pub is-described : (f : Frame) → first (descriptionTests f) ≡ 0 → Described f

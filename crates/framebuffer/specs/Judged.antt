@@ -1,4 +1,4 @@
--- What is known of a description, a buffer and a colour that were accepted, and of a brush that is made of them.
+-- What is known of a description, a buffer and a colour that were judged and accepted, and of a brush that is made of them.
 use mathlib.Core.Path.{_≡_}
 use mathlib.Core.Bool.{Bool, true}
 use mathlib.Core.List.{List}
@@ -6,10 +6,12 @@ use Prim.Native.Nat.{ℕ, _^_, _≤_, _<_}
 use lib.IntN.{ℤ}
 use Rattle.layout.specs.Count.{marked}
 use Rattle.layout.specs.Packed.{goodDepth, rowBytes}
+use Rattle.refusals.specs.First.{first}
 use Rattle.framebuffer.specs.declared.Frame.{Frame}
+use Rattle.framebuffer.specs.declared.Canvas.{Canvas}
 use Rattle.framebuffer.specs.declared.Window.{Window}
 use Rattle.framebuffer.specs.declared.Brush.{Brush}
-use Rattle.framebuffer.specs.Description.{raster, size}
+use Rattle.framebuffer.specs.Description.{raster, size, frameTests}
 use Rattle.framebuffer.specs.Window.{heldBy, wholeWindow}
 
 -- a description that is not refused
@@ -29,6 +31,18 @@ pub record Accepted (f : Frame) (len : ℕ) : Type 0 where
 pub record Drawable (f : Frame) (len colour : ℕ) : Type 0 where
   pub accepted : Accepted f len
   pub below : colour < 2 ^ (f .depth)
+
+-- a frame with its number over len bytes
+abbrev pub overBytes : Frame → ℕ → Canvas
+overBytes f len = record { frame = f; number = first (frameTests f len) }
+
+-- the number is that over a buffer of len bytes; over some buffer
+abbrev pub Over : Canvas → ℕ → Type 0
+Over c len = c .number ≡ first (frameTests (c .frame) len)
+
+pub record OverSome (c : Canvas) : Type 0 where
+  pub len : ℕ
+  pub over : Over c len
 
 -- a rectangle that ends within the frame
 pub record Within (q : Window) (f : Frame) : Type 0 where

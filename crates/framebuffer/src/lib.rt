@@ -2,7 +2,7 @@
 // put_point, paint_span and read_point, which do not judge the frame again.
 ghost use mathlib.Core.Path.{_≡_};
 ghost use mathlib.Core.Bool.{true};
-ghost use Prim.Native.Nat.{_+_, _*_, _/_, _≤_, _<_};
+ghost use Prim.Native.Nat.{ℕ, _+_, _*_, _/_, _≤_, _<_};
 ghost use lib.IntN.{pos};
 ghost use lib.ListN.{length};
 ghost use Rattle.whole.specs.Interval.{between};
@@ -14,7 +14,7 @@ ghost use Rattle.layout.specs.Packed.{goodDepth};
 ghost use Rattle.framebuffer.specs.Answer.{sized, read};
 ghost use Rattle.framebuffer.specs.Window.{inWindow, heldBy, wholeWindow, clipped};
 ghost use Rattle.framebuffer.specs.Description.{described, packedDistance, packed, raster, noDistance, size, descriptionTests, frameTests, drawTests, readTests, colourAt};
-ghost use Rattle.framebuffer.specs.Judged.{Described, Accepted, Drawable, Within, Ready, wholeBrush, brushed};
+ghost use Rattle.framebuffer.specs.Judged.{Described, Accepted, Drawable, overBytes, Over, OverSome, Within, Ready, wholeBrush, brushed};
 ghost use Rattle.framebuffer.specs.Drawing.{fillDrawing, outcome, pixelOutcome};
 ghost use Rattle.framebuffer.specs.Interval.{Held};
 
@@ -26,6 +26,12 @@ pub struct Frame {
     pub depth: u32,
     pub big: bool,
     pub distance: u32,
+}
+
+// Inside the library: a frame with its number over a buffer, 1, 2, 14 or 3, or 0. Calls on one frame and one buffer need not judge it each.
+pub struct Canvas {
+    pub frame: Frame,
+    pub number: u32,
 }
 
 // The bytes that a frame takes; with a refusal its number and 0.
@@ -209,19 +215,40 @@ pub fn frame_refusal(frame: Frame, len: usize) -> u32
     0
 }
 
-// Inside the library: the refusal, one of these or 4, of a call that draws in a colour on a frame over a buffer of `len` bytes, or 0. A drawing call asks it once; its
-// own tests come after.
-pub fn draw_refusal(frame: Frame, len: usize, colour: u32) -> u32
-    ensures { λ r. ⌜ r ≡ first (drawTests frame len colour) ⌝ }
+impl Frame {
+    // Inside the library: the frame, judged over a buffer of `len` bytes.
+    pub fn over(self, len: usize) -> Canvas
+        ensures { λ r. ⌜ r ≡ overBytes self len ⌝ }
+    {
+        let number = frame_refusal(self, len);
+        Canvas {
+            frame: self,
+            number,
+        }
+    }
+}
+
+// Inside the library: the refusal, one of these or 4, of a call that draws in a colour on a judged frame, or 0. Its own tests come after.
+pub fn colour_refusal(canvas: Canvas, colour: u32) -> u32
+    requires { ⌜ OverSome canvas ⌝ }
+    ensures { λ r. ⌜ ((len : ℕ) → Over canvas len → r ≡ first (drawTests (canvas .frame) len colour)) ⌝ }
 {
-    let number = frame_refusal(frame, len);
+    let number = canvas.number;
     if number != 0 {
         return number;
     }
+    let frame = canvas.frame;
     if 1u64 << frame.depth <= colour as u64 {
         return 4;
     }
     0
+}
+
+// The same on a frame over a buffer of `len` bytes.
+fn draw_refusal(frame: Frame, len: usize, colour: u32) -> u32
+    ensures { λ r. ⌜ r ≡ first (drawTests frame len colour) ⌝ }
+{
+    colour_refusal(frame.over(len), colour)
 }
 
 // ---- one pixel

@@ -1,9 +1,9 @@
 // Drawing calls into a lent buffer. Each judges its frame once, then its own arguments, and sets every pixel of the frame that its figure
-// contains; its answer says how many these are.
+// contains; its answer says how many these are. Calls on a frame that was judged already have `_on` in their name.
 ghost use mathlib.Core.Path.{_≡_};
 ghost use mathlib.Core.Bool.{not, _&&_};
 ghost use mathlib.Core.List.{_++_};
-ghost use Prim.Native.Nat.{_-_, _≤_};
+ghost use Prim.Native.Nat.{ℕ, _-_, _≤_};
 ghost use lib.ListN.{length};
 ghost use lib.Signed.{_≤ℤ_};
 ghost use Rattle.refusals.specs.First.{first};
@@ -14,13 +14,14 @@ ghost use Rattle.triangle.specs.Answer.{vertexTests};
 ghost use Rattle.circle.specs.Refusal.{Fits, circleTests};
 ghost use Rattle.framebuffer.specs.Description.{drawTests};
 ghost use Rattle.framebuffer.specs.Drawing.{outcome};
-ghost use Rattle.framebuffer.specs.Judged.{Ready, brushed};
+ghost use Rattle.framebuffer.specs.Judged.{Over, OverSome, Ready, brushed};
 ghost use Rattle.framebuffer.specs.Window.{wholeWindow};
 ghost use Rattle.drawing.specs.Clipped.{LineSteps};
 ghost use Rattle.drawing.specs.Earlier.{Ends, earlierFigure, newIn};
 ghost use Rattle.drawing.specs.Figure.{lineFigure, connectedFigure, outlineFigure, triangleFigure, circleFigure};
 ghost use Rattle.drawing.specs.Drawing.{lineDrawing, connectedDrawing, outlineDrawing, triangleDrawing, circleDrawing};
 use framebuffer::Brush;
+use framebuffer::Canvas;
 use framebuffer::Drawn;
 use framebuffer::Frame;
 use framebuffer::Steps;
@@ -161,28 +162,38 @@ fn draw_alone(buf: &mut [u8], brush: Brush, start: Point, end: Point) -> u32
 }
 
 // The number that drawing a line answers, connected or not.
-fn line_number(frame: Frame, len: usize, start: Point, end: Point, colour: u32) -> u32
-    ensures { λ r. ⌜ r ≡ first (drawTests frame len colour ++ endTests start end) ⌝ }
+fn line_number(canvas: Canvas, start: Point, end: Point, colour: u32) -> u32
+    requires { ⌜ OverSome canvas ⌝ }
+    ensures { λ r. ⌜ ((len : ℕ) → Over canvas len → r ≡ first (drawTests (canvas .frame) len colour ++ endTests start end)) ⌝ }
 {
-    let number = framebuffer::draw_refusal(frame, len, colour);
+    let number = framebuffer::colour_refusal(canvas, colour);
     if number != 0 {
         return number;
     }
     line::refusal(start, end)
 }
 
-// Draws the line from start to end.
-pub fn draw_line(buf: &mut [u8], frame: Frame, start: Point, end: Point, colour: u32) -> Drawn
-    ensures { λ r. ⌜ (r, now (buf .exit)) ≡ outcome frame (wholeWindow frame) (lineDrawing start end colour) (now (buf .entry)) ⌝ }
+// Inside the library: draw_line on a frame that was judged over the buffer.
+pub fn line_on(buf: &mut [u8], canvas: Canvas, start: Point, end: Point, colour: u32) -> Drawn
+    requires { ⌜ Over canvas (length (now buf)) ⌝ }
+    ensures { λ r. ⌜ (r, now (buf .exit)) ≡ outcome (canvas .frame) (wholeWindow (canvas .frame)) (lineDrawing start end colour) (now (buf .entry)) ⌝ }
 {
-    let number = line_number(frame, buf.len(), start, end, colour);
+    let number = line_number(canvas, start, end, colour);
     if number != 0 {
         return Drawn { number, count: 0 };
     }
+    let frame = canvas.frame;
     Drawn {
         number: 0,
         count: draw_alone(buf, frame.brush(colour), start, end),
     }
+}
+
+// Draws the line from start to end.
+pub fn draw_line(buf: &mut [u8], frame: Frame, start: Point, end: Point, colour: u32) -> Drawn
+    ensures { λ r. ⌜ (r, now (buf .exit)) ≡ outcome frame (wholeWindow frame) (lineDrawing start end colour) (now (buf .entry)) ⌝ }
+{
+    line_on(buf, frame.over(buf.len()), start, end, colour)
 }
 
 // The step before one, or the first.
@@ -219,6 +230,28 @@ fn draw_connected(buf: &mut [u8], brush: Brush, start: Point, end: Point) -> u32
     seen
 }
 
+// Inside the library: draw_connected_line on a frame that was judged over the buffer.
+pub fn connected_line_on(
+    buf: &mut [u8],
+    canvas: Canvas,
+    start: Point,
+    end: Point,
+    colour: u32,
+) -> Drawn
+    requires { ⌜ Over canvas (length (now buf)) ⌝ }
+    ensures { λ r. ⌜ (r, now (buf .exit)) ≡ outcome (canvas .frame) (wholeWindow (canvas .frame)) (connectedDrawing start end colour) (now (buf .entry)) ⌝ }
+{
+    let number = line_number(canvas, start, end, colour);
+    if number != 0 {
+        return Drawn { number, count: 0 };
+    }
+    let frame = canvas.frame;
+    Drawn {
+        number: 0,
+        count: draw_connected(buf, frame.brush(colour), start, end),
+    }
+}
+
 // Draws the connected line from start to end.
 pub fn draw_connected_line(
     buf: &mut [u8],
@@ -229,21 +262,15 @@ pub fn draw_connected_line(
 ) -> Drawn
     ensures { λ r. ⌜ (r, now (buf .exit)) ≡ outcome frame (wholeWindow frame) (connectedDrawing start end colour) (now (buf .entry)) ⌝ }
 {
-    let number = line_number(frame, buf.len(), start, end, colour);
-    if number != 0 {
-        return Drawn { number, count: 0 };
-    }
-    Drawn {
-        number: 0,
-        count: draw_connected(buf, frame.brush(colour), start, end),
-    }
+    connected_line_on(buf, frame.over(buf.len()), start, end, colour)
 }
 
 // The number that drawing a triangle or its outline answers.
-fn triangle_number(frame: Frame, len: usize, v1: Point, v2: Point, v3: Point, colour: u32) -> u32
-    ensures { λ r. ⌜ r ≡ first (drawTests frame len colour ++ vertexTests v1 v2 v3) ⌝ }
+fn triangle_number(canvas: Canvas, v1: Point, v2: Point, v3: Point, colour: u32) -> u32
+    requires { ⌜ OverSome canvas ⌝ }
+    ensures { λ r. ⌜ ((len : ℕ) → Over canvas len → r ≡ first (drawTests (canvas .frame) len colour ++ vertexTests v1 v2 v3)) ⌝ }
 {
-    let number = framebuffer::draw_refusal(frame, len, colour);
+    let number = framebuffer::colour_refusal(canvas, colour);
     if number != 0 {
         return number;
     }
@@ -307,6 +334,29 @@ fn draw_edges(buf: &mut [u8], brush: Brush, v1: Point, v2: Point, v3: Point) -> 
     of_first + of_second + draw_edge(buf, brush, both, p1, p3)
 }
 
+// Inside the library: draw_outline on a frame that was judged over the buffer.
+pub fn outline_on(
+    buf: &mut [u8],
+    canvas: Canvas,
+    v1: Point,
+    v2: Point,
+    v3: Point,
+    colour: u32,
+) -> Drawn
+    requires { ⌜ Over canvas (length (now buf)) ⌝ }
+    ensures { λ r. ⌜ (r, now (buf .exit)) ≡ outcome (canvas .frame) (wholeWindow (canvas .frame)) (outlineDrawing v1 v2 v3 colour) (now (buf .entry)) ⌝ }
+{
+    let number = triangle_number(canvas, v1, v2, v3, colour);
+    if number != 0 {
+        return Drawn { number, count: 0 };
+    }
+    let frame = canvas.frame;
+    Drawn {
+        number: 0,
+        count: draw_edges(buf, frame.brush(colour), v1, v2, v3),
+    }
+}
+
 // Draws the outline of a triangle: the edges that its fill uses, so that any order of the vertices draws the same, and no pixel but those that the filled
 // triangle contains.
 pub fn draw_outline(
@@ -319,14 +369,7 @@ pub fn draw_outline(
 ) -> Drawn
     ensures { λ r. ⌜ (r, now (buf .exit)) ≡ outcome frame (wholeWindow frame) (outlineDrawing v1 v2 v3 colour) (now (buf .entry)) ⌝ }
 {
-    let number = triangle_number(frame, buf.len(), v1, v2, v3, colour);
-    if number != 0 {
-        return Drawn { number, count: 0 };
-    }
-    Drawn {
-        number: 0,
-        count: draw_edges(buf, frame.brush(colour), v1, v2, v3),
-    }
+    outline_on(buf, frame.over(buf.len()), v1, v2, v3, colour)
 }
 
 // The rows of an accepted circle that the rectangle has, as far as it holds them; and how many pixels these have.
@@ -350,14 +393,37 @@ fn fill_circle(buf: &mut [u8], brush: Brush, topleft: Point, diameter: u32) -> u
 }
 
 // The number that drawing a circle answers.
-fn circle_number(frame: Frame, len: usize, topleft: Point, diameter: u32, colour: u32) -> u32
-    ensures { λ r. ⌜ r ≡ first (drawTests frame len colour ++ circleTests topleft diameter) ⌝ }
+fn circle_number(canvas: Canvas, topleft: Point, diameter: u32, colour: u32) -> u32
+    requires { ⌜ OverSome canvas ⌝ }
+    ensures { λ r. ⌜ ((len : ℕ) → Over canvas len → r ≡ first (drawTests (canvas .frame) len colour ++ circleTests topleft diameter)) ⌝ }
 {
-    let number = framebuffer::draw_refusal(frame, len, colour);
+    let number = framebuffer::colour_refusal(canvas, colour);
     if number != 0 {
         return number;
     }
     circle::refusal(topleft, diameter)
+}
+
+// Inside the library: draw_circle on a frame that was judged over the buffer.
+pub fn circle_on(
+    buf: &mut [u8],
+    canvas: Canvas,
+    topleft: Point,
+    diameter: u32,
+    colour: u32,
+) -> Drawn
+    requires { ⌜ Over canvas (length (now buf)) ⌝ }
+    ensures { λ r. ⌜ (r, now (buf .exit)) ≡ outcome (canvas .frame) (wholeWindow (canvas .frame)) (circleDrawing topleft diameter colour) (now (buf .entry)) ⌝ }
+{
+    let number = circle_number(canvas, topleft, diameter, colour);
+    if number != 0 {
+        return Drawn { number, count: 0 };
+    }
+    let frame = canvas.frame;
+    Drawn {
+        number: 0,
+        count: fill_circle(buf, frame.brush(colour), topleft, diameter),
+    }
 }
 
 // Draws a filled circle.
@@ -370,14 +436,7 @@ pub fn draw_circle(
 ) -> Drawn
     ensures { λ r. ⌜ (r, now (buf .exit)) ≡ outcome frame (wholeWindow frame) (circleDrawing topleft diameter colour) (now (buf .entry)) ⌝ }
 {
-    let number = circle_number(frame, buf.len(), topleft, diameter, colour);
-    if number != 0 {
-        return Drawn { number, count: 0 };
-    }
-    Drawn {
-        number: 0,
-        count: fill_circle(buf, frame.brush(colour), topleft, diameter),
-    }
+    circle_on(buf, frame.over(buf.len()), topleft, diameter, colour)
 }
 
 // The rows of an accepted triangle from the top down, each from the walks along its edges, as far as the rectangle holds them; and how many pixels these
@@ -403,6 +462,29 @@ fn fill_triangle(buf: &mut [u8], brush: Brush, v1: Point, v2: Point, v3: Point) 
     seen
 }
 
+// Inside the library: draw_triangle on a frame that was judged over the buffer.
+pub fn triangle_on(
+    buf: &mut [u8],
+    canvas: Canvas,
+    v1: Point,
+    v2: Point,
+    v3: Point,
+    colour: u32,
+) -> Drawn
+    requires { ⌜ Over canvas (length (now buf)) ⌝ }
+    ensures { λ r. ⌜ (r, now (buf .exit)) ≡ outcome (canvas .frame) (wholeWindow (canvas .frame)) (triangleDrawing v1 v2 v3 colour) (now (buf .entry)) ⌝ }
+{
+    let number = triangle_number(canvas, v1, v2, v3, colour);
+    if number != 0 {
+        return Drawn { number, count: 0 };
+    }
+    let frame = canvas.frame;
+    Drawn {
+        number: 0,
+        count: fill_triangle(buf, frame.brush(colour), v1, v2, v3),
+    }
+}
+
 // Draws a filled triangle.
 pub fn draw_triangle(
     buf: &mut [u8],
@@ -414,12 +496,5 @@ pub fn draw_triangle(
 ) -> Drawn
     ensures { λ r. ⌜ (r, now (buf .exit)) ≡ outcome frame (wholeWindow frame) (triangleDrawing v1 v2 v3 colour) (now (buf .entry)) ⌝ }
 {
-    let number = triangle_number(frame, buf.len(), v1, v2, v3, colour);
-    if number != 0 {
-        return Drawn { number, count: 0 };
-    }
-    Drawn {
-        number: 0,
-        count: fill_triangle(buf, frame.brush(colour), v1, v2, v3),
-    }
+    triangle_on(buf, frame.over(buf.len()), v1, v2, v3, colour)
 }

@@ -14,6 +14,7 @@ use Rattle.layout.specs.Figure.{single, everywhere}
 use Rattle.layout.specs.Layout.{painted}
 use Rattle.layout.specs.Count.{pixelsIn, marked}
 use Rattle.layout.proofs.Pixels.{pixels-everywhere}
+use Rattle.framebuffer.specs.declared.Canvas.{Canvas}
 use Rattle.framebuffer.specs.declared.Frame.{Frame}
 use Rattle.framebuffer.specs.declared.Window.{Window}
 use Rattle.framebuffer.specs.declared.Brush.{Brush}
@@ -22,7 +23,7 @@ use Rattle.framebuffer.specs.declared.Placed.{Placed}
 use Rattle.framebuffer.specs.Answer.{drawn, wasInside}
 use Rattle.framebuffer.specs.Description.{raster, drawTests}
 use Rattle.framebuffer.specs.Drawing.{Drawing, pixelDrawing, fillDrawing, callTests, outcome, pixelOutcome}
-use Rattle.framebuffer.specs.Judged.{Drawable, Within, Ready, wholeBrush, brushed}
+use Rattle.framebuffer.specs.Judged.{Drawable, overBytes, Within, Ready, wholeBrush, brushed}
 use Rattle.framebuffer.specs.Window.{inWindow, heldBy, wholeWindow}
 use Rattle.framebuffer.proofs.Refusals.{draw-numbered, is-drawable, refused-drawn, refused-placed}
 use Rattle.framebuffer.proofs.Windows.{whole-within, marked-whole}
@@ -80,6 +81,11 @@ module _ (f : Frame) (q : Window) (d : Drawing) (b : List ℕ) {r : ℕ} (e : r 
 pub brushed-outcome : (f : Frame) (d : Drawing) (b : List ℕ) {r m : ℕ} {q : Brush} {after : List ℕ} → r ≡ first (callTests f (length b) d) → r ≡ 0
     → q ≡ wholeBrush f (d .colour) → (m, after) ≡ brushed q (d .figure) b → _≡_ {A = Drawn × List ℕ} (record { number = 0; count = m }, after) (outcome f (wholeWindow f) d b)
 brushed-outcome f d b e z p h = accepted-outcome f (wholeWindow f) d b e z (h ∙ ap (λ (q : Brush). brushed q (d .figure) b) p)
+
+-- on a frame that was judged: the same
+pub judged-outcome : (f : Frame) (d : Drawing) (b : List ℕ) {c : Canvas} {o : Drawn × List ℕ} → c ≡ overBytes f (length b) → o ≡ outcome (c .frame) (wholeWindow (c .frame)) d b
+    → o ≡ outcome f (wholeWindow f) d b
+judged-outcome f d b e h = h ∙ ap (λ (c : Canvas). outcome (c .frame) (wholeWindow (c .frame)) d b) e
 
 -- within the rectangle of the whole frame
 pub within-whole : {f : Frame} {q : Window} → q ≡ wholeWindow f → Within q f

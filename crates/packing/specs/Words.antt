@@ -1,7 +1,7 @@
 -- The numbers that the code works out on its way to the bytes: masks of pixels in a byte, and a byte changed where a mask has ones.
 use mathlib.Core.Path.{_≡_}
 use mathlib.Core.Bool.{Bool, true}
-use mathlib.Core.List.{List, []}
+use mathlib.Core.List.{List}
 use Prim.Native.Nat.{ℕ, _+_, _-_, _*_, _%_, _^_, _≤_, _<_}
 use lib.Bits.{bitAnd, bitOr}
 use lib.ListN.{getD, set}

@@ -1,29 +1,27 @@
--- `drawing::draw_circle` answers its number, and where that is 0 fills the rows within the rectangle of the whole frame. Assumes nothing.
+-- `drawing::draw_circle` judges its frame, and makes the call on it. Assumes nothing.
 use borrow.Author.Needs.{needs}
-use Rattle.circle.proofs.Refusals.{is-accepted}
-use Rattle.framebuffer.proofs.Calls.{calls}
+use lib.ListN.{length}
+use Rattle.framebuffer.proofs.Refusals.{judged}
+use Rattle.framebuffer.proofs.Calls.{judged-outcome}
+use Rattle.drawing.specs.Drawing.{circleDrawing}
 use Rattle.drawing.proofs.draw_circle.Statement.{statement}
 use Rattle.drawing.proofs.draw_circle.Tie as tie
 
-circle-number-requires : tie.Need-circle-number-requires
-circle-number-requires c κs = search needs
+over-requires : tie.Need-over-requires
+over-requires c κs = search needs
 
--- refused
-returns : tie.Need-returns
-returns c = search calls
-
-brush-requires : tie.Need-brush-requires
-brush-requires c κs = search needs
-
-fill-circle-requires : tie.Need-fill-circle-requires
-fill-circle-requires c κs = (search calls, is-accepted _ _ (search calls))
+circle-on-requires : tie.Need-circle-on-requires
+circle-on-requires c κs = let a = c .before .before .before .args in judged (a .frame) (length (a .buf .now)) (c .over .ensures)
 
 same-length : tie.Need-same-length
 same-length c = search needs
 
--- accepted
-returns-2 : tie.Need-returns-2
-returns-2 c = search calls
+returns : tie.Need-returns
+returns c =
+    let made = c .before .before in
+    let over = made .before in
+    let a = over .before .before .before .args in
+    judged-outcome (a .frame) (circleDrawing (a .topleft) (a .diameter) (a .colour)) (a .buf .now) (over .over .ensures) (made .circle-on .ensures)
 
 pub draw-circle-spec : {M : Type 1} → statement M
-draw-circle-spec = tie.close (tie.spec circle-number-requires returns brush-requires fill-circle-requires same-length returns-2)
+draw-circle-spec = tie.close (tie.spec over-requires circle-on-requires same-length returns)

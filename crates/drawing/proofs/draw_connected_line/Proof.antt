@@ -1,29 +1,27 @@
--- `drawing::draw_connected_line` answers its number, and where that is 0 sets the points within the rectangle of the whole frame. Assumes nothing.
+-- `drawing::draw_connected_line` judges its frame, and makes the call on it. Assumes nothing.
 use borrow.Author.Needs.{needs}
-use Rattle.line.proofs.Refusals.{is-accepted}
-use Rattle.framebuffer.proofs.Calls.{calls}
+use lib.ListN.{length}
+use Rattle.framebuffer.proofs.Refusals.{judged}
+use Rattle.framebuffer.proofs.Calls.{judged-outcome}
+use Rattle.drawing.specs.Drawing.{connectedDrawing}
 use Rattle.drawing.proofs.draw_connected_line.Statement.{statement}
 use Rattle.drawing.proofs.draw_connected_line.Tie as tie
 
-line-number-requires : tie.Need-line-number-requires
-line-number-requires c κs = search needs
+over-requires : tie.Need-over-requires
+over-requires c κs = search needs
 
--- refused
-returns : tie.Need-returns
-returns c = search calls
-
-brush-requires : tie.Need-brush-requires
-brush-requires c κs = search needs
-
-draw-connected-requires : tie.Need-draw-connected-requires
-draw-connected-requires c κs = (search calls, is-accepted _ _ (search calls))
+connected-line-on-requires : tie.Need-connected-line-on-requires
+connected-line-on-requires c κs = let a = c .before .before .before .args in judged (a .frame) (length (a .buf .now)) (c .over .ensures)
 
 same-length : tie.Need-same-length
 same-length c = search needs
 
--- accepted
-returns-2 : tie.Need-returns-2
-returns-2 c = search calls
+returns : tie.Need-returns
+returns c =
+    let made = c .before .before in
+    let over = made .before in
+    let a = over .before .before .before .args in
+    judged-outcome (a .frame) (connectedDrawing (a .start) (a .end) (a .colour)) (a .buf .now) (over .over .ensures) (made .connected-line-on .ensures)
 
 pub draw-connected-line-spec : {M : Type 1} → statement M
-draw-connected-line-spec = tie.close (tie.spec line-number-requires returns brush-requires draw-connected-requires same-length returns-2)
+draw-connected-line-spec = tie.close (tie.spec over-requires connected-line-on-requires same-length returns)

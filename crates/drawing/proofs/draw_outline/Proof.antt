@@ -1,29 +1,27 @@
--- `drawing::draw_outline` answers its number, and where that is 0 draws the three edges within the rectangle of the whole frame. Assumes nothing.
+-- `drawing::draw_outline` judges its frame, and makes the call on it. Assumes nothing.
 use borrow.Author.Needs.{needs}
-use Rattle.triangle.proofs.Refusals.{is-accepted}
-use Rattle.framebuffer.proofs.Calls.{calls}
+use lib.ListN.{length}
+use Rattle.framebuffer.proofs.Refusals.{judged}
+use Rattle.framebuffer.proofs.Calls.{judged-outcome}
+use Rattle.drawing.specs.Drawing.{outlineDrawing}
 use Rattle.drawing.proofs.draw_outline.Statement.{statement}
 use Rattle.drawing.proofs.draw_outline.Tie as tie
 
-triangle-number-requires : tie.Need-triangle-number-requires
-triangle-number-requires c κs = search needs
+over-requires : tie.Need-over-requires
+over-requires c κs = search needs
 
--- refused
-returns : tie.Need-returns
-returns c = search calls
-
-brush-requires : tie.Need-brush-requires
-brush-requires c κs = search needs
-
-draw-edges-requires : tie.Need-draw-edges-requires
-draw-edges-requires c κs = (search calls, is-accepted _ _ _ (search calls))
+outline-on-requires : tie.Need-outline-on-requires
+outline-on-requires c κs = let a = c .before .before .before .args in judged (a .frame) (length (a .buf .now)) (c .over .ensures)
 
 same-length : tie.Need-same-length
 same-length c = search needs
 
--- accepted
-returns-2 : tie.Need-returns-2
-returns-2 c = search calls
+returns : tie.Need-returns
+returns c =
+    let made = c .before .before in
+    let over = made .before in
+    let a = over .before .before .before .args in
+    judged-outcome (a .frame) (outlineDrawing (a .v1) (a .v2) (a .v3) (a .colour)) (a .buf .now) (over .over .ensures) (made .outline-on .ensures)
 
 pub draw-outline-spec : {M : Type 1} → statement M
-draw-outline-spec = tie.close (tie.spec triangle-number-requires returns brush-requires draw-edges-requires same-length returns-2)
+draw-outline-spec = tie.close (tie.spec over-requires outline-on-requires same-length returns)

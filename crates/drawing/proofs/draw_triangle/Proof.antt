@@ -1,29 +1,27 @@
--- `drawing::draw_triangle` answers its number, and where that is 0 fills the rows within the rectangle of the whole frame. Assumes nothing.
+-- `drawing::draw_triangle` judges its frame, and makes the call on it. Assumes nothing.
 use borrow.Author.Needs.{needs}
-use Rattle.triangle.proofs.Refusals.{is-accepted}
-use Rattle.framebuffer.proofs.Calls.{calls}
+use lib.ListN.{length}
+use Rattle.framebuffer.proofs.Refusals.{judged}
+use Rattle.framebuffer.proofs.Calls.{judged-outcome}
+use Rattle.drawing.specs.Drawing.{triangleDrawing}
 use Rattle.drawing.proofs.draw_triangle.Statement.{statement}
 use Rattle.drawing.proofs.draw_triangle.Tie as tie
 
-triangle-number-requires : tie.Need-triangle-number-requires
-triangle-number-requires c κs = search needs
+over-requires : tie.Need-over-requires
+over-requires c κs = search needs
 
--- refused
-returns : tie.Need-returns
-returns c = search calls
-
-brush-requires : tie.Need-brush-requires
-brush-requires c κs = search needs
-
-fill-triangle-requires : tie.Need-fill-triangle-requires
-fill-triangle-requires c κs = (search calls, is-accepted _ _ _ (search calls))
+triangle-on-requires : tie.Need-triangle-on-requires
+triangle-on-requires c κs = let a = c .before .before .before .args in judged (a .frame) (length (a .buf .now)) (c .over .ensures)
 
 same-length : tie.Need-same-length
 same-length c = search needs
 
--- accepted
-returns-2 : tie.Need-returns-2
-returns-2 c = search calls
+returns : tie.Need-returns
+returns c =
+    let made = c .before .before in
+    let over = made .before in
+    let a = over .before .before .before .args in
+    judged-outcome (a .frame) (triangleDrawing (a .v1) (a .v2) (a .v3) (a .colour)) (a .buf .now) (over .over .ensures) (made .triangle-on .ensures)
 
 pub draw-triangle-spec : {M : Type 1} → statement M
-draw-triangle-spec = tie.close (tie.spec triangle-number-requires returns brush-requires fill-triangle-requires same-length returns-2)
+draw-triangle-spec = tie.close (tie.spec over-requires triangle-on-requires same-length returns)

@@ -1,0 +1,53 @@
+-- `drawing::line_on` answers its number, and where that is 0 draws the one line within the rectangle of the whole frame. Assumes nothing.
+use mathlib.Core.Path.{_≡_}
+use mathlib.Core.List.{_++_}
+use lib.ListN.{length}
+use borrow.Author.Needs.{needs}
+use Rattle.refusals.specs.First.{first}
+use Rattle.line.specs.Answer.{endTests}
+use Rattle.line.proofs.Refusals.{is-accepted}
+use Rattle.framebuffer.specs.Description.{drawTests}
+use Rattle.framebuffer.specs.Window.{wholeWindow}
+use Rattle.framebuffer.proofs.Calls.{ready-own, own-passed, refused-outcome, brushed-outcome}
+use Rattle.drawing.specs.Drawing.{lineDrawing}
+use Rattle.drawing.proofs.line_on.Statement.{statement}
+use Rattle.drawing.proofs.line_on.Tie as tie
+
+line-number-requires : tie.Need-line-number-requires
+line-number-requires c κs = let s = c .before in record { len = length (s .args .buf .now); over = s .pre }
+
+-- its number is that of the frame, the colour and its own tests
+number : (c : tie.After-line-number) → (let a = c .before .before .args in c .line-number .result ≡ first (drawTests (a .canvas .frame) (length (a .buf .now)) (a .colour) ++ (endTests (a .start) (a .end))))
+number c = let s = c .before .before in c .line-number .ensures (length (s .args .buf .now)) (s .pre)
+
+-- refused
+returns : tie.Need-returns
+returns c =
+    let a = c .before .before .before .args in
+    refused-outcome (a .canvas .frame) (wholeWindow (a .canvas .frame)) (lineDrawing (a .start) (a .end) (a .colour)) (a .buf .now) (number (c .before)) (c .if1 .taken)
+
+brush-requires : tie.Need-brush-requires
+brush-requires c κs = search needs
+
+draw-alone-requires : tie.Need-draw-alone-requires
+draw-alone-requires c κs =
+    let test = c .before .before .before in
+    let a = test .before .before .before .args in (
+      ready-own (a .canvas .frame) (length (a .buf .now)) (a .colour) (endTests (a .start) (a .end)) (c .brush .ensures) (number (test .before)) (test .if1 .left),
+      is-accepted _ _ (own-passed (a .canvas .frame) (length (a .buf .now)) (a .colour) (endTests (a .start) (a .end)) (number (test .before)) (test .if1 .left)),
+    )
+
+same-length : tie.Need-same-length
+same-length c = search needs
+
+-- accepted
+returns-2 : tie.Need-returns-2
+returns-2 c =
+    let made = c .before .before in
+    let brush = made .before in
+    let test = brush .before .before .before in
+    let a = test .before .before .before .args in
+    brushed-outcome (a .canvas .frame) (lineDrawing (a .start) (a .end) (a .colour)) (a .buf .now) (number (test .before)) (test .if1 .left) (brush .brush .ensures) (made .draw-alone .ensures)
+
+pub line-on-spec : {M : Type 1} → statement M
+line-on-spec = tie.close (tie.spec line-number-requires returns brush-requires draw-alone-requires same-length returns-2)

@@ -14,8 +14,15 @@ use Rattle.layout.proofs.Places.{Depth, depth-of, depth-cases, depth-pos, small
 use Rattle.layout.proofs.Fields.{shifted-lt, field-write, field-read}
 use Rattle.layout.proofs.Cells.{digit-value}
 use Rattle.layout.proofs.Bytes.{byte-full}
-use Rattle.packing.specs.Words.{pixelMask, masksOf, bitsFrom}
+use Rattle.packing.specs.Words.{pixelMask, masksOf, bitsFrom, bitsTo}
 use Rattle.packing.proofs.Parts.{digit-is}
+
+-- a byte of ones, shifted down
+ones-down : (t : ℕ) → t ≤ 8 → 255 / 2 ^ t ≡ 2 ^ (8 - t) - 1
+ones-down t h =
+    let e : 8 - t + t ≡ 8 = omega arith in
+    let o : 255 ≡ (2 ^ (8 - t) - 1) * 2 ^ t + (2 ^ t - 1) = sym (ap (λ (z : ℕ). 2 ^ z - 1) e) ∙ ones-split (8 - t) t in
+    ap (λ (z : ℕ). z / 2 ^ t) o ∙ digits-div (2 ^ (8 - t) - 1) (let p = pow-pos t in omega arith)
 
 module _ (d x : ℕ) (g : goodDepth d ≡ true) (s : d < 8) where
   D : Depth d
@@ -144,9 +151,14 @@ module _ (d x : ℕ) (g : goodDepth d ≡ true) (s : d < 8) where
       let m = shift-room in
       let j : field d * slotOf d x + field d ≡ 8 - t = let f = flat in omega arith in
       let k : field d * (slotOf d x + 1) ≡ 8 - t = (let q : field d * (slotOf d x + 1) ≡ field d * slotOf d x + field d = omega arith in q) ∙ j in
-      let e : 8 - t + t ≡ 8 = omega arith in
-      let o : 255 ≡ (2 ^ (8 - t) - 1) * 2 ^ t + (2 ^ t - 1) = sym (ap (λ (z : ℕ). 2 ^ z - 1) e) ∙ ones-split (8 - t) t in
-      ap (λ (z : ℕ). z / 2 ^ t) o ∙ digits-div (2 ^ (8 - t) - 1) (let p = pow-pos t in omega arith) ∙ sym (ap (λ (z : ℕ). 2 ^ z - 1) k)
+      ones-down t (omega arith) ∙ sym (ap (λ (z : ℕ). 2 ^ z - 1) k)
+
+  -- the ones that are left are below the pixel's
+  pub bits-to-is : 255 - 255 / 2 ^ (x * d % 8 + d) ≡ bitsTo d x
+  bits-to-is =
+      let i = shift-is in
+      let m = shift-room in
+      ap (λ (z : ℕ). 255 - z) (ones-down (x * d % 8 + d) (omega arith) ∙ ap (λ (z : ℕ). 2 ^ z - 1) (omega arith))
 
 -- ---- the table of masks
 module _ (d : ℕ) (g : goodDepth d ≡ true) (s : d < 8) where

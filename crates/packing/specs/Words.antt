@@ -14,12 +14,15 @@ pub record Part (depth x : ℕ) : Type 0 where
   pub small : depth < 8
   pub near : x ≤ 2048
 
--- the bits of pixel x in its byte; and its bits with those of the pixels after it
+-- the bits of pixel x in its byte; its bits with those of the pixels after it; and with those of the pixels before it
 abbrev pub pixelMask : ℕ → ℕ → ℕ
 pixelMask depth x = (2 ^ field depth - 1) * 2 ^ (field depth * slotOf depth x)
 
 abbrev pub bitsFrom : ℕ → ℕ → ℕ
 bitsFrom depth x = 2 ^ (field depth * (slotOf depth x + 1)) - 1
+
+abbrev pub bitsTo : ℕ → ℕ → ℕ
+bitsTo depth x = 255 - (2 ^ (field depth * slotOf depth x) - 1)
 
 -- 02, T-03, "a constant table of fourteen masks": the bits of a pixel at each position in its byte, 8 at depth 1, 4 at depth 2, 2 at depth 4. A depth's masks stand
 -- beside one another in one number, the first pixel's the highest

@@ -6,7 +6,7 @@ ghost use Prim.Native.Nat.{_+_, _*_, _/_, _%_, _^_, _≤_, _<_};
 ghost use lib.ListN.{length, getD, replicate};
 ghost use Rattle.layout.specs.Digits.{digit, value, replaced, setRun};
 ghost use Rattle.layout.specs.Packed.{goodDepth, field, parts, per, turned, slotOf, fullByte};
-ghost use Rattle.packing.specs.Words.{Part, pixelMask, masksOf, bitsFrom, merged, mergedAt, pixelByte};
+ghost use Rattle.packing.specs.Words.{Part, pixelMask, masksOf, bitsFrom, bitsTo, merged, mergedAt, pixelByte};
 
 // ---- a pixel's field of its byte, at depths 1, 2 and 4
 
@@ -81,6 +81,14 @@ pub fn bits_from(depth: u32, x: u32) -> u8
     ensures { λ r. ⌜ r ≡ bitsFrom depth x ⌝ }
 {
     255u8 >> (x * depth % 8)
+}
+
+// Inside the library: the bits of pixel x and of those before it in its byte.
+pub fn bits_to(depth: u32, x: u32) -> u8
+    requires { ⌜ Part depth x ⌝ }
+    ensures { λ r. ⌜ r ≡ bitsTo depth x ⌝ }
+{
+    !((255u32 >> (x * depth % 8 + depth)) as u8)
 }
 
 // The byte p where m has ones, and else v.

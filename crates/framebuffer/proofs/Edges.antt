@@ -2,22 +2,22 @@
 -- Assumes nothing.
 use mathlib.Core.Path.{_≡_, sym, ap, ap₂, _∙_, subst}
 use mathlib.Core.List.{List, _++_}
-use Prim.Native.Nat.{ℕ, _+_, _-_, _*_, _/_, _%_, _^_, _≤_, _<_}
-use native.Mathlib.Nat.{le-of-lt, mod-lt, div-add-mod', mul-le-mul-right, mul-div-cancel, mul-one, div-one}
+use Prim.Native.Nat.{ℕ, _+_, _-_, _*_, _/_, _^_, _≤_, _<_}
+use native.Mathlib.Nat.{le-of-lt, mod-lt, div-add-mod', mul-le-mul-right, mul-one, div-one}
 use native.Mathlib.Omega.{arith}
 use lib.Bits.{bitAnd}
 use lib.ListN.{length, take, drop}
 use Rattle.layout.specs.Digits.{value, setRun}
 use Rattle.layout.specs.Layout.{painted}
-use Rattle.layout.specs.Packed.{rowBytes, field, parts, per, fullByte}
+use Rattle.layout.specs.Packed.{field, parts, per, fullByte}
 use Rattle.layout.proofs.Places.{small, large, column, depth-pos, depth-of, per-pos}
 use Rattle.layout.proofs.Runs.{run-cong}
 use Rattle.layout.proofs.Spans.{columns}
-use Rattle.layout.proofs.Painted.{span-then}
+use Rattle.layout.proofs.Painted.{painted-swap, span-then}
 use Rattle.layout.proofs.Bytes.{Bytes, byte-at, head, tail, inner, full-one, groups-filled}
 use Rattle.framebuffer.specs.declared.Frame.{Frame}
-use Rattle.framebuffer.specs.Description.{arranged, raster, size}
-use Rattle.packing.specs.Words.{bitsFrom, mergedAt}
+use Rattle.framebuffer.specs.Description.{arranged, raster}
+use Rattle.packing.specs.Words.{bitsFrom, bitsTo, mergedAt}
 use Rattle.framebuffer.specs.Judged.{Drawable}
 use Rattle.framebuffer.proofs.Refusals.{spaced, sound}
 
@@ -41,30 +41,6 @@ module _ (f : Frame) (len colour : ℕ) (A : Drawable f len colour) (s : f .dept
   pub byte-col : (x : ℕ) → x * d / 8 ≡ x / n
   byte-col = byte-at (arranged f) (spaced f (A .accepted .described)) colour (thin .1) low
 
-  -- where a span ends within a byte, or with one
-  pub ends-in : (x y : ℕ) → x ≤ f .width → y < f .height → (x * d % 8 ≡ 0 → ⊥) → y * row + x * d / 8 < len
-  unfolding size rowBytes
-  ends-in x y hx hy z =
-      let m : x * d ≤ f .width * d = mul-le-mul-right d hx in
-      let a = spaced f (A .accepted .described) .apart in
-      let l : (y + 1) * row ≤ f .height * row = mul-le-mul-right row (omega arith) in
-      let r = A .accepted .room in
-      let q = over z in
-      omega arith
-    where
-      over : (x * d % 8 ≡ 0 → ⊥) → x * d / 8 < (x * d + 7) / 8
-      over z = omega arith
-
-  pub ends-with : (x : ℕ) → x * d % 8 ≡ 0 → x * d / 8 * n ≡ x
-  ends-with x z =
-      let p = depth-pos d (A .accepted .described .depth) in
-      let e : x * d / 8 * 8 + x * d % 8 ≡ x * d = div-add-mod' (x * d) 8 in
-      let w : n * d ≡ 8 =
-      (let k : field d * n ≡ 8 = depth-of d (A .accepted .described .depth) .whole in let j : field d * n ≡ d * n = ap (λ (i : ℕ). i * n) (thin .0) in omega arith) in
-      let g : x * d / 8 * (n * d) ≡ x * d / 8 * 8 = ap (λ (i : ℕ). x * d / 8 * i) w in
-      let h : x * d / 8 * n * d ≡ x * d = omega arith in
-      sym (mul-div-cancel (x * d / 8 * n) p) ∙ ap (λ (i : ℕ). i / d) h ∙ mul-div-cancel x p
-
   -- bytes before a place
   pub bytes-to : (x : ℕ) → x * d / 8 * n ≤ x
   bytes-to x = let e = byte-col x in let q = div-add-mod' x n in let g : x * d / 8 * n ≡ x / n * n = ap (λ (i : ℕ). i * n) e in omega arith
@@ -77,8 +53,8 @@ module _ (f : Frame) (len colour : ℕ) (A : Drawable f len colour) (s : f .dept
       let g : (x * d / 8 + 1) * n ≡ x / n * n + n = ap (λ (i : ℕ). (i + 1) * n) e ∙ omega arith in
       omega arith
 
-  pub in-order : (x z : ℕ) → x < z → (x * d / 8 ≡ z * d / 8 → ⊥) → x * d / 8 + 1 ≤ z * d / 8
-  in-order x z h g = let m : x * d ≤ z * d = mul-le-mul-right d (omega arith) in less m
+  pub in-order : (x z : ℕ) → x ≤ z → (x * d / 8 ≡ z * d / 8 → ⊥) → x * d / 8 + 1 ≤ z * d / 8
+  in-order x z h g = less (mul-le-mul-right d h)
     where
       less : x * d ≤ z * d → x * d / 8 + 1 ≤ z * d / 8
       less m = omega arith
@@ -93,16 +69,16 @@ module _ (f : Frame) (len colour : ℕ) (A : Drawable f len colour) (s : f .dept
         sym (ap (λ (i : ℕ). painted (raster f) (columns y x ((i + 1) * n)) colour b) (byte-col x)
         ∙ head (arranged f) (spaced f (A .accepted .described)) colour (thin .1) low y x b hy l v (subst (λ (i : ℕ). (i + 1) * n ≤ f .width) (byte-col x) w))
 
-    pub tail-is : (x : ℕ) → y * row + x * d / 8 < length b → x ≤ f .width
-        → mergedAt (y * row + x * d / 8) p (255 - bitsFrom d x) b ≡ painted (raster f) (columns y (x * d / 8 * n) x) colour b
+    pub tail-is : (x : ℕ) → y * row + x * d / 8 < length b → x < f .width
+        → mergedAt (y * row + x * d / 8) p (bitsTo d x) b ≡ painted (raster f) (columns y (x * d / 8 * n) (x + 1)) colour b
     tail-is x l w =
-        sym (ap (λ (i : ℕ). painted (raster f) (columns y (i * n) x) colour b) (byte-col x)
+        sym (ap (λ (i : ℕ). painted (raster f) (columns y (i * n) (x + 1)) colour b) (byte-col x)
         ∙ tail (arranged f) (spaced f (A .accepted .described)) colour (thin .1) low y x b hy l v w)
 
-    pub inner-is : (x z : ℕ) → y * row + x * d / 8 < length b → x < z → z ≤ f .width → x * d / 8 ≡ z * d / 8
-        → mergedAt (y * row + x * d / 8) p (bitAnd (bitsFrom d x) (255 - bitsFrom d z)) b ≡ painted (raster f) (columns y x z) colour b
+    pub inner-is : (x z : ℕ) → y * row + x * d / 8 < length b → x ≤ z → z < f .width → x * d / 8 ≡ z * d / 8
+        → mergedAt (y * row + x * d / 8) p (bitAnd (bitsFrom d x) (bitsTo d z)) b ≡ painted (raster f) (columns y x (z + 1)) colour b
     inner-is x z l h w e =
-        sym (inner (arranged f) (spaced f (A .accepted .described)) colour (thin .1) low y x b hy l v z (omega arith) w (sym (byte-col x) ∙ e ∙ byte-col z))
+        sym (inner (arranged f) (spaced f (A .accepted .described)) colour (thin .1) low y x b hy l v z h w (sym (byte-col x) ∙ e ∙ byte-col z))
 
     pub whole-is : (x z : ℕ) (s s′ : List ℕ) (a k : ℕ) → x ≤ z → z * n ≤ f .width → a ≡ y * row + x → a + k ≡ y * row + z → a + k ≤ length b
         → s ≡ take k (drop a b) → s′ ≡ setRun 0 (length s) (λ j. p) s → take a b ++ (s′ ++ drop k (drop a b)) ≡ painted (raster f) (columns y (x * n) (z * n)) colour b
@@ -113,11 +89,15 @@ module _ (f : Frame) (len colour : ℕ) (A : Drawable f len colour) (s : f .dept
         bytes : (i : ℕ) → y * row + i ≡ y * row + i * parts d
         bytes i = ap (λ (j : ℕ). y * row + j) (sym (ap (λ (j : ℕ). i * j) (thin .1) ∙ mul-one i))
 
-  -- the parts of a span, one after another
-  pub joined : (y x q z : ℕ) (b b₁ b₂ : List ℕ) → x ≤ q → q ≤ z
-      → b₁ ≡ painted (raster f) (columns y x q) colour b → b₂ ≡ painted (raster f) (columns y q z) colour b₁ → b₂ ≡ painted (raster f) (columns y x z) colour b
-  joined y x q z b b₁ b₂ h k e e′ =
-      e′ ∙ ap (painted (raster f) (columns y q z) colour) e ∙ span-then (raster f) (sound f (A .accepted .described)) colour b y x q z h k
+  -- both ends of a span, and then what is between them
+  pub joined : (y x q t z : ℕ) (b b₁ b₂ b₃ : List ℕ) → x ≤ q → q ≤ t → t ≤ z
+      → b₁ ≡ painted (raster f) (columns y x q) colour b → b₂ ≡ painted (raster f) (columns y t z) colour b₁ → b₃ ≡ painted (raster f) (columns y q t) colour b₂
+      → b₃ ≡ painted (raster f) (columns y x z) colour b
+  joined y x q t z b b₁ b₂ b₃ h k l e₁ e₂ e₃ =
+      let P = sound f (A .accepted .described) in
+      e₃ ∙ ap (painted (raster f) (columns y q t) colour) e₂ ∙ painted-swap (raster f) P colour b₁ (columns y q t) (columns y t z)
+      ∙ ap (λ (b : List ℕ). painted (raster f) (columns y t z) colour (painted (raster f) (columns y q t) colour b)) e₁
+      ∙ ap (painted (raster f) (columns y t z) colour) (span-then (raster f) P colour b y x q t h k) ∙ span-then (raster f) P colour b y x t z (omega arith) l
 
 -- ---- from depth 8 on, whole pixels
 module _ (f : Frame) (len colour : ℕ) (A : Drawable f len colour) (s : 8 ≤ f .depth) where

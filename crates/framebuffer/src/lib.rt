@@ -407,26 +407,26 @@ pub fn held(a: i32, grows: bool, low: u32, high: u32, count: u32) -> Steps
 
 // ---- spans
 
-// Columns of row y at depths 1, 2 and 4: the rest of the first byte, whole bytes, and the start of the last.
+// Columns of row y at depths 1, 2 and 4: the end of the first byte, the start of the last, and the whole bytes between. These come last, so that nothing has to be kept
+// while they are stored.
 fn paint_fields(buf: &mut [u8], frame: Frame, y: u32, from: u32, past: u32, colour: u32)
     requires { ⌜ Drawable frame (length (now buf)) colour × (frame .depth < 8) × (y < frame .height) × (from < past) × (past ≤ frame .width) ⌝ }
     ensures { λ r. ⌜ now (buf .exit) ≡ painted (raster frame) (spanFigure (pos y) (pos from) (pos past)) colour (now (buf .entry)) ⌝ }
 {
     let depth = frame.depth;
+    let last_column = past - 1;
     let p = packing::pattern(depth, colour);
     let first = byte_of(frame, from, y);
-    let last = byte_of(frame, past, y);
+    let last = byte_of(frame, last_column, y);
     let head = packing::bits_from(depth, from);
-    let tail = !packing::bits_from(depth, past);
+    let tail = packing::bits_to(depth, last_column);
     if first == last {
         packing::merge_at(buf, first, p, head & tail);
         return;
     }
     packing::merge_at(buf, first, p, head);
+    packing::merge_at(buf, last, p, tail);
     packing::set_all(&mut buf[first + 1..last], p);
-    if past * depth % 8 != 0 {
-        packing::merge_at(buf, last, p, tail);
-    }
 }
 
 // Columns of row y. From depth 8 on they are whole bytes.

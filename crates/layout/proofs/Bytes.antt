@@ -205,7 +205,7 @@ module _ (r : Packed) (S : Sound r) (c : ℕ) where
         ∙ merge (field d) n s (λ k. digit B k v) (λ k. c) (λ k. digit-lt B (pow-pos (field d)) k v) (λ k. hc)
         ∙ value-cong B (pow-pos (field d)) n _ _ (λ k l. ap (λ (x : Bool). cond x c (digit B k v)) (t k l))
 
-    -- ---- the edges of a span. The mask of pixel x and those after it in its byte
+    -- ---- the edges of a span. The masks of pixel x and those after it in its byte, and of it and those before it
     abbrev onward : ℕ → ℕ
     onward x = 2 ^ (field d * (slotOf d x + 1)) - 1
 
@@ -216,9 +216,15 @@ module _ (r : Packed) (S : Sound r) (c : ℕ) where
         let e : n - 1 - x % n + 1 ≡ n - x % n = omega arith in
         ap (λ (k : ℕ). 2 ^ (field d * k) - 1) e ∙ low-fields (field d) n (n - x % n) (omega arith)
 
-    before-is : (x : ℕ) → 255 - onward x ≡ mask (field d) n (λ k. not (ltb k (n - x % n)))
-    before-is x =
-        ap₂ (λ (i j : ℕ). i - 1 - j) (sym (byte-full d D)) (onward-is x) ∙ mask-not (field d) n (λ k. ltb k (n - x % n))
+    abbrev upto : ℕ → ℕ
+    upto x = 255 - (2 ^ (field d * slotOf d x) - 1)
+
+    upto-is : (x : ℕ) → upto x ≡ mask (field d) n (λ k. not (ltb k (n - (x % n + 1))))
+    unfolding slotOf
+    upto-is x =
+        let e : n - 1 - x % n ≡ n - (x % n + 1) = omega arith in
+        ap₂ (λ (i j : ℕ). i - 1 - (2 ^ (field d * j) - 1)) (sym (byte-full d D)) e
+        ∙ ap (λ (j : ℕ). B ^ n - 1 - j) (low-fields (field d) n (n - (x % n + 1)) (omega arith)) ∙ mask-not (field d) n (λ k. ltb k (n - (x % n + 1)))
 
     -- the byte v with the pixels that the mask picks painted
     abbrev pub merged : ℕ → ℕ → ℕ
@@ -248,34 +254,36 @@ module _ (r : Packed) (S : Sound r) (c : ℕ) where
           all : (k : ℕ) → picks n (x % n) n k ≡ ltb k (n - x % n)
           all k = ap (λ (t : Bool). t && ltb k (n - x % n)) (le-leb (n - n) k (omega arith))
 
-      -- from the start of its byte to one before x
-      pub tail : x ≤ r .width → painted (laid r) (columns y (x / n * n) x) c b ≡ set b (y * row + x * d / 8) (merged (getD b (y * row + x * d / 8) 0) (255 - onward x))
+      -- from the start of its byte to x
+      pub tail : x < r .width → painted (laid r) (columns y (x / n * n) (x + 1)) c b ≡ set b (y * row + x * d / 8) (merged (getD b (y * row + x * d / 8) 0) (upto x))
       tail w =
           let h = mod-lt x (per-pos d D) in
-          let e : x / n * n + x % n ≡ x = div-add-mod' x n in
+          let q = div-add-mod' x n in
+          let e : x / n * n + (x % n + 1) ≡ x + 1 = omega arith in
           sym (ap₂ (λ (s t : ℕ). painted (laid r) (columns y s t) c b) (add-zero (x / n * n)) e)
-          ∙ some-pixels y (x / n) 0 (x % n) b (omega arith) (omega arith) (omega arith) hy i (v (y * row + x / n))
-          ∙ ap (set b (y * row + x / n)) (sym (ap (merged (getD b (y * row + x / n) 0)) (before-is x)
-          ∙ merged-is 0 (x % n) (getD b (y * row + x / n) 0) (λ k. not (ltb k (n - x % n))) (v (y * row + x / n)) (λ k l. sym (all k l))))
-          ∙ here (255 - onward x)
+          ∙ some-pixels y (x / n) 0 (x % n + 1) b (omega arith) (omega arith) (omega arith) hy i (v (y * row + x / n))
+          ∙ ap (set b (y * row + x / n)) (sym (ap (merged (getD b (y * row + x / n) 0)) (upto-is x)
+          ∙ merged-is 0 (x % n + 1) (getD b (y * row + x / n) 0) (λ k. not (ltb k (n - (x % n + 1)))) (v (y * row + x / n)) (λ k l. sym (all k l))))
+          ∙ here (upto x)
         where
-          all : (k : ℕ) → k < n → picks n 0 (x % n) k ≡ not (ltb k (n - x % n))
-          all k l = ap (λ (t : Bool). leb (n - x % n) k && t) (lt-ltb k (n - 0) (omega arith)) ∙ at-least (n - x % n) k
+          all : (k : ℕ) → k < n → picks n 0 (x % n + 1) k ≡ not (ltb k (n - (x % n + 1)))
+          all k l = ap (λ (t : Bool). leb (n - (x % n + 1)) k && t) (lt-ltb k (n - 0) (omega arith)) ∙ at-least (n - (x % n + 1)) k
 
-      -- from x to one before z, in one byte
-      pub inner : (z : ℕ) → x ≤ z → z ≤ r .width → x / n ≡ z / n
-          → painted (laid r) (columns y x z) c b ≡ set b (y * row + x * d / 8) (merged (getD b (y * row + x * d / 8) 0) (bitAnd (onward x) (255 - onward z)))
+      -- from x to z, in one byte
+      pub inner : (z : ℕ) → x ≤ z → z < r .width → x / n ≡ z / n
+          → painted (laid r) (columns y x (z + 1)) c b ≡ set b (y * row + x * d / 8) (merged (getD b (y * row + x * d / 8) 0) (bitAnd (onward x) (upto z)))
       inner z l w q =
           let e : x / n * n + x % n ≡ x = div-add-mod' x n in
           let g : z / n * n + z % n ≡ z = div-add-mod' z n in
-          let f : x / n * n + z % n ≡ z = ap (λ (t : ℕ). t * n + z % n) q ∙ g in
+          let j : x / n * n ≡ z / n * n = ap (λ (t : ℕ). t * n) q in
+          let f : x / n * n + (z % n + 1) ≡ z + 1 = omega arith in
           let h = mod-lt z (per-pos d D) in
           sym (ap₂ (λ (s t : ℕ). painted (laid r) (columns y s t) c b) e f)
-          ∙ some-pixels y (x / n) (x % n) (z % n) b (omega arith) (omega arith) (omega arith) hy i (v (y * row + x / n))
+          ∙ some-pixels y (x / n) (x % n) (z % n + 1) b (omega arith) (omega arith) (omega arith) hy i (v (y * row + x / n))
           ∙ ap (set b (y * row + x / n)) (sym (ap (merged (getD b (y * row + x / n) 0))
-          (ap₂ bitAnd (onward-is x) (before-is z) ∙ mask-and (field d) n (λ k. ltb k (n - x % n)) (λ k. not (ltb k (n - z % n))))
-          ∙ merged-is (x % n) (z % n) (getD b (y * row + x / n) 0) (λ k. ltb k (n - x % n) && not (ltb k (n - z % n))) (v (y * row + x / n)) (λ k t. all k)))
-          ∙ here (bitAnd (onward x) (255 - onward z))
+          (ap₂ bitAnd (onward-is x) (upto-is z) ∙ mask-and (field d) n (λ k. ltb k (n - x % n)) (λ k. not (ltb k (n - (z % n + 1)))))
+          ∙ merged-is (x % n) (z % n + 1) (getD b (y * row + x / n) 0) (λ k. ltb k (n - x % n) && not (ltb k (n - (z % n + 1)))) (v (y * row + x / n)) (λ k t. all k)))
+          ∙ here (bitAnd (onward x) (upto z))
         where
           and-swap : (s t : Bool) → s && t ≡ t && s
           and-swap true true = refl
@@ -287,8 +295,10 @@ module _ (r : Packed) (S : Sound r) (c : ℕ) where
           and-one true = refl
           and-one false = refl
 
-          all : (k : ℕ) → ltb k (n - x % n) && not (ltb k (n - z % n)) ≡ picks n (x % n) (z % n) k
-          all k = and-swap (ltb k (n - x % n)) (not (ltb k (n - z % n))) ∙ ap (λ (t : Bool). t && ltb k (n - x % n)) (sym (at-least (n - z % n) k) ∙ and-one (leb (n - z % n) k))
+          all : (k : ℕ) → ltb k (n - x % n) && not (ltb k (n - (z % n + 1))) ≡ picks n (x % n) (z % n + 1) k
+          all k =
+              and-swap (ltb k (n - x % n)) (not (ltb k (n - (z % n + 1))))
+              ∙ ap (λ (t : Bool). t && ltb k (n - x % n)) (sym (at-least (n - (z % n + 1)) k) ∙ and-one (leb (n - (z % n + 1)) k))
 
     full-small : (j : ℕ) → fullByte d (r .big) c j ≡ value B n (λ k. c)
     full-small j = full-one d (r .big) c j small hc

@@ -1,7 +1,7 @@
 -- What drawing loops cite: painting figures on a layout, one after another. Assumes nothing.
 use mathlib.Core.Path.{_≡_, refl, sym, ap, ap₂, _∙_}
 use mathlib.Core.Logic.{_⊎_, inl, inr}
-use mathlib.Core.Bool.{Bool, true, false, _||_, _&&_}
+use mathlib.Core.Bool.{Bool, true, false, _||_, _&&_, or-comm}
 use mathlib.Core.List.{List}
 use Prim.Native.Nat.{ℕ, zero, suc, _+_, _*_, _/_, _%_, _≤_, _<_}
 use native.Mathlib.Nat.{div-add-mod'}
@@ -67,6 +67,10 @@ module _ (l : Layout) (P : Placing l) (c : ℕ) (b : List ℕ) where
   unfolding painted
   painted-painted s t =
       paint-paint (laws l P) (λ p. s (pos (p % l .width)) (pos (p / l .width))) (λ p. t (pos (p % l .width)) (pos (p / l .width))) c b
+
+  -- in either order
+  pub painted-swap : (s t : ℤ → ℤ → Bool) → painted l s c (painted l t c b) ≡ painted l t c (painted l s c b)
+  painted-swap s t = painted-painted s t ∙ painted-cong _ _ (λ u v hu hv. or-comm (t (pos u) (pos v)) (s (pos u) (pos v))) ∙ sym (painted-painted t s)
 
   -- one more pixel
   pub put-painted : (s : ℤ → ℤ → Bool) (x y : ℕ) → x < l .width → y < l .height

@@ -1,7 +1,8 @@
 // Drawing the day of an input: call by call, and a line after the other.
 ghost use mathlib.Core.Path.{_≡_};
 ghost use Prim.Native.Nat.{_<_};
-ghost use lib.ListN.{drop};
+ghost use lib.ListN.{length, drop};
+ghost use Rattle.framebuffer.specs.Judged.{Over};
 ghost use Rattle.text.specs.Fields.{lines};
 ghost use Rattle.charts.specs.Picture.{picture};
 ghost use Rattle.charts.specs.Day.{leaves, box, under, isShown, discColour, disc, discs, day, charted};
@@ -12,6 +13,7 @@ use crate::picture::frame;
 use crate::picture::spot;
 use crate::reach::of_wedge;
 use crate::reach::with_samples;
+use framebuffer::Canvas;
 use framebuffer::Frame;
 use geometry::Point;
 use reports::Count;
@@ -69,28 +71,28 @@ fn disc_colour(v: Vertices, p: Place) -> u32
     INSIDE
 }
 
-// A sample's disc.
-fn draw_sample(pane: &mut [u8], f: Frame, e: Extent, v: Vertices, p: Place)
-    requires { ⌜ (0 < e .second) × (0 < e .load) ⌝ }
-    ensures { λ r. ⌜ now (pane .exit) ≡ leaves f (disc e v p) (now (pane .entry)) ⌝ }
+// A sample's disc. All samples go on one canvas, which is judged once.
+fn draw_sample(pane: &mut [u8], canvas: Canvas, e: Extent, v: Vertices, p: Place)
+    requires { ⌜ Over canvas (length (now pane)) × (0 < e .second) × (0 < e .load) ⌝ }
+    ensures { λ r. ⌜ now (pane .exit) ≡ leaves (canvas .frame) (disc e v p) (now (pane .entry)) ⌝ }
 {
     if is_shown(p) {
         let s = spot(e, p.x, p.y);
         let colour = disc_colour(v, p);
-        drawing::draw_circle(pane, f, Point(s.0 - 1, s.1 - 1), 3, colour);
+        drawing::circle_on(pane, canvas, Point(s.0 - 1, s.1 - 1), 3, colour);
     }
 }
 
 // The samples of the lines from a place on.
-fn draw_samples(pane: &mut [u8], f: Frame, e: Extent, v: Vertices, input: &[u8], from: usize)
-    requires { ⌜ (0 < e .second) × (0 < e .load) ⌝ }
-    ensures { λ r. ⌜ now (pane .exit) ≡ leaves f (discs e v (lines (drop from (now (input .entry))))) (now (pane .entry)) ⌝ }
+fn draw_samples(pane: &mut [u8], canvas: Canvas, e: Extent, v: Vertices, input: &[u8], from: usize)
+    requires { ⌜ Over canvas (length (now pane)) × (0 < e .second) × (0 < e .load) ⌝ }
+    ensures { λ r. ⌜ now (pane .exit) ≡ leaves (canvas .frame) (discs e v (lines (drop from (now (input .entry))))) (now (pane .entry)) ⌝ }
 {
     let mut at = from;
     while at < input.len() {
         let end = line_end(input, at);
         let p = text::read_place(&input[at..end]);
-        draw_sample(pane, f, e, v, p);
+        draw_sample(pane, canvas, e, v, p);
         at = end + 1;
     }
 }
@@ -104,7 +106,7 @@ fn draw_good(pane: &mut [u8], input: &[u8])
     let e = with_samples(of_wedge(wedge), input, from);
     let f = frame();
     draw_under(pane, f, e, wedge);
-    draw_samples(pane, f, e, wedge, input, from);
+    draw_samples(pane, f.over(pane.len()), e, wedge, input, from);
 }
 
 // Draws the day of an input over a frame of `frame`, and answers what `minutes` counts. An input that is not counted is not drawn.

@@ -4,6 +4,8 @@ use Prim.Native.Nat.{_+_}
 use native.Mathlib.Omega.{arith}
 use lib.ListN.{drop}
 use borrow.Author.Needs.{needs}
+use Rattle.framebuffer.specs.declared.Canvas.{Canvas}
+use Rattle.framebuffer.proofs.Refusals.{judged}
 use Rattle.text.specs.Fields.{lines}
 use Rattle.text.specs.Lines.{each}
 use Rattle.text.proofs.Parting.{until-within}
@@ -45,8 +47,14 @@ long c =
 draw-under-requires : tie.Need-draw-under-requires
 draw-under-requires c κs = long (c .before .before)
 
+over-requires : tie.Need-over-requires
+over-requires c κs = search needs
+
 draw-samples-requires : tie.Need-draw-samples-requires
-draw-samples-requires c κs = long (c .before .before .before .before .before .before)
+draw-samples-requires c κs =
+    let reach = c .before .before .before .before .before .before .before in
+    let e = long reach in
+    (judged _ _ (c .over .ensures), e .0, e .1)
 
 same-length : tie.Need-same-length
 same-length c = search needs
@@ -55,7 +63,8 @@ returns : tie.Need-returns
 unfolding day
 returns c =
     let samples = c .before .before in
-    let ground = samples .before .before .before .before in
+    let over = samples .before in
+    let ground = over .before .before .before .before in
     let made = ground .before .before in
     let reach = made .before in
     let found = reach .before .before in
@@ -68,7 +77,7 @@ returns c =
     let e = reach .with-samples .ensures ∙ (λ i. each withSample ((reach .before .of-wedge .ensures ∙ ap ofWedge v) i) (lines (drop (from i + 1) s))) in
     let below = ground .draw-under .ensures ∙ (λ i. leaves (f i) (under (e i) (v i)) (a .pane .now)) in
     samples .draw-samples .ensures
-    ∙ (λ i. leaves (f i) (discs (e i) (v i) (lines (drop (from i + 1) s))) (below i))
+    ∙ (λ i. leaves ((ap (λ (q : Canvas). q .frame) (over .over .ensures) ∙ f) i) (discs (e i) (v i) (lines (drop (from i + 1) s))) (below i))
     ∙ sym (leaves-append picture (under (extent s) (wedge s)) (discs (extent s) (wedge s) (lines (behindFirst s))) (a .pane .now))
 
 pub draw-good-spec : {M : Type 1} → statement M
@@ -82,6 +91,7 @@ draw-good-spec =
     with-samples-requires
     frame-requires
     draw-under-requires
+    over-requires
     draw-samples-requires
     same-length
     returns)

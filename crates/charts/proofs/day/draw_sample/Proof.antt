@@ -33,8 +33,8 @@ sub-t13 c =
     let at = c .before .before .before .before .before .before in
     fits (minus (read (at .spot .result .1) (spot-near _ _ _ (at .spot .ensures) .1) tt) (lit 1 tt) tt)
 
-draw-circle-requires : tie.Need-draw-circle-requires
-draw-circle-requires c κs = search needs
+circle-on-requires : tie.Need-circle-on-requires
+circle-on-requires c κs = search needs
 
 same-length : tie.Need-same-length
 same-length c = search needs
@@ -51,14 +51,14 @@ returns c =
     ∙ (λ i. spot (a .e) (field-back w32 (a .p .x) (told .struct-told .given .1 .0 .1) i) (field-back w32 (a .p .y) (told .struct-told .given .1 .1 .0 .1) i)) in
     let x = back (minus (read (at .spot .result .0) (spot-near _ _ _ (at .spot .ensures) .0) tt) (lit 1 tt) tt) .is ∙ ap (λ (p : Point). p .0 -ℤ pos 1) place in
     let y = back (minus (read (at .spot .result .1) (spot-near _ _ _ (at .spot .ensures) .1) tt) (lit 1 tt) tt) .is ∙ ap (λ (p : Point). p .1 -ℤ pos 1) place in
-    bytes-of (drawn .draw-circle .ensures)
-    ∙ (λ i. outcome (a .f) (wholeWindow (a .f)) (circleDrawing (x i, y i) 3 (colour .disc-colour .ensures i)) (a .pane .now) .1)
-    ∙ shown (a .f) (a .e) (a .v) (a .p) (a .pane .now) (sym (asked .is-shown .ensures) ∙ told .before .if1 .taken)
+    bytes-of (drawn .circle-on .ensures)
+    ∙ (λ i. outcome (a .canvas .frame) (wholeWindow (a .canvas .frame)) (circleDrawing (x i, y i) 3 (colour .disc-colour .ensures i)) (a .pane .now) .1)
+    ∙ shown (a .canvas .frame) (a .e) (a .v) (a .p) (a .pane .now) (sym (asked .is-shown .ensures) ∙ told .before .if1 .taken)
 
 returns-2 : tie.Need-returns-2
 returns-2 c =
     let a = c .before .before .before .args in
-    hidden (a .f) (a .e) (a .v) (a .p) (a .pane .now) (sym (c .before .is-shown .ensures) ∙ c .if1 .left)
+    hidden (a .canvas .frame) (a .e) (a .v) (a .p) (a .pane .now) (sym (c .before .is-shown .ensures) ∙ c .if1 .left)
 
 pub draw-sample-spec : {M : Type 1} → statement M
 draw-sample-spec =
@@ -69,7 +69,7 @@ draw-sample-spec =
     disc-colour-requires
     sub-t12
     sub-t13
-    draw-circle-requires
+    circle-on-requires
     same-length
     returns
     returns-2)

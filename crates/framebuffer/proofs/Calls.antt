@@ -2,11 +2,15 @@
 use mathlib.Core.Path.{_≡_, sym, ap, subst, _∙_}
 use mathlib.Core.Bool.{Bool, false, cond}
 use mathlib.Core.List.{List, [], _++_, append-nil}
-use Prim.Native.Nat.{ℕ, _*_, _≤_}
+use Prim.Native.Nat.{ℕ, _*_, _^_, _≤_, _<_}
 use native.Mathlib.Nat.{mul-le-mul}
 use lib.Dec.{eqb}
 use lib.ListN.{length}
+use lib.Signed.{mag}
+use mir.Syntax.{w32}
+use mir.Val.{toZ, ofZ, hbits}
 use borrow.Author.Tests.{ne-eqb}
+use Rattle.whole.proofs.Machine.{field-back}
 use Rattle.refusals.specs.First.{Tests, first}
 use Rattle.refusals.proofs.First.{refused, passed, both-pass}
 use Rattle.geometry.specs.declared.Point.{Point}
@@ -21,7 +25,7 @@ use Rattle.framebuffer.specs.declared.Brush.{Brush}
 use Rattle.framebuffer.specs.declared.Drawn.{Drawn}
 use Rattle.framebuffer.specs.declared.Placed.{Placed}
 use Rattle.framebuffer.specs.Answer.{drawn, wasInside}
-use Rattle.framebuffer.specs.Description.{raster, drawTests}
+use Rattle.framebuffer.specs.Description.{described, raster, drawTests}
 use Rattle.framebuffer.specs.Drawing.{Drawing, pixelDrawing, fillDrawing, callTests, outcome, pixelOutcome}
 use Rattle.framebuffer.specs.Judged.{Drawable, overBytes, Within, Ready, wholeBrush, brushed}
 use Rattle.framebuffer.specs.Window.{inWindow, heldBy, wholeWindow}
@@ -113,6 +117,14 @@ module _ (f : Frame) (p : Point) (colour : ℕ) (b : List ℕ) {r : ℕ} (e : r 
       let a = accepted-outcome f (wholeWindow f) d b number-is z (λ j. (pixelsIn (raster f) (heldBy (wholeWindow f) (d .figure)), bytes j)) in
       (λ j. (record { number = 0; inside = (i ∙ ap (λ (q : Window). inWindow q (p .0) (p .1)) w) j }, a j .1))
       ∙ ap (λ (k : ℕ). (wasInside k (inWindow (wholeWindow f) (p .0) (p .1)), outcome f (wholeWindow f) d b .1)) (sym z ∙ number-is)
+
+-- a pixel set, with the frame's depth and the place's coordinates handed on by themselves
+pub pixel-apart : (f : Frame) (p : Point) (colour : ℕ) (b : List ℕ) {d : ℕ} {r : Placed} {after : List ℕ} → f .depth ≡ d → mag (p .0) < 2 ^ hbits w32 → mag (p .1) < 2 ^ hbits w32
+    → _≡_ {A = Placed × List ℕ} (r, after)
+    (pixelOutcome (described (f .width) (f .height) d (f .big) (f .distance)) (wholeWindow f) (toZ w32 (ofZ w32 (p .0)), toZ w32 (ofZ w32 (p .1))) colour b)
+    → _≡_ {A = Placed × List ℕ} (r, after) (pixelOutcome f (wholeWindow f) p colour b)
+pixel-apart f p colour b e h k said =
+    said ∙ (λ i. pixelOutcome (described (f .width) (f .height) (sym e i) (f .big) (f .distance)) (wholeWindow f) (field-back w32 (p .0) h i, field-back w32 (p .1) k i) colour b)
 
 -- the whole frame painted; the count fits
 pub whole-fits : (f : Frame) (len colour : ℕ) {r : ℕ} → r ≡ first (drawTests f len colour) → r ≡ 0 → f .height * f .width ≤ 4194304

@@ -36,6 +36,11 @@ draw-numbered f len colour = refl
 pub judged : (f : Frame) (len : ℕ) {c : Canvas} → c ≡ overBytes f len → Over c len
 judged f len e = ap (λ (c : Canvas). c .number) e ∙ sym (ap (λ (c : Canvas). first (frameTests (c .frame) len)) e)
 
+-- ---- a depth that is none of the seven
+pub no-depth : (f : Frame) (len colour : ℕ) → goodDepth (f .depth) ≡ false → 1 ≡ first (drawTests f len colour)
+unfolding descriptionTests frameTests drawTests
+no-depth f len colour e = simp e
+
 -- ---- what 0 says
 pub is-described : (f : Frame) → first (descriptionTests f) ≡ 0 → Described f
 unfolding descriptionTests

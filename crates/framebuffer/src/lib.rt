@@ -330,11 +330,20 @@ pub fn put_point(buf: &mut [u8], brush: Brush, p: geometry::Point) -> bool
     put_within(buf, brush.frame, brush.window, p, brush.colour)
 }
 
-// The pixel at a place gets the colour; outside the frame nothing changes, and the answer says so.
-pub fn set_pixel(buf: &mut [u8], frame: Frame, p: geometry::Point, colour: u32) -> Placed
-    ensures { λ r. ⌜ (r, now (buf .exit)) ≡ pixelOutcome frame (wholeWindow frame) p colour (now (buf .entry)) ⌝ }
+// A pixel set on a frame of this depth. Where that is a constant the compiler works out what goes by it: the bytes of a row and of a pixel, the mask, each shift. The place comes as
+// two numbers, of which it knows more than of a point.
+fn set_at_depth(buf: &mut [u8], depth: u32, frame: Frame, x: i32, y: i32, colour: u32) -> Placed
+    ensures { λ r. ⌜ (r, now (buf .exit)) ≡
+        pixelOutcome (described (frame .width) (frame .height) depth (frame .big) (frame .distance)) (wholeWindow frame) (x, y) colour (now (buf .entry)) ⌝ }
 {
-    let number = draw_refusal(frame, buf.len(), colour);
+    let known = Frame {
+        width: frame.width,
+        height: frame.height,
+        depth,
+        big: frame.big,
+        distance: frame.distance,
+    };
+    let number = draw_refusal(known, buf.len(), colour);
     if number != 0 {
         return Placed {
             number,
@@ -343,7 +352,30 @@ pub fn set_pixel(buf: &mut [u8], frame: Frame, p: geometry::Point, colour: u32) 
     }
     Placed {
         number: 0,
-        inside: put_within(buf, frame, frame.window(), p, colour),
+        inside: put_within(buf, known, known.window(), geometry::Point(x, y), colour),
+    }
+}
+
+// The pixel at a place gets the colour; outside the frame nothing changes, and the answer says so. Each depth is handed on as a constant, which measured faster by a fifth to a
+// third (docs/BENCHMARKS.md).
+pub fn set_pixel(buf: &mut [u8], frame: Frame, p: geometry::Point, colour: u32) -> Placed
+    ensures { λ r. ⌜ (r, now (buf .exit)) ≡ pixelOutcome frame (wholeWindow frame) p colour (now (buf .entry)) ⌝ }
+{
+    let x = p.0;
+    let y = p.1;
+    let depth = frame.depth;
+    match depth {
+        1 => set_at_depth(buf, 1, frame, x, y, colour),
+        2 => set_at_depth(buf, 2, frame, x, y, colour),
+        4 => set_at_depth(buf, 4, frame, x, y, colour),
+        8 => set_at_depth(buf, 8, frame, x, y, colour),
+        16 => set_at_depth(buf, 16, frame, x, y, colour),
+        24 => set_at_depth(buf, 24, frame, x, y, colour),
+        32 => set_at_depth(buf, 32, frame, x, y, colour),
+        _ => Placed {
+            number: 1,
+            inside: false,
+        },
     }
 }
 

@@ -1,28 +1,31 @@
--- `framebuffer::set_pixel` answers its number, and where that is 0 puts the pixel within the rectangle of the whole frame. Assumes nothing.
+-- `framebuffer::set_pixel` hands each of the seven depths on, with what it knows of the place; any other is refused. Assumes nothing.
+use mathlib.Core.Path.{_≡_}
+use mathlib.Core.Bool.{false}
+use native.Mathlib.Omega.{arith}
+use lib.ListN.{length}
 use borrow.Author.Needs.{needs}
-use Rattle.framebuffer.proofs.Calls.{drawable, within-whole, refused-pixel, placed-pixel}
+use borrow.Author.Tests.{ne-eqb}
+use Rattle.layout.specs.Packed.{goodDepth}
+use Rattle.framebuffer.proofs.Refusals.{no-depth}
+use Rattle.framebuffer.proofs.Calls.{refused-pixel, pixel-apart}
 use Rattle.framebuffer.proofs.set_pixel.Statement.{statement}
 use Rattle.framebuffer.proofs.set_pixel.Tie as tie
 
-draw-refusal-requires : tie.Need-draw-refusal-requires
-draw-refusal-requires c κs = search needs
-
--- refused
-returns : tie.Need-returns
-returns c = search refused-pixel
-
-window-requires : tie.Need-window-requires
-window-requires c κs = search needs
-
-put-within-requires : tie.Need-put-within-requires
-put-within-requires c κs = search (drawable, within-whole)
-
-same-length : tie.Need-same-length
-same-length c = search needs
-
--- accepted
-returns-2 : tie.Need-returns-2
-returns-2 c = search placed-pixel
+-- none of the seven
+returns-8 : tie.Need-returns-8
+returns-8 c =
+    let a = c .before .before .before .before .args in
+    let n = c .match .rest in
+    let bad : goodDepth (a .frame .depth) ≡ false =
+    simp
+    (ne-eqb _ 1 (n .0 .0 .0 .0 .0 .0 .1), ne-eqb _ 2 (n .0 .0 .0 .0 .0 .1), ne-eqb _ 4 (n .0 .0 .0 .0 .1), ne-eqb _ 8 (n .0 .0 .0 .1), ne-eqb _ 16 (n .0 .0 .1), ne-eqb _ 24 (n .0 .1), ne-eqb _ 32 (n .1)) in
+    refused-pixel (a .frame) (a .p) (a .colour) (a .buf .now) (no-depth (a .frame) (length (a .buf .now)) (a .colour) bad) (λ z. omega arith)
 
 pub set-pixel-spec : {M : Type 1} → statement M
-set-pixel-spec = tie.close (tie.spec draw-refusal-requires returns window-requires put-within-requires same-length returns-2)
+set-pixel-spec =
+    tie.close
+    (tie.spec
+    (λ c κs. search needs) (λ c κs. search needs) (λ c κs. search needs) (λ c κs. search needs) (λ c κs. search needs) (λ c κs. search needs) (λ c κs. search needs)
+    (λ c. search needs) (λ c. search pixel-apart) (λ c. search needs) (λ c. search pixel-apart) (λ c. search needs) (λ c. search pixel-apart)
+    (λ c. search needs) (λ c. search pixel-apart) (λ c. search needs) (λ c. search pixel-apart) (λ c. search needs) (λ c. search pixel-apart)
+    (λ c. search needs) (λ c. search pixel-apart) returns-8)

@@ -12,7 +12,7 @@ use lib.ListN.{length, getD, set, take, drop, replicate, length-drop}
 use lib.Seq.{length-take-le}
 use Rattle.layout.specs.Digits.{digit, value, setRun}
 use Rattle.layout.specs.Packed.{goodDepth, turned, fullByte}
-use Rattle.layout.proofs.Cells.{value-cong}
+use Rattle.layout.proofs.Cells.{digit-lt, value-cong, digit-value}
 use Rattle.layout.proofs.Places.{large}
 use Rattle.layout.proofs.Runs.{run-in, run-cong, run-then, run-part}
 use Rattle.layout.proofs.Fields.{pow-mul, value-lt}
@@ -25,6 +25,32 @@ digit-is (suc j) v =
     ap (λ (x : ℕ). bitAnd x 255)
     (ap (λ (x : ℕ). v / x) (ap (λ (x : ℕ). 2 ^ x) (mul-suc 8 j) ∙ pow-add 2 (8 * j) 8 ∙ mul-comm (2 ^ (8 * j)) (2 ^ 8)) ∙ sym (div-div-eq-div-mul v (2 ^ 8) (2 ^ (8 * j))))
     ∙ digit-is j (v / 2 ^ 8)
+
+-- what is left of a shift has the digits from one on
+digit-later : (j k v : ℕ) → digit 256 k (v / 2 ^ (8 * j)) ≡ digit 256 (j + k) v
+digit-later j k v =
+    let e : 8 * j + 8 * k ≡ 8 * (j + k) = omega arith in
+    sym (digit-is k (v / 2 ^ (8 * j)))
+    ∙ ap (λ (x : ℕ). bitAnd x 255) (div-div-eq-div-mul v (2 ^ (8 * j)) (2 ^ (8 * k)) ∙ ap (λ (x : ℕ). v / x) (sym (pow-add 2 (8 * j) (8 * k)) ∙ ap (λ (x : ℕ). 2 ^ x) e))
+    ∙ digit-is (j + k) v
+
+-- a colour's four digits the other way round
+abbrev pub rounded : ℕ → ℕ
+rounded v = value 256 4 (λ m. digit 256 (3 - m) v)
+
+pub rounded-is : (v : ℕ) → ((digit 256 0 v * 256 + digit 256 1 v) * 256 + digit 256 2 v) * 256 + digit 256 3 v ≡ rounded v
+rounded-is v = omega arith
+
+pub rounded-lt : (v : ℕ) → rounded v < 4294967296
+rounded-lt v = value-lt 256 4 _ (λ m. digit-lt 256 (pow-pos 8) (3 - m) v)
+
+-- of n of them the highest come first
+pub rounded-digit : (n v : ℕ) → n ≤ 4 → (k : ℕ) → k < n → digit 256 k (rounded v / 2 ^ (8 * (4 - n))) ≡ digit 256 (turned true n k) v
+rounded-digit n v l k h =
+    let e : 3 - (4 - n + k) ≡ n - 1 - k = omega arith in
+    digit-later (4 - n) k (rounded v)
+    ∙ digit-value 256 (pow-pos 8) 4 (4 - n + k) (λ m. digit 256 (3 - m) v) (λ m. digit-lt 256 (pow-pos 8) (3 - m) v) (omega arith)
+    ∙ ap (λ (j : ℕ). digit 256 j v) e
 
 -- the digits from k on are put together; then the one before
 pub next-digit : (n k sum x : ℕ) (d : ℕ → ℕ) → ((m : ℕ) → d m < 256) → n ≤ 4 → 0 < k → k ≤ n

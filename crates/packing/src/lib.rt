@@ -152,12 +152,29 @@ fn turn(big: bool, parts: usize, k: usize) -> usize
     k
 }
 
-// Byte k of a pixel.
-fn byte_of_pixel(big: bool, parts: usize, k: usize, colour: u32) -> u8
-    requires { ⌜ (k < parts) × (parts ≤ 4) ⌝ }
-    ensures { λ r. ⌜ r ≡ digit 256 (turned big parts k) colour ⌝ }
+// Byte k of a number, the lowest being byte 0.
+fn byte_at(v: u32, k: u32) -> u8
+    requires { ⌜ k < 4 ⌝ }
+    ensures { λ r. ⌜ r ≡ digit 256 k v ⌝ }
 {
-    (colour >> (8 * turn(big, parts, k) as u32) & 255) as u8
+    (v >> (8 * k) & 255) as u8
+}
+
+// The number whose byte k is byte k of a pixel: the colour, or with the big end first its digits the other way round, of which the compiler makes one instruction.
+fn in_order(big: bool, parts: usize, colour: u32) -> u32
+    requires { ⌜ parts ≤ 4 ⌝ }
+    ensures { λ r. ⌜ ((k : ℕ) → k < parts → digit 256 k r ≡ digit 256 (turned big parts k) colour) ⌝ }
+{
+    if !big {
+        return colour;
+    }
+    let round = beside(
+        byte_at(colour, 0),
+        byte_at(colour, 1),
+        byte_at(colour, 2),
+        byte_at(colour, 3),
+    );
+    (round >> (8 * (4 - parts as u32))) as u32
 }
 
 // Inside the library: the colour, written over all of a part of the buffer, a digit a byte.
@@ -167,19 +184,20 @@ pub fn store(part: &mut [u8], big: bool, colour: u32)
         (let n = length (now (part .entry)) in setRun 0 n (λ j. digit 256 (turned big n j) colour) (now (part .entry))) ⌝ }
 {
     let n = part.len();
-    part[0] = byte_of_pixel(big, n, 0, colour);
+    let bytes = in_order(big, n, colour);
+    part[0] = byte_at(bytes, 0);
     if n == 1 {
         return;
     }
-    part[1] = byte_of_pixel(big, n, 1, colour);
+    part[1] = byte_at(bytes, 1);
     if n == 2 {
         return;
     }
-    part[2] = byte_of_pixel(big, n, 2, colour);
+    part[2] = byte_at(bytes, 2);
     if n == 3 {
         return;
     }
-    part[3] = byte_of_pixel(big, n, 3, colour);
+    part[3] = byte_at(bytes, 3);
 }
 
 // Inside the library: the colour that all of a part of the buffer holds.

@@ -18,22 +18,10 @@ byte c k = digit 256 (turned (c .args .big) (length (c .args .part .now)) k) (c 
 abbrev written : tie.Start → ℕ → List ℕ
 written c k = setRun 0 k (byte c) (c .args .part .now)
 
-in-order-requires : tie.Need-in-order-requires
-in-order-requires c κs = search needs
-
 -- byte k of the colour in order is that of the pixel
 module _ (c : tie.After-in-order) where
   is-byte : (k : ℕ) {r : ℕ} → k < length (c .before .before .args .part .now) → r ≡ digit 256 k (c .in-order .result) → r ≡ byte (c .before .before) k
   is-byte k h e = e ∙ c .in-order .ensures k h
-
-byte-at-requires : tie.Need-byte-at-requires
-byte-at-requires c κs = search needs
-
-slice-write-part : tie.Need-slice-write-part
-slice-write-part c = search needs
-
-same-length : tie.Need-same-length
-same-length c = search needs
 
 returns : tie.Need-returns
 returns c =
@@ -43,14 +31,8 @@ returns c =
     let b0 = is-byte o 0 (omega arith) (c .before .byte-at .ensures) in
     (λ i. set b 0 (b0 i)) ∙ ap (written s) (sym (c .if1 .taken))
 
-byte-at-requires-2 : tie.Need-byte-at-requires-2
-byte-at-requires-2 c κs = search needs
-
 slice-write-part-2 : tie.Need-slice-write-part-2
 slice-write-part-2 c = simp length-set (omega arith)
-
-same-length-2 : tie.Need-same-length-2
-same-length-2 c = search needs
 
 returns-2 : tie.Need-returns-2
 returns-2 c =
@@ -61,14 +43,8 @@ returns-2 c =
     let b1 = is-byte o 1 (omega arith) (c .before .byte-at2 .ensures) in
     (λ i. set (set b 0 (b0 i)) 1 (b1 i)) ∙ ap (written s) (sym (c .if2 .taken))
 
-byte-at-requires-3 : tie.Need-byte-at-requires-3
-byte-at-requires-3 c κs = search needs
-
 slice-write-part-3 : tie.Need-slice-write-part-3
 slice-write-part-3 c = simp length-set (omega arith)
-
-same-length-3 : tie.Need-same-length-3
-same-length-3 c = search needs
 
 returns-3 : tie.Need-returns-3
 returns-3 c =
@@ -80,14 +56,8 @@ returns-3 c =
     let b2 = is-byte o 2 (omega arith) (c .before .byte-at3 .ensures) in
     (λ i. set (set (set b 0 (b0 i)) 1 (b1 i)) 2 (b2 i)) ∙ ap (written s) (sym (c .if3 .taken))
 
-byte-at-requires-4 : tie.Need-byte-at-requires-4
-byte-at-requires-4 c κs = search needs
-
 slice-write-part-4 : tie.Need-slice-write-part-4
 slice-write-part-4 c = simp length-set (omega arith)
-
-same-length-4 : tie.Need-same-length-4
-same-length-4 c = search needs
 
 returns-4 : tie.Need-returns-4
 returns-4 c =
@@ -105,20 +75,7 @@ pub store-spec : {M : Type 1} → statement M
 store-spec =
     tie.close
     (tie.spec
-    in-order-requires
-    byte-at-requires
-    slice-write-part
-    same-length
-    returns
-    byte-at-requires-2
-    slice-write-part-2
-    same-length-2
-    returns-2
-    byte-at-requires-3
-    slice-write-part-3
-    same-length-3
-    returns-3
-    byte-at-requires-4
-    slice-write-part-4
-    same-length-4
-    returns-4)
+    (λ c κs. search needs) (λ c κs. search needs) (λ c. search needs) (λ c. search needs) returns
+    (λ c κs. search needs) slice-write-part-2 (λ c. search needs) returns-2
+    (λ c κs. search needs) slice-write-part-3 (λ c. search needs) returns-3
+    (λ c κs. search needs) slice-write-part-4 (λ c. search needs) returns-4)

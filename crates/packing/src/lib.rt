@@ -2,7 +2,7 @@
 // runs of bytes that hold pixels of one colour.
 ghost use mathlib.Core.Path.{_≡_};
 ghost use mathlib.Core.Bool.{true};
-ghost use Prim.Native.Nat.{_+_, _*_, _/_, _%_, _^_, _≤_, _<_};
+ghost use Prim.Native.Nat.{ℕ, _+_, _*_, _/_, _%_, _^_, _≤_, _<_};
 ghost use lib.ListN.{length, getD, replicate};
 ghost use Rattle.layout.specs.Digits.{digit, value, replaced, setRun};
 ghost use Rattle.layout.specs.Packed.{goodDepth, field, parts, per, turned, slotOf, fullByte};

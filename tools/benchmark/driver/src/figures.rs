@@ -129,13 +129,12 @@ fn circle_rows<'a>() -> Race<'a> {
 }
 
 fn line_off_the_frame<'a>() -> Race<'a> {
-    let name = "a line of 16,000 points, drawn off the frame, against the Rust's points";
-    off_the_frame(name, long_line().points().count(), ours::Frame::draw_line, rust_points)
+    off_the_frame("a whole line of 16,000 points off the frame, against the Rust's points", ours::Frame::draw_line, rust_points)
 }
 
 fn connected_line_off_the_frame<'a>() -> Race<'a> {
-    let name = "a connected line of 16,000 steps, drawn off the frame, against the Rust's `next_all`";
-    off_the_frame(name, long_line().connected_points().count(), ours::Frame::draw_connected_line, rust_connected_points)
+    let name = "a whole connected line of 16,000 steps off the frame, against the Rust's `next_all`";
+    off_the_frame(name, ours::Frame::draw_connected_line, rust_connected_points)
 }
 
 fn long_line() -> Line {
@@ -143,13 +142,8 @@ fn long_line() -> Line {
     Line::new(start, end)
 }
 
-/// The Rust only hands the points out; our library holds each to a frame that has none of them.
-fn off_the_frame<'a>(
-    name: &str,
-    points: usize,
-    draw: fn(&mut ours::Frame, ours::Place, ours::Place, u32),
-    walk: fn(&Line) -> i32,
-) -> Race<'a> {
+/// The Rust only hands the points out; our library finds that the frame has none of them.
+fn off_the_frame<'a>(name: &str, draw: fn(&mut ours::Frame, ours::Place, ours::Place, u32), walk: fn(&Line) -> i32) -> Race<'a> {
     let ([start, end], line) = (ENDS, long_line());
     let mut frame = ours::Frame::new(64, 64, 1);
     draw(&mut frame, start, end, 1);
@@ -158,8 +152,8 @@ fn off_the_frame<'a>(
         name: name.into(),
         against: "the Rust",
         goal: Some(1.0),
-        ours: Work::new(points, move || draw(&mut frame, black_box(start), black_box(end), 1)),
-        other: Work::new(points, move || {
+        ours: Work::new(1, move || draw(&mut frame, black_box(start), black_box(end), 1)),
+        other: Work::new(1, move || {
             black_box(walk(black_box(&line)));
         }),
     }

@@ -1,8 +1,9 @@
-//! Setting pixels, level lines, filling triangles, filling the frame.
+//! Setting pixels, lines, filling triangles, filling the frame.
 
 use crate::{
     expected::{colour, hold, new_frame, parts_of, rows, Row, SIDE},
     inputs::{point, Inputs},
+    ours::{Frame, Place},
     race::{Race, Work},
     shapes::{drawing, Ours, Shapes, HALF, LINES, ON_THE_FRAME, PIXELS},
 };
@@ -10,6 +11,7 @@ use embedded_graphics::{
     framebuffer::Framebuffer,
     geometry::Point,
     pixelcolor::raw::{LittleEndian, RawData, RawU1, RawU16, RawU2, RawU24, RawU32, RawU4, RawU8},
+    primitives::{Line, PointsIter},
 };
 use std::{hint::black_box, ops::Range, slice};
 
@@ -60,7 +62,32 @@ pub fn races<'a>() -> Vec<Race<'a>> {
         races.push(fill_against_memset(depth, goal));
     }
     races.push(level_line_against_memset());
+    races.push(line_on_the_frame("a line of 2,048 points on the frame", Frame::draw_line, |line| line.points()));
+    races.push(line_on_the_frame("a connected line of 2,048 steps on the frame", Frame::draw_connected_line, |line| {
+        line.connected_points()
+    }));
     races
+}
+
+/// The Rust sets each of the points that it hands out.
+fn line_on_the_frame<'a, I: Iterator<Item = Point>>(name: &str, draw: fn(&mut Frame, Place, Place, u32), points: fn(&Line) -> I) -> Race<'a>
+where
+    I: 'a,
+{
+    let (start, end) = ((0, 100), (SIDE as i32 - 1, 803));
+    let line = Line::new(point(start), point(end));
+    let mut frame = new_frame(8);
+    let mut rust = Box::new(Rust8(Framebuffer::new()));
+    draw(&mut frame, start, end, 1);
+    points(&line).for_each(|p| rust.set(p, 1));
+    assert!(frame.bytes == rust.bytes(), "{name}: the sides disagree");
+    Race {
+        name: format!("{name}, depth 8"),
+        against: "the Rust's points and `set_pixel`",
+        goal: Some(1.0),
+        ours: Work::new(1, move || draw(&mut frame, black_box(start), black_box(end), black_box(1))),
+        other: Work::new(1, move || points(black_box(&line)).for_each(|p| rust_set_pixel(&mut *rust, p, black_box(1)))),
+    }
 }
 
 fn at_small_depth<'a, R: Rust + 'a>(races: &mut Vec<Race<'a>>, depth: u32, new: fn() -> R) {

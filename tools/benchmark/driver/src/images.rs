@@ -17,15 +17,9 @@ const KINDS: [(&str, u32, u32, f64); 4] = [
 
 pub fn races<'a>() -> Vec<Race<'a>> {
     let written = KINDS.map(|(kind, depth, order, goal)| written(kind, depth, order, goal));
+    let behind = read("depth 1, the file 3 bytes behind a multiple of 16", 1, LITTLE, None, 3);
     let read = KINDS.map(|(kind, depth, order, goal)| read(kind, depth, order, Some(goal), 0));
-    let aligned = read_aligned();
-    written.into_iter().chain(read).chain([aligned]).collect()
-}
-
-/// Of the file that fits the processor's cache: how much of its time goes by where the pixels stand, which its header moves off a multiple of 16 bytes.
-fn read_aligned<'a>() -> Race<'a> {
-    let (frame, file) = frame_and_file(1, LITTLE);
-    read("depth 1, its pixels at a multiple of 16 bytes", 1, LITTLE, None, (file.len() - frame.len()).wrapping_neg() % 16)
+    written.into_iter().chain(read).chain([behind]).collect()
 }
 
 fn written<'a>(kind: &str, depth: u32, order: u32, goal: f64) -> Race<'a> {

@@ -77,6 +77,7 @@ fn spread([lower, median, upper]: [f64; 3], shown: impl Fn(f64) -> String) -> St
 
 fn shown_time(nanoseconds: f64) -> String {
     match nanoseconds {
+        n if n < 0.1 => format!("{n:.6} ns"),
         n if n < 1e3 => format!("{n:.3} ns"),
         n if n < 1e6 => format!("{:.2} us", n / 1e3),
         n => format!("{:.2} ms", n / 1e6),

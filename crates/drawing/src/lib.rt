@@ -121,7 +121,7 @@ fn draw_level(buf: &mut [u8], brush: Brush, start: Point, end: Point) -> u32
     framebuffer::paint_span(buf, brush, y, row.0, row.1)
 }
 
-// An upright line stays in its column.
+// An upright line stays in its column: what goes by the column is worked out before the loop.
 fn draw_upright(buf: &mut [u8], brush: Brush, start: Point, end: Point) -> u32
     requires { ⌜ Ready brush (length (now buf)) × (Bounded start × Bounded end) × (start .0 ≡ end .0) ⌝ }
     ensures { λ r. ⌜ (r, now (buf .exit)) ≡ brushed brush (lineFigure start end) (now (buf .entry)) ⌝ }
@@ -141,7 +141,7 @@ fn draw_upright(buf: &mut [u8], brush: Brush, start: Point, end: Point) -> u32
     seen
 }
 
-// The same of a line by itself: no edge comes before it.
+// A line by itself: no edge comes before it.
 fn draw_alone(buf: &mut [u8], brush: Brush, start: Point, end: Point) -> u32
     requires { ⌜ Ready brush (length (now buf)) × (Bounded start × Bounded end) ⌝ }
     ensures { λ r. ⌜ (r, now (buf .exit)) ≡ brushed brush (lineFigure start end) (now (buf .entry)) ⌝ }
@@ -173,8 +173,8 @@ fn line_number(canvas: Canvas, start: Point, end: Point, colour: u32) -> u32
     line::refusal(start, end)
 }
 
-// Inside the library: draw_line on a frame that was judged over the buffer.
-pub fn line_on(buf: &mut [u8], canvas: Canvas, start: Point, end: Point, colour: u32) -> Drawn
+// `draw_line` on a frame that was judged over the buffer.
+fn line_on(buf: &mut [u8], canvas: Canvas, start: Point, end: Point, colour: u32) -> Drawn
     requires { ⌜ Over canvas (length (now buf)) ⌝ }
     ensures { λ r. ⌜ (r, now (buf .exit)) ≡ outcome (canvas .frame) (wholeWindow (canvas .frame)) (lineDrawing start end colour) (now (buf .entry)) ⌝ }
 {
@@ -230,14 +230,8 @@ fn draw_connected(buf: &mut [u8], brush: Brush, start: Point, end: Point) -> u32
     seen
 }
 
-// Inside the library: draw_connected_line on a frame that was judged over the buffer.
-pub fn connected_line_on(
-    buf: &mut [u8],
-    canvas: Canvas,
-    start: Point,
-    end: Point,
-    colour: u32,
-) -> Drawn
+// `draw_connected_line` on a frame that was judged over the buffer.
+fn connected_line_on(buf: &mut [u8], canvas: Canvas, start: Point, end: Point, colour: u32) -> Drawn
     requires { ⌜ Over canvas (length (now buf)) ⌝ }
     ensures { λ r. ⌜ (r, now (buf .exit)) ≡ outcome (canvas .frame) (wholeWindow (canvas .frame)) (connectedDrawing start end colour) (now (buf .entry)) ⌝ }
 {
@@ -334,15 +328,8 @@ fn draw_edges(buf: &mut [u8], brush: Brush, v1: Point, v2: Point, v3: Point) -> 
     of_first + of_second + draw_edge(buf, brush, both, p1, p3)
 }
 
-// Inside the library: draw_outline on a frame that was judged over the buffer.
-pub fn outline_on(
-    buf: &mut [u8],
-    canvas: Canvas,
-    v1: Point,
-    v2: Point,
-    v3: Point,
-    colour: u32,
-) -> Drawn
+// `draw_outline` on a frame that was judged over the buffer.
+fn outline_on(buf: &mut [u8], canvas: Canvas, v1: Point, v2: Point, v3: Point, colour: u32) -> Drawn
     requires { ⌜ Over canvas (length (now buf)) ⌝ }
     ensures { λ r. ⌜ (r, now (buf .exit)) ≡ outcome (canvas .frame) (wholeWindow (canvas .frame)) (outlineDrawing v1 v2 v3 colour) (now (buf .entry)) ⌝ }
 {
@@ -404,7 +391,7 @@ fn circle_number(canvas: Canvas, topleft: Point, diameter: u32, colour: u32) -> 
     circle::refusal(topleft, diameter)
 }
 
-// Inside the library: draw_circle on a frame that was judged over the buffer.
+// Inside the library: `draw_circle` on a frame that was judged over the buffer.
 pub fn circle_on(
     buf: &mut [u8],
     canvas: Canvas,
@@ -462,8 +449,8 @@ fn fill_triangle(buf: &mut [u8], brush: Brush, v1: Point, v2: Point, v3: Point) 
     seen
 }
 
-// Inside the library: draw_triangle on a frame that was judged over the buffer.
-pub fn triangle_on(
+// `draw_triangle` on a frame that was judged over the buffer.
+fn triangle_on(
     buf: &mut [u8],
     canvas: Canvas,
     v1: Point,

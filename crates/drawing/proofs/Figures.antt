@@ -8,6 +8,7 @@ use native.Mathlib.Nat.{mul-le-mul}
 use native.Mathlib.Numerals.{add-one}
 use native.Mathlib.Omega.{arith}
 use lib.IntN.{ℤ, pos}
+use mir.Val.{boolByte}
 use Rattle.whole.proofs.Decides.{decides-no}
 use Rattle.whole.proofs.Tests.{lt-or-ge}
 use Rattle.geometry.specs.declared.Point.{Point}
@@ -17,6 +18,7 @@ use Rattle.line.specs.Line.{pointAt, points, hasPoint, someStep}
 use Rattle.connected.specs.Connected.{connectedAt, connectedPoints, hasConnected}
 use Rattle.layout.specs.Count.{oneIf, pixelsIn}
 use Rattle.layout.specs.Figure.{single}
+use Rattle.layout.proofs.Counts.{one-small}
 use Rattle.layout.proofs.Placing.{Placing, Everywhere}
 use Rattle.layout.proofs.Painted.{painted-cong, painted-none, painted-painted}
 use Rattle.layout.proofs.Pixels.{pixels-cong, pixels-none, pixels-le, pixels-add, marked-then}
@@ -81,6 +83,14 @@ line-walked s e = refl
 pub connected-walked : (s e : Point) → walked (connectedAt s e) (connectedPoints s e) ≡ connectedFigure s e
 unfolding hasConnected
 connected-walked s e = refl
+
+-- a point that is inside, as a number, adds one where there is no earlier figure
+pub inside-adds : (inside : Bool) → boolByte inside ≡ oneIf (inside && not false)
+inside-adds true = refl
+inside-adds false = refl
+
+pub inside-one : (inside : Bool) → boolByte inside ≤ 1
+inside-one inside = one-small (inside && not false) (inside-adds inside)
 
 -- no step below k leads to p
 none-leads : (path : ℕ → Point) (p : Point) (k : ℕ) → ((j : ℕ) → j < k → p ≡ path j → ⊥) → someStep path p k ≡ false

@@ -7,9 +7,7 @@ use Rattle.refusals.specs.First.{first}
 use Rattle.circle.specs.Refusal.{circleTests}
 use Rattle.circle.proofs.Refusals.{is-accepted}
 use Rattle.framebuffer.specs.Description.{drawTests}
-use Rattle.framebuffer.specs.Window.{wholeWindow}
-use Rattle.framebuffer.proofs.Calls.{ready-own, own-passed, refused-outcome, brushed-outcome}
-use Rattle.drawing.specs.Drawing.{circleDrawing}
+use Rattle.framebuffer.proofs.Calls.{calls}
 use Rattle.drawing.proofs.circle_on.Statement.{statement}
 use Rattle.drawing.proofs.circle_on.Tie as tie
 
@@ -22,32 +20,20 @@ number c = let s = c .before .before in c .circle-number .ensures (length (s .ar
 
 -- refused
 returns : tie.Need-returns
-returns c =
-    let a = c .before .before .before .args in
-    refused-outcome (a .canvas .frame) (wholeWindow (a .canvas .frame)) (circleDrawing (a .topleft) (a .diameter) (a .colour)) (a .buf .now) (number (c .before)) (c .if1 .taken)
+returns c = let n = number (c .before) in search calls
 
 brush-requires : tie.Need-brush-requires
 brush-requires c κs = search needs
 
 fill-circle-requires : tie.Need-fill-circle-requires
-fill-circle-requires c κs =
-    let test = c .before .before .before in
-    let a = test .before .before .before .args in (
-      ready-own (a .canvas .frame) (length (a .buf .now)) (a .colour) (circleTests (a .topleft) (a .diameter)) (c .brush .ensures) (number (test .before)) (test .if1 .left),
-      is-accepted _ _ (own-passed (a .canvas .frame) (length (a .buf .now)) (a .colour) (circleTests (a .topleft) (a .diameter)) (number (test .before)) (test .if1 .left)),
-    )
+fill-circle-requires c κs = let n = number (c .before .before .before .before) in (search calls, is-accepted _ _ (search calls))
 
 same-length : tie.Need-same-length
 same-length c = search needs
 
 -- accepted
 returns-2 : tie.Need-returns-2
-returns-2 c =
-    let made = c .before .before in
-    let brush = made .before in
-    let test = brush .before .before .before in
-    let a = test .before .before .before .args in
-    brushed-outcome (a .canvas .frame) (circleDrawing (a .topleft) (a .diameter) (a .colour)) (a .buf .now) (number (test .before)) (test .if1 .left) (brush .brush .ensures) (made .fill-circle .ensures)
+returns-2 c = let n = number (c .before .before .before .before .before .before .before) in search calls
 
 pub circle-on-spec : {M : Type 1} → statement M
 circle-on-spec = tie.close (tie.spec circle-number-requires returns brush-requires fill-circle-requires same-length returns-2)

@@ -1,12 +1,11 @@
 -- `drawing::draw_connected` sets the points that the walker hands out, one a turn: before index i those of the indices below i are set, and those inside are counted.
 -- The points that are left out are outside the rectangle. No two are the same. Assumes nothing.
 use mathlib.Core.Path.{_≡_, refl, sym, ap, subst, _∙_}
-use mathlib.Core.Bool.{Bool, true, false, cond, not, _&&_}
+use mathlib.Core.Bool.{Bool, false, cond}
 use Prim.Native.Nat.{ℕ, _-_, _≤_}
 use native.Mathlib.Omega.{arith}
 use lib.IntN.{ℤ}
 use lib.ListN.{length}
-use mir.Val.{boolByte}
 use borrow.Author.Needs.{needs}
 use borrow.Author.Tests.{le-ltb}
 use Rattle.geometry.specs.declared.Point.{Point}
@@ -15,14 +14,12 @@ use Rattle.connected.specs.Connected.{indexOf, lastIndex, connectedPoints, poin
 use Rattle.connected.specs.Walk.{NextAt}
 use Rattle.connected.proofs.Indices.{last-size, index-last, index-more, before-most}
 use Rattle.connected.proofs.Members.{distinct}
-use Rattle.layout.specs.Count.{oneIf}
-use Rattle.layout.proofs.Counts.{one-small}
 use Rattle.framebuffer.specs.declared.Steps.{Steps}
 use Rattle.framebuffer.specs.Judged.{Ready}
 use Rattle.framebuffer.proofs.Windows.{within-small}
 use Rattle.drawing.specs.Clipped.{LineSteps}
 use Rattle.drawing.specs.Figure.{connectedFigure}
-use Rattle.drawing.proofs.Figures.{connected-walked, none-earlier, Along, along-start, along-turn, along-skip, along-end}
+use Rattle.drawing.proofs.Figures.{connected-walked, inside-adds, inside-one, none-earlier, Along, along-start, along-turn, along-skip, along-end}
 use Rattle.drawing.proofs.Clipped.{connected-before, connected-after, connected-none}
 use Rattle.drawing.proofs.draw_connected.Statement.{statement}
 use Rattle.drawing.proofs.draw_connected.Tie as tie
@@ -158,14 +155,6 @@ put-point-requires c κs =
     let b = c .before .before .before in
     subst (Ready (entry (k b) .args .brush)) (sym (b .loop .inv .0)) (entry (k b) .pre .0)
 
--- a point inside adds one
-adds : (inside : Bool) → boolByte inside ≡ oneIf (inside && not false)
-adds true = refl
-adds false = refl
-
-one : (inside : Bool) → boolByte inside ≤ 1
-one inside = one-small (inside && not false) (adds inside)
-
 cast-seen : tie.Need-cast-seen Inv-loop μ-loop
 cast-seen c = tt
 
@@ -173,7 +162,7 @@ add-seen : tie.Need-add-seen Inv-loop μ-loop
 add-seen c =
     let put = c .before .before in
     let h = put .before .before .before in
-    omega (arith, few-points h, h .before .loop .inv .1, one (put .put-point .result))
+    omega (arith, few-points h, h .before .loop .inv .1, inside-one (put .put-point .result))
 
 add-i : tie.Need-add-i Inv-loop μ-loop
 add-i c = omega (arith, few-points (c .before .before .before .before .before .before))
@@ -188,7 +177,7 @@ loop-again c =
     let b = next .before .before in
     let a = entry (k b) .args in (
       put .put-point .kept .0 ∙ b .loop .inv .0,
-      omega (arith, b .loop .inv .1, one (put .put-point .result)),
+      omega (arith, b .loop .inv .1, inside-one (put .put-point .result)),
       λ s e n few ok at f.
           let j = b .loop .inv .2 s e n few ok at f in
           let last : b .loop .i ≤ lastIndex s e = omega arith in
@@ -196,7 +185,7 @@ loop-again c =
             g .walker,
             along-turn ok none (connectedAt s e) (a .buf .now) (j .1) (g .point)
                 (λ k l e′. let z = distinct s e (b .loop .i) k last (omega arith) e′ in omega arith)
-                (put .put-point .ensures .0) (adds (put .put-point .result)) (put .put-point .ensures .1),
+                (put .put-point .ensures .0) (inside-adds (put .put-point .result)) (put .put-point .ensures .1),
             omega arith,
           ),
     )

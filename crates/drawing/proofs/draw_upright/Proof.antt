@@ -1,13 +1,13 @@
 -- `drawing::draw_upright` sets the points of one column, one a turn: before step k those of the steps below k are set, and those inside are counted. The steps that are left out
 -- lead out of the rectangle. Assumes nothing.
 use mathlib.Core.Path.{_≡_, refl, sym, ap₂, subst, _∙_}
-use mathlib.Core.Bool.{Bool, true, false, not, _&&_}
+use mathlib.Core.Bool.{Bool, false}
 use Prim.Native.Nat.{ℕ, _-_, _≤_}
 use native.Mathlib.Omega.{arith}
 use lib.IntN.{ℤ, pos, _+ℤ_, _*ℤ_}
 use lib.ListN.{length}
 use mir.Syntax.{w32}
-use mir.Val.{toZ, ofZ, boolByte}
+use mir.Val.{toZ, ofZ}
 use borrow.Author.Needs.{needs}
 use Rattle.whole.proofs.Machine.{Has, fits, back, same-bits, plus, times}
 use Rattle.geometry.specs.declared.Point.{Point}
@@ -16,14 +16,12 @@ use Rattle.geometry.proofs.Bound.{coord, coord-size}
 use Rattle.line.specs.Line.{toward, major, points, pointAt}
 use Rattle.line.proofs.Apart.{steps-apart}
 use Rattle.line.proofs.Lengths.{points-most, toward-size}
-use Rattle.layout.specs.Count.{oneIf}
-use Rattle.layout.proofs.Counts.{one-small}
 use Rattle.framebuffer.specs.declared.Steps.{Steps}
 use Rattle.framebuffer.specs.Judged.{Ready}
 use Rattle.framebuffer.proofs.Windows.{within-small}
 use Rattle.drawing.specs.Clipped.{LineSteps}
 use Rattle.drawing.specs.Figure.{lineFigure}
-use Rattle.drawing.proofs.Figures.{line-walked, none-earlier, Along, along-start, along-turn, along-skip, along-end}
+use Rattle.drawing.proofs.Figures.{line-walked, inside-adds, inside-one, none-earlier, Along, along-start, along-turn, along-skip, along-end}
 use Rattle.drawing.proofs.Clipped.{out-before, out-after}
 use Rattle.drawing.proofs.Level.{upright-at}
 use Rattle.drawing.proofs.draw_upright.Statement.{statement}
@@ -123,14 +121,6 @@ put-point-requires c κs =
     let s = entry (h .before) in
     subst (Ready (s .args .brush)) (sym (h .loop .inv .0)) (s .pre .0)
 
--- a point inside adds one
-adds : (inside : Bool) → boolByte inside ≡ oneIf (inside && not false)
-adds true = refl
-adds false = refl
-
-one : (inside : Bool) → boolByte inside ≤ 1
-one inside = one-small (inside && not false) (adds inside)
-
 cast-seen : tie.Need-cast-seen Inv-loop μ-loop
 cast-seen c = tt
 
@@ -138,7 +128,7 @@ add-seen : tie.Need-add-seen Inv-loop μ-loop
 add-seen c =
     let put = c .before .before in
     let h = put .before .before in
-    omega (arith, few-steps h, h .before .loop .inv .1, one (put .put-point .result))
+    omega (arith, few-steps h, h .before .loop .inv .1, inside-one (put .put-point .result))
 
 add-k : tie.Need-add-k Inv-loop μ-loop
 add-k c = omega (arith, few-steps (c .before .before .before .before))
@@ -153,14 +143,14 @@ loop-again c =
     let h = turn .before in
     let a = entry (h .before) .args in (
       put .put-point .kept .0 ∙ h .loop .inv .0,
-      omega (arith, h .loop .inv .1, one (put .put-point .result)),
+      omega (arith, h .loop .inv .1, inside-one (put .put-point .result)),
       λ s e line few ok b.
           let i = h .loop .inv .2 s e line few ok b in
           let walked : h .loop .k ≤ major s e = omega (arith, line .most) in
           let y = back (row-at line (h .loop .k) (omega (arith, few-steps turn))) .is in (
             along-turn ok none (pointAt s e) (a .buf .now) (i .0) ((λ i. (line .column i, y i)) ∙ sym (upright-at s e (h .loop .k) (line .upright) walked))
                 (λ j l e′. let z = steps-apart s e (h .loop .k) j e′ in omega arith)
-                (put .put-point .ensures .0) (adds (put .put-point .result)) (put .put-point .ensures .1),
+                (put .put-point .ensures .0) (inside-adds (put .put-point .result)) (put .put-point .ensures .1),
             omega arith,
           ),
     )

@@ -1,7 +1,6 @@
 -- `drawing::triangle_number` asks the frame's number and the colour, then the vertices. Assumes nothing.
 use borrow.Author.Needs.{needs}
-use Rattle.triangle.specs.Answer.{vertexTests}
-use Rattle.framebuffer.proofs.Calls.{number-first, number-own}
+use Rattle.framebuffer.proofs.Calls.{calls}
 use Rattle.drawing.proofs.triangle_number.Statement.{statement}
 use Rattle.drawing.proofs.triangle_number.Tie as tie
 
@@ -9,18 +8,13 @@ colour-refusal-requires : tie.Need-colour-refusal-requires
 colour-refusal-requires c κs = search needs
 
 returns : tie.Need-returns
-returns c =
-    let a = c .before .before .args in
-    λ len over. number-first (a .canvas .frame) len (a .colour) (vertexTests (a .v1) (a .v2) (a .v3)) (c .before .colour-refusal .ensures len over) (c .if1 .taken)
+returns c = λ len over. let n = c .before .colour-refusal .ensures len over in search calls
 
 refusal-requires : tie.Need-refusal-requires
 refusal-requires c κs = search needs
 
 returns-2 : tie.Need-returns-2
-returns-2 c =
-    let test = c .before in
-    let a = test .before .before .args in
-    λ len over. number-own (a .canvas .frame) len (a .colour) (vertexTests (a .v1) (a .v2) (a .v3)) (test .before .colour-refusal .ensures len over) (test .if1 .left) (c .refusal .ensures)
+returns-2 c = λ len over. let n = c .before .before .colour-refusal .ensures len over in search calls
 
 pub triangle-number-spec : {M : Type 1} → statement M
 triangle-number-spec = tie.close (tie.spec colour-refusal-requires returns refusal-requires returns-2)

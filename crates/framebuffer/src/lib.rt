@@ -356,8 +356,8 @@ fn set_at_depth(buf: &mut [u8], depth: u32, frame: Frame, x: i32, y: i32, colour
     }
 }
 
-// The pixel at a place gets the colour; outside the frame nothing changes, and the answer says so. Each depth is handed on as a constant, which measured faster by a fifth to a
-// third (docs/BENCHMARKS.md).
+// The pixel at a place gets the colour; outside the frame nothing changes, and the answer says so. Each depth is handed on as a constant, which measured faster
+// (docs/BENCHMARKS.md).
 pub fn set_pixel(buf: &mut [u8], frame: Frame, p: geometry::Point, colour: u32) -> Placed
     ensures { λ r. ⌜ (r, now (buf .exit)) ≡ pixelOutcome frame (wholeWindow frame) p colour (now (buf .entry)) ⌝ }
 {

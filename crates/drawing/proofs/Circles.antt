@@ -19,9 +19,9 @@ use Rattle.circle.proofs.Containment.{in-box-decides, outside}
 use Rattle.circle.proofs.Spans.{span-agrees}
 use Rattle.framebuffer.specs.declared.Steps.{Steps}
 use Rattle.framebuffer.specs.declared.Window.{Window}
-use Rattle.framebuffer.specs.Interval.{isStep, Held}
+use Rattle.framebuffer.specs.Interval.{Held}
 use Rattle.framebuffer.specs.Window.{inWindow, heldBy}
-use Rattle.framebuffer.proofs.Interval.{step-before, step-after}
+use Rattle.framebuffer.proofs.Interval.{isStep, held-exactly, step-before, step-after}
 use Rattle.drawing.specs.Figure.{circleFigure}
 use Rattle.drawing.proofs.Rows.{span-off}
 
@@ -69,7 +69,7 @@ module _ (q : Window) (c : Point) (d : ℕ) {t : Steps} (H : Held (c .1) true (q
       by (at j e l) =
           let here : pos v ≡ c .1 +ℤ pos 1 *ℤ pos j = e ∙ ap (λ (n : ℕ). c .1 +ℤ pos n) (omega arith) in
           let row : between (pos (q .top)) (pos (q .bottom)) (pos v) ≡ false =
-          ap (between (pos (q .top)) (pos (q .bottom))) here ∙ sym (H .exactly j l) ∙ none j e l in
+          ap (between (pos (q .top)) (pos (q .bottom))) here ∙ sym (held-exactly true H j l) ∙ none j e l in
           ap (λ (p : Bool). p && circleFigure c d (pos u) (pos v)) (span-off (between (pos (q .left)) (pos (q .right)) (pos u)) _ row)
 
   pub none-before : (u v : ℕ) → pos v <ℤ (c .1 +ℤ pos (t .from)) → heldBy q (circleFigure c d) (pos u) (pos v) ≡ false

@@ -18,58 +18,62 @@ use Rattle.connected.specs.Connected.{besideBoth, indexOf, lastIndex, connected
 use Rattle.connected.proofs.Indices.{Grows, View, normal, extra, view, index-more, grows-index, normal-at, extra-at}
 use Rattle.framebuffer.specs.declared.Steps.{Steps}
 use Rattle.framebuffer.specs.declared.Window.{Window}
-use Rattle.framebuffer.specs.Interval.{Held}
+use Rattle.framebuffer.specs.Interval.{onFrom, Held}
 use Rattle.framebuffer.specs.Window.{inWindow}
-use Rattle.framebuffer.proofs.Interval.{step-before, step-after}
-use Rattle.drawing.specs.Clipped.{majorHeld, LineSteps}
+use Rattle.framebuffer.proofs.Interval.{isStep, held-exactly, step-before, step-after}
+use Rattle.drawing.specs.Clipped.{majorOf, majorFrom, majorPast, LineSteps}
 
-module _ (q : Window) (s e : Point) {t : Steps} where
-  -- ---- what a rectangle holds of a range of rows or columns, by the axis
-  pub steep-steps : steep s e ≡ true → Held (s .1) (leZ (s .1) (e .1)) (q .top) (q .bottom) (high s e + 1) t → LineSteps q s e t
-  unfolding pointAt
-  steep-steps axis h =
-      let n : points s e ≡ high s e + 1 = ap (λ (n : ℕ). n + 1) (major-by s e true axis) in
+-- ---- what a rectangle holds of a range of rows or columns, by the axis
+module _ (q : Window) (s e : Point) where
+  pub line-steps : (b : Bool) → steep s e ≡ b → {t : Steps}
+      → Held (cond b (s .1) (s .0)) (leZ (cond b (s .1) (s .0)) (cond b (e .1) (e .0))) (cond b (q .top) (q .left)) (cond b (q .bottom) (q .right)) (cond b (high s e) (wide s e) + 1) t
+      → LineSteps q s e t
+  line-steps b axis {t} h =
       record {
-        first = omega (arith, h .first);
-        most = omega (arith, h .most);
-        exactly = λ k few.
-            h .exactly k (omega arith)
-            ∙ ap (λ (n : ℕ). between (pos (q .top)) (pos (q .bottom)) (s .1 +ℤ toward (s .1) (e .1) *ℤ pos n)) (sym (y-by s e true axis k))
-            ∙ sym (ap (λ (t : Bool). cond t (between (pos (q .top)) (pos (q .bottom)) (pointAt s e k .1)) (between (pos (q .left)) (pos (q .right)) (pointAt s e k .0))) axis);
+        held =
+            subst (λ (n : ℕ). Held (majorOf s e s) (leZ (majorOf s e s) (majorOf s e e)) (majorFrom s e q) (majorPast s e q) (n + 1) t) (sym (major-by s e (steep s e) refl))
+            (subst (λ (b : Bool).
+            Held (cond b (s .1) (s .0)) (leZ (cond b (s .1) (s .0)) (cond b (e .1) (e .0))) (cond b (q .top) (q .left)) (cond b (q .bottom) (q .right)) (cond b (high s e) (wide s e) + 1) t)
+            (sym axis) h);
       }
 
-  pub level-steps : steep s e ≡ false → Held (s .0) (leZ (s .0) (e .0)) (q .left) (q .right) (wide s e + 1) t → LineSteps q s e t
-  unfolding pointAt
-  level-steps axis h =
-      let n : points s e ≡ wide s e + 1 = ap (λ (n : ℕ). n + 1) (major-by s e false axis) in
-      record {
-        first = omega (arith, h .first);
-        most = omega (arith, h .most);
-        exactly = λ k few.
-            h .exactly k (omega arith)
-            ∙ ap (λ (n : ℕ). between (pos (q .left)) (pos (q .right)) (s .0 +ℤ toward (s .0) (e .0) *ℤ pos n)) (sym (x-by s e false axis k))
-            ∙ sym (ap (λ (t : Bool). cond t (between (pos (q .top)) (pos (q .bottom)) (pointAt s e k .1)) (between (pos (q .left)) (pos (q .right)) (pointAt s e k .0))) axis);
-      }
+-- ---- along the major axis one step is one place
+place-on : (s e : Point) (k : ℕ) → majorOf s e (pointAt s e k) ≡ onFrom (leZ (majorOf s e s) (majorOf s e e)) (majorOf s e s) k
+unfolding pointAt
+place-on s e k = by (steep s e) refl
+  where
+    by : (b : Bool) → steep s e ≡ b
+        → cond b (pointAt s e k .1) (pointAt s e k .0) ≡ onFrom (leZ (cond b (s .1) (s .0)) (cond b (e .1) (e .0))) (cond b (s .1) (s .0)) k
+    by true axis = ap (λ (n : ℕ). s .1 +ℤ toward (s .1) (e .1) *ℤ pos n) (y-by s e true axis k)
+    by false axis = ap (λ (n : ℕ). s .0 +ℤ toward (s .0) (e .0) *ℤ pos n) (x-by s e false axis k)
+
+-- whether the rectangle has the major coordinate of a place
+abbrev majorHeld : Window → Point → Point → Point → Bool
+majorHeld q s e p = between (pos (majorFrom s e q)) (pos (majorPast s e q)) (majorOf s e p)
 
 and-off : (a : Bool) {b : Bool} → b ≡ false → (a && b) ≡ false
 and-off true h = h
 and-off false h = refl
 
--- ---- a place of which the rectangle has not the major coordinate is outside
+-- ---- a place of which it has not is outside
 major-out : (q : Window) (s e p : Point) → majorHeld q s e p ≡ false → inWindow q (p .0) (p .1) ≡ false
-major-out q s e p = by (steep s e) (between (pos (q .left)) (pos (q .right)) (p .0)) (between (pos (q .top)) (pos (q .bottom)) (p .1))
+major-out q s e p = by (steep s e)
   where
-    by : (steep x y : Bool) → cond steep y x ≡ false → (x && y) ≡ false
-    by true x y h = and-off x h
-    by false x y h = ap (λ (x : Bool). x && y) h
+    by : (b : Bool) → between (pos (cond b (q .top) (q .left))) (pos (cond b (q .bottom) (q .right))) (cond b (p .1) (p .0)) ≡ false → inWindow q (p .0) (p .1) ≡ false
+    by true h = and-off (between (pos (q .left)) (pos (q .right)) (p .0)) h
+    by false h = ap (λ (x : Bool). x && between (pos (q .top)) (pos (q .bottom)) (p .1)) h
 
 module _ {q : Window} {s e : Point} {t : Steps} (L : LineSteps q s e t) where
+  exactly : (k : ℕ) → k < points s e → majorHeld q s e (pointAt s e k) ≡ isStep t k
+  exactly k few =
+      ap (between (pos (majorFrom s e q)) (pos (majorPast s e q))) (place-on s e k) ∙ sym (held-exactly (leZ (majorOf s e s) (majorOf s e e)) (L .held) k few)
+
   -- so no step before or after them leads into it
   off-before : (k : ℕ) → k < points s e → k < t .from → majorHeld q s e (pointAt s e k) ≡ false
-  off-before k few l = sym (L .exactly k few) ∙ step-before t k l
+  off-before k few l = exactly k few ∙ step-before t k l
 
   off-after : (k : ℕ) → k < points s e → t .past ≤ k → majorHeld q s e (pointAt s e k) ≡ false
-  off-after k few l = sym (L .exactly k few) ∙ step-after t k l
+  off-after k few l = exactly k few ∙ step-after t k l
 
   pub out-before : (k : ℕ) → k < points s e → k < t .from → inWindow q (pointAt s e k .0) (pointAt s e k .1) ≡ false
   out-before k few l = major-out q s e (pointAt s e k) (off-before k few l)
@@ -90,9 +94,10 @@ module _ (q : Window) (s e : Point) where
   unfolding extraAt
   extra-out k here next = by (alike s e) (steep s e) here next
     where
-      by : (a t : Bool)
-          → cond t (between (pos (q .top)) (pos (q .bottom)) (pointAt s e k .1)) (between (pos (q .left)) (pos (q .right)) (pointAt s e k .0)) ≡ false
-          → cond t (between (pos (q .top)) (pos (q .bottom)) (pointAt s e (k + 1) .1)) (between (pos (q .left)) (pos (q .right)) (pointAt s e (k + 1) .0)) ≡ false
+      has-not : Bool → Point → Type 0
+      has-not b p = between (pos (cond b (q .top) (q .left))) (pos (cond b (q .bottom) (q .right))) (cond b (p .1) (p .0)) ≡ false
+
+      by : (a t : Bool) → has-not t (pointAt s e k) → has-not t (pointAt s e (k + 1))
           → inWindow q (besideBoth a (pointAt s e k) (pointAt s e (k + 1)) .0) (besideBoth a (pointAt s e k) (pointAt s e (k + 1)) .1) ≡ false
       by true true h n = and-off (between (pos (q .left)) (pos (q .right)) (pointAt s e k .0)) n
       by true false h n = ap (λ (x : Bool). x && between (pos (q .top)) (pos (q .bottom)) (pointAt s e (k + 1) .1)) h

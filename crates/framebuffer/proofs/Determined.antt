@@ -1,11 +1,13 @@
 -- Each public contract determines its answer and every byte of the buffer: any two outcomes that it allows of the same arguments are equal. `Post`
--- is the contract as the source states it. Assumes nothing.
+-- is the contract as the source states it. So does `held`, which is inside the library and told by its ends. Assumes nothing.
 use Rattle.whole.proofs.Determined.{One, OneBuffer, same}
 use Rattle.framebuffer.proofs.Frame.new.Reads as new
 use Rattle.framebuffer.proofs.buffer_size_bpp.Reads as buffer-size-bpp
 use Rattle.framebuffer.proofs.set_pixel.Reads as set-pixel
 use Rattle.framebuffer.proofs.pixel.Reads as pixel
 use Rattle.framebuffer.proofs.fill.Reads as fill
+use Rattle.framebuffer.proofs.held.Reads as held
+use Rattle.framebuffer.proofs.Interval.{held-one}
 
 pub new-one : One new.Post
 new-one κs args r q s t = same
@@ -21,3 +23,6 @@ pixel-one κs args r q s t = same
 
 pub fill-one : OneBuffer fill.Post
 fill-one κs args r q s t = same
+
+pub held-answer-one : One held.Post
+held-answer-one κs args r q s t = held-one

@@ -1,18 +1,20 @@
 -- Laws of the steps that a rectangle holds: the interval that is worked out has exactly those. Assumes nothing.
 use mathlib.Core.Path.{_≡_, refl, sym, ap, ap₂, _∙_}
-use mathlib.Core.Bool.{Bool, true, false, _&&_}
+use mathlib.Core.Bool.{Bool, true, false, _&&_, true≢false}
+use mathlib.Core.Logic.{_⊎_, inl, inr}
 use Prim.Native.Nat.{ℕ, _≤_, _<_}
 use native.Mathlib.Omega.{arith}
 use lib.Dec.{leb, ltb}
 use lib.IntN.{ℤ, pos, negsuc, _+ℤ_, _-ℤ_, _*ℤ_}
 use lib.Signed.{leZ, ltZ, _≤ℤ_, _<ℤ_}
 use borrow.Author.Tests.{leb-true, ltb-true, le-leb, lt-leb, lt-ltb, le-ltb}
+use Rattle.whole.specs.Interval.{between}
 use Rattle.whole.proofs.Decides.{decides-one, decides-map, decides-le, decides-lt}
 use Rattle.whole.proofs.Difference.{as-mk, mks, mk-eq, eq-mk, le-nat, lt-nat, nat-le, nat-lt}
-use Rattle.whole.proofs.Tests.{same-test}
+use Rattle.whole.proofs.Tests.{same-test, lt-or-ge}
 use Rattle.framebuffer.specs.declared.Steps.{Steps}
 use Rattle.framebuffer.specs.Window.{clipped}
-use Rattle.framebuffer.specs.Interval.{isStep, Held}
+use Rattle.framebuffer.specs.Interval.{onFrom, Held}
 use Rattle.framebuffer.proofs.Clips.{nearest, clip-bounds, from-le, past-gt}
 
 -- ---- a step below count is on the same side of a number and of the nearest of 0 to count
@@ -78,8 +80,8 @@ module _ (a : ℤ) (low high count : ℕ) {t : Steps} where
       record {
         first = rw from (clip-bounds (pos low -ℤ a) 0 count (omega arith) .1);
         most = rw past (clip-bounds (pos high -ℤ a) 0 count (omega arith) .1);
-        exactly = λ k few.
-            rw (from, past) (ap₂ _&&_ (near-le (pos low -ℤ a) few ∙ up-from a (pos low) (pos k)) (near-lt (pos high -ℤ a) few ∙ up-past a (pos high) (pos k)));
+        begins = λ k few. rw from (near-le (pos low -ℤ a) few ∙ up-from a (pos low) (pos k));
+        ends = λ k few. rw past (near-lt (pos high -ℤ a) few ∙ up-past a (pos high) (pos k));
       }
 
   pub held-down : t .from ≡ clipped (pos 1 -ℤ (pos high -ℤ a)) 0 count → t .past ≡ clipped (pos 1 -ℤ (pos low -ℤ a)) 0 count → Held a false low high count t
@@ -87,11 +89,38 @@ module _ (a : ℤ) (low high count : ℕ) {t : Steps} where
       record {
         first = rw from (clip-bounds (pos 1 -ℤ (pos high -ℤ a)) 0 count (omega arith) .1);
         most = rw past (clip-bounds (pos 1 -ℤ (pos low -ℤ a)) 0 count (omega arith) .1);
-        exactly = λ k few.
-            rw (from, past)
-            (ap₂ _&&_ (near-le (pos 1 -ℤ (pos high -ℤ a)) few ∙ down-from a (pos high) (pos k)) (near-lt (pos 1 -ℤ (pos low -ℤ a)) few ∙ down-past a (pos low) (pos k))
-            ∙ both-swap (ltZ (a +ℤ negsuc 0 *ℤ pos k) (pos high)) (leZ (pos low) (a +ℤ negsuc 0 *ℤ pos k)));
+        begins = λ k few. rw from (near-le (pos 1 -ℤ (pos high -ℤ a)) few ∙ down-from a (pos high) (pos k));
+        ends = λ k few. rw past (near-lt (pos 1 -ℤ (pos low -ℤ a)) few ∙ down-past a (pos low) (pos k));
       }
+
+-- ---- they are those at which the coordinate lies there
+-- whether k is one of the steps
+abbrev pub isStep : Steps → ℕ → Bool
+isStep t k = leb (t .from) k && ltb k (t .past)
+
+pub held-exactly : {a : ℤ} (grows : Bool) {low high count : ℕ} {t : Steps} → Held a grows low high count t
+    → (k : ℕ) → k < count → isStep t k ≡ between (pos low) (pos high) (onFrom grows a k)
+held-exactly true h k few = ap₂ _&&_ (h .begins k few) (h .ends k few)
+held-exactly {a} false {low} {high} h k few =
+    ap₂ _&&_ (h .begins k few) (h .ends k few) ∙ both-swap (ltZ (onFrom false a k) (pos high)) (leZ (pos low) (onFrom false a k))
+
+-- ---- there is one such answer: an end is told by the side of it on which each step lies
+one-end : (side : ℕ → ℕ → Bool) → ((p q : ℕ) → p < q → side p p ≡ side q p → ⊥)
+    → {count p q : ℕ} → p ≤ count → q ≤ count → ((k : ℕ) → k < count → side p k ≡ side q k) → p ≡ q
+one-end side apart {count} {p} {q} few more same = by (lt-or-ge p q) (lt-or-ge q p)
+  where
+    by : (p < q) ⊎ (q ≤ p) → (q < p) ⊎ (p ≤ q) → p ≡ q
+    by (inl l) o = absurd (apart p q l (same p (omega arith)))
+    by (inr l) (inl m) = absurd (apart q p m (sym (same q (omega arith))))
+    by (inr l) (inr m) = omega arith
+
+pub held-one : {a : ℤ} {grows : Bool} {low high count : ℕ} {t u : Steps} → Held a grows low high count t → Held a grows low high count u → t ≡ u
+held-one {t = t} {u} h g =
+    let from =
+    one-end leb (λ p q l e. true≢false (sym (le-leb p p (omega arith)) ∙ e ∙ lt-leb q p l)) (h .first) (g .first) (λ k few. h .begins k few ∙ sym (g .begins k few)) in
+    let past =
+    one-end (λ p k. ltb k p) (λ p q l e. true≢false (sym (lt-ltb p q l) ∙ sym e ∙ le-ltb p p (omega arith))) (h .most) (g .most) (λ k few. h .ends k few ∙ sym (g .ends k few)) in
+    λ i. record { from = from i; past = past i }
 
 -- ---- steps before and after them are none of them
 pub step-before : (t : Steps) (k : ℕ) → k < t .from → isStep t k ≡ false

@@ -84,7 +84,7 @@ module _ (c : tie.After-one-before Inv-loop μ-loop) where
   l = c .before .before .before
 
   some : steps l .from ≤ major (s l) (e l)
-  some = omega (arith, clipped l .most, c .before .if1 .left)
+  some = omega (arith, clipped l .held .most, c .before .if1 .left)
 
   first-walked : c .one-before .result ≤ major (s l) (e l)
   first-walked = omega (arith, some, c .one-before .ensures)

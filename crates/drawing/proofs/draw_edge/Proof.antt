@@ -52,7 +52,7 @@ module _ (c : tie.After-line-steps Inv-loop μ-loop) where
   begun = along-start (entry .pre .0) (earlierFigure (entry .args .earlier)) path (entry .args .buf .now)
 
   few-steps : steps .past ≤ 262144
-  few-steps = omega (arith, clipped .most, points-most (entry .pre .2 .0) (entry .pre .2 .1))
+  few-steps = omega (arith, clipped .held .most, points-most (entry .pre .2 .0) (entry .pre .2 .1))
 
 returns : tie.Need-returns Inv-loop μ-loop
 returns c =
@@ -64,7 +64,7 @@ returns c =
     refl (line-walked (a .start) (a .end))
 
 at-requires : tie.Need-at-requires Inv-loop μ-loop
-at-requires c κs = (entry (c .before) .pre .2, omega (arith, clipped (c .before) .most, c .if1 .left))
+at-requires c κs = (entry (c .before) .pre .2, omega (arith, clipped (c .before) .held .most, c .if1 .left))
 
 loop-holds : tie.Need-loop-holds Inv-loop μ-loop
 loop-holds c = (refl, omega (arith, c .before .if1 .left), omega arith, λ s e n ok at a. (at, a))
@@ -79,15 +79,15 @@ module _ (c : tie.At-loop Inv-loop μ-loop) where
   head =
       let s = entry l in
       let a = s .args in
-      c .loop .inv .3 (a .start) (a .end) (clipped l .most) (s .pre .0) (c .before .at .ensures)
+      c .loop .inv .3 (a .start) (a .end) (clipped l .held .most) (s .pre .0) (c .before .at .ensures)
       (along-skip (s .pre .0) (earlierFigure (a .earlier)) (path l) (a .buf .now) (begun l) (steps l .from) (omega arith)
-      (λ i h before. out-before (clipped l) i (omega (arith, clipped l .most, c .before .before .if1 .left)) before))
+      (λ i h before. out-before (clipped l) i (omega (arith, clipped l .held .most, c .before .before .if1 .left)) before))
 
 step-requires : tie.Need-step-requires Inv-loop μ-loop
 step-requires c κs =
     let h = c .before in
     let s = entry (l h) in
-    record { s = s .args .start; e = s .args .end; k = h .loop .k; more = omega (arith, clipped (l h) .most); here = head h .0 }
+    record { s = s .args .start; e = s .args .end; k = h .loop .k; more = omega (arith, clipped (l h) .held .most); here = head h .0 }
 
 put-point-requires : tie.Need-put-point-requires Inv-loop μ-loop
 put-point-requires c κs =
@@ -147,7 +147,7 @@ returns-2 c =
     let a = s .args in
     let all : steps (l h) .past ≤ h .loop .k = omega arith in
     along-end (s .pre .0) (earlierFigure (a .earlier)) (path (l h)) (a .buf .now)
-    (along-skip (s .pre .0) (earlierFigure (a .earlier)) (path (l h)) (a .buf .now) (head h .1) (points (a .start) (a .end)) (omega (arith, clipped (l h) .most, h .loop .inv .1))
+    (along-skip (s .pre .0) (earlierFigure (a .earlier)) (path (l h)) (a .buf .now) (head h .1) (points (a .start) (a .end)) (omega (arith, clipped (l h) .held .most, h .loop .inv .1))
     (λ i k few. out-after (clipped (l h)) i few (omega arith)))
     refl (line-walked (a .start) (a .end))
 

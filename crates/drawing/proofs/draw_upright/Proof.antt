@@ -84,7 +84,7 @@ module _ (c : tie.After-direction Inv-loop μ-loop) where
   begun : Along (entry .args .brush) none path (entry .args .buf .now) (steps .from) 0 (entry .args .buf .now)
   begun =
       along-skip (entry .pre .0) none path (entry .args .buf .now) (along-start (entry .pre .0) none path (entry .args .buf .now)) (steps .from) (omega arith)
-      (λ i h before. out-before clipped i (omega (arith, clipped .first)) before)
+      (λ i h before. out-before clipped i (omega (arith, clipped .held .first)) before)
 
   it : Column (entry .args .start) (entry .args .end) (ofZ w32 (entry .args .start .0)) (ofZ w32 (entry .args .start .1)) (ofZ w32 (c .direction .result)) (steps .past)
   it =
@@ -97,14 +97,14 @@ module _ (c : tie.After-direction Inv-loop μ-loop) where
         column = back (coord (b .0 .x)) .is;
         row = back (coord (b .0 .y)) .is;
         way = kept ∙ c .direction .ensures ∙ ap₂ toward (back (coord (b .0 .y)) .is) (back (coord (b .1 .y)) .is);
-        most = clipped .most;
+        most = clipped .held .most;
       }
 
 loop-holds : tie.Need-loop-holds Inv-loop μ-loop
 loop-holds c = (refl, omega arith, λ s e line few ok a. (a, few))
 
 few-steps : (c : tie.In-loop Inv-loop μ-loop) → c .before .loop .k ≤ 262143
-few-steps c = let d = c .before .before in omega (arith, clipped d .most, points-most (entry d .pre .1 .0) (entry d .pre .1 .1))
+few-steps c = let d = c .before .before in omega (arith, clipped d .held .most, points-most (entry d .pre .1 .0) (entry d .pre .1 .1))
 
 cast-y : tie.Need-cast-y Inv-loop μ-loop
 cast-y c = record { sfits = omega (arith, few-steps c) }
@@ -164,7 +164,7 @@ returns c =
     let d = h .before in
     let s = entry d in
     let a = s .args in
-    let i = h .loop .inv .2 (a .start) (a .end) (it d) (clipped d .first) (s .pre .0) (begun d) in
+    let i = h .loop .inv .2 (a .start) (a .end) (it d) (clipped d .held .first) (s .pre .0) (begun d) in
     let all : steps d .past ≤ h .loop .k = omega arith in
     let r =
     along-end (s .pre .0) none (path d) (a .buf .now)

@@ -13,7 +13,7 @@ use Rattle.geometry.specs.Bound.{Coord}
 use Rattle.geometry.proofs.Bound.{coord}
 use Rattle.line.specs.Line.{wide, high, steep}
 use Rattle.line.proofs.Lengths.{wide-of, high-of, major-by, points-most}
-use Rattle.drawing.proofs.Clipped.{steep-steps, level-steps}
+use Rattle.drawing.proofs.Clipped.{line-steps}
 use Rattle.drawing.proofs.line_steps.Statement.{statement}
 use Rattle.drawing.proofs.line_steps.Tie as tie
 
@@ -77,7 +77,7 @@ returns c =
     let b = c .before .before in
     let s = entry b in
     let p = s .pre .1 in
-    steep-steps (s .args .window) (s .args .start) (s .args .end) (is-steep (c .before))
+    line-steps (s .args .window) (s .args .start) (s .args .end) true (is-steep (c .before))
     (rw (back (coord (p .0 .y)) .is, back (coord (p .1 .y)) .is, nat-is (down b)) at (c .held .ensures))
 
 cast-held-2 : tie.Need-cast-held-2
@@ -96,7 +96,7 @@ returns-2 c =
     let b = c .before .before in
     let s = entry b in
     let p = s .pre .1 in
-    level-steps (s .args .window) (s .args .start) (s .args .end) (is-level (c .before))
+    line-steps (s .args .window) (s .args .start) (s .args .end) false (is-level (c .before))
     (rw (back (coord (p .0 .x)) .is, back (coord (p .1 .x)) .is, nat-is (across b)) at (c .held2 .ensures))
 
 pub line-steps-spec : {M : Type 1} → statement M

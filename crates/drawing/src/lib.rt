@@ -1,7 +1,7 @@
 // Drawing calls into a lent buffer. Each judges its frame once, then its own arguments, and sets every pixel of the frame that its figure
 // contains; its answer says how many these are. Calls on a frame that was judged already have `_on` in their name.
 ghost use mathlib.Core.Path.{_≡_};
-ghost use mathlib.Core.Bool.{not, _&&_};
+ghost use mathlib.Core.Bool.{true, not, _&&_};
 ghost use mathlib.Core.List.{_++_};
 ghost use Prim.Native.Nat.{ℕ, _-_, _≤_};
 ghost use lib.ListN.{length};
@@ -14,6 +14,7 @@ ghost use Rattle.triangle.specs.Answer.{vertexTests};
 ghost use Rattle.circle.specs.Refusal.{Fits, circleTests};
 ghost use Rattle.framebuffer.specs.Description.{drawTests};
 ghost use Rattle.framebuffer.specs.Drawing.{outcome};
+ghost use Rattle.framebuffer.specs.Interval.{Held};
 ghost use Rattle.framebuffer.specs.Judged.{Over, OverSome, Ready, brushed};
 ghost use Rattle.framebuffer.specs.Window.{wholeWindow};
 ghost use Rattle.drawing.specs.Clipped.{LineSteps};
@@ -359,14 +360,13 @@ pub fn draw_outline(
     outline_on(buf, frame.over(buf.len()), v1, v2, v3, colour)
 }
 
-// The rows of an accepted circle that the rectangle has, as far as it holds them; and how many pixels these have.
-fn fill_circle(buf: &mut [u8], brush: Brush, topleft: Point, diameter: u32) -> u32
-    requires { ⌜ Ready brush (length (now buf)) × Fits topleft diameter ⌝ }
+// The rows of an accepted circle that the rectangle has, as far as it holds them; and how many pixels these have. It reads nothing of the brush, so that the compiler
+// lays it out once and not at every row (docs/BENCHMARKS.md).
+fn fill_circle_rows(buf: &mut [u8], brush: Brush, topleft: Point, diameter: u32, rows: Steps) -> u32
+    requires { ⌜ Ready brush (length (now buf)) × Fits topleft diameter × Held (topleft .1) true (brush .window .top) (brush .window .bottom) diameter rows ⌝ }
     ensures { λ r. ⌜ (r, now (buf .exit)) ≡ brushed brush (circleFigure topleft diameter) (now (buf .entry)) ⌝ }
 {
-    let window = brush.window;
     let top = topleft.1;
-    let rows = framebuffer::held(top, true, window.top, window.bottom, diameter);
     let past = rows.past;
     let mut seen = 0u32;
     let mut k = rows.from;
@@ -377,6 +377,16 @@ fn fill_circle(buf: &mut [u8], brush: Brush, topleft: Point, diameter: u32) -> u
         k += 1;
     }
     seen
+}
+
+// An accepted circle, as far as the rectangle holds it; and how many pixels that are.
+fn fill_circle(buf: &mut [u8], brush: Brush, topleft: Point, diameter: u32) -> u32
+    requires { ⌜ Ready brush (length (now buf)) × Fits topleft diameter ⌝ }
+    ensures { λ r. ⌜ (r, now (buf .exit)) ≡ brushed brush (circleFigure topleft diameter) (now (buf .entry)) ⌝ }
+{
+    let window = brush.window;
+    let rows = framebuffer::held(topleft.1, true, window.top, window.bottom, diameter);
+    fill_circle_rows(buf, brush, topleft, diameter, rows)
 }
 
 // The number that drawing a circle answers.

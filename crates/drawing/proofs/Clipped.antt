@@ -18,55 +18,50 @@ use Rattle.connected.specs.Connected.{besideBoth, indexOf, lastIndex, connected
 use Rattle.connected.proofs.Indices.{Grows, View, normal, extra, view, index-more, grows-index, normal-at, extra-at}
 use Rattle.framebuffer.specs.declared.Steps.{Steps}
 use Rattle.framebuffer.specs.declared.Window.{Window}
-use Rattle.framebuffer.specs.Interval.{onFrom, Held}
+use Rattle.framebuffer.specs.Interval.{onFrom}
 use Rattle.framebuffer.specs.Window.{inWindow}
 use Rattle.framebuffer.proofs.Interval.{isStep, held-exactly, step-before, step-after}
-use Rattle.drawing.specs.Clipped.{majorOf, majorFrom, majorPast, LineSteps}
+use Rattle.drawing.specs.Clipped.{axisOf, axisFrom, axisPast, AxisSteps, LineSteps}
 
--- ---- what a rectangle holds of a range of rows or columns, by the axis
-module _ (q : Window) (s e : Point) where
-  pub line-steps : (b : Bool) → steep s e ≡ b → {t : Steps}
-      → Held (cond b (s .1) (s .0)) (leZ (cond b (s .1) (s .0)) (cond b (e .1) (e .0))) (cond b (q .top) (q .left)) (cond b (q .bottom) (q .right)) (cond b (high s e) (wide s e) + 1) t
-      → LineSteps q s e t
-  line-steps b axis {t} h =
-      record {
-        held =
-            subst (λ (n : ℕ). Held (majorOf s e s) (leZ (majorOf s e s) (majorOf s e e)) (majorFrom s e q) (majorPast s e q) (n + 1) t) (sym (major-by s e (steep s e) refl))
-            (subst (λ (b : Bool).
-            Held (cond b (s .1) (s .0)) (leZ (cond b (s .1) (s .0)) (cond b (e .1) (e .0))) (cond b (q .top) (q .left)) (cond b (q .bottom) (q .right)) (cond b (high s e) (wide s e) + 1) t)
-            (sym axis) h);
-      }
+-- ---- the steps along the axis that was found
+pub line-steps : (q : Window) (s e : Point) (b : Bool) → steep s e ≡ b → {t : Steps} → AxisSteps b q s e (cond b (high s e) (wide s e) + 1) t → LineSteps q s e t
+line-steps q s e b axis {t} h =
+    let found = subst (λ (b : Bool). AxisSteps b q s e (cond b (high s e) (wide s e) + 1) t) (sym axis) h in
+    record { held = subst (λ (n : ℕ). AxisSteps (steep s e) q s e (n + 1) t) (sym (major-by s e (steep s e) refl)) found }
 
 -- ---- along the major axis one step is one place
-place-on : (s e : Point) (k : ℕ) → majorOf s e (pointAt s e k) ≡ onFrom (leZ (majorOf s e s) (majorOf s e e)) (majorOf s e s) k
+place-on : (s e : Point) (k : ℕ) → axisOf (steep s e) (pointAt s e k) ≡ onFrom (leZ (axisOf (steep s e) s) (axisOf (steep s e) e)) (axisOf (steep s e) s) k
 unfolding pointAt
 place-on s e k = by (steep s e) refl
   where
-    by : (b : Bool) → steep s e ≡ b
-        → cond b (pointAt s e k .1) (pointAt s e k .0) ≡ onFrom (leZ (cond b (s .1) (s .0)) (cond b (e .1) (e .0))) (cond b (s .1) (s .0)) k
+    by : (b : Bool) → steep s e ≡ b → axisOf b (pointAt s e k) ≡ onFrom (leZ (axisOf b s) (axisOf b e)) (axisOf b s) k
     by true axis = ap (λ (n : ℕ). s .1 +ℤ toward (s .1) (e .1) *ℤ pos n) (y-by s e true axis k)
     by false axis = ap (λ (n : ℕ). s .0 +ℤ toward (s .0) (e .0) *ℤ pos n) (x-by s e false axis k)
 
--- whether the rectangle has the major coordinate of a place
+-- whether the rectangle has the coordinate of a place
+abbrev axisHeld : Bool → Window → Point → Bool
+axisHeld b q p = between (pos (axisFrom b q)) (pos (axisPast b q)) (axisOf b p)
+
 abbrev majorHeld : Window → Point → Point → Point → Bool
-majorHeld q s e p = between (pos (majorFrom s e q)) (pos (majorPast s e q)) (majorOf s e p)
+majorHeld q s e p = axisHeld (steep s e) q p
 
 and-off : (a : Bool) {b : Bool} → b ≡ false → (a && b) ≡ false
 and-off true h = h
 and-off false h = refl
 
--- ---- a place of which it has not is outside
+-- ---- a place of which it has not that is outside
+axis-out : (b : Bool) (q : Window) (p : Point) → axisHeld b q p ≡ false → inWindow q (p .0) (p .1) ≡ false
+axis-out true q p h = and-off (between (pos (q .left)) (pos (q .right)) (p .0)) h
+axis-out false q p h = ap (λ (x : Bool). x && between (pos (q .top)) (pos (q .bottom)) (p .1)) h
+
 major-out : (q : Window) (s e p : Point) → majorHeld q s e p ≡ false → inWindow q (p .0) (p .1) ≡ false
-major-out q s e p = by (steep s e)
-  where
-    by : (b : Bool) → between (pos (cond b (q .top) (q .left))) (pos (cond b (q .bottom) (q .right))) (cond b (p .1) (p .0)) ≡ false → inWindow q (p .0) (p .1) ≡ false
-    by true h = and-off (between (pos (q .left)) (pos (q .right)) (p .0)) h
-    by false h = ap (λ (x : Bool). x && between (pos (q .top)) (pos (q .bottom)) (p .1)) h
+major-out q s e p = axis-out (steep s e) q p
 
 module _ {q : Window} {s e : Point} {t : Steps} (L : LineSteps q s e t) where
   exactly : (k : ℕ) → k < points s e → majorHeld q s e (pointAt s e k) ≡ isStep t k
   exactly k few =
-      ap (between (pos (majorFrom s e q)) (pos (majorPast s e q))) (place-on s e k) ∙ sym (held-exactly (leZ (majorOf s e s) (majorOf s e e)) (L .held) k few)
+      ap (between (pos (axisFrom (steep s e) q)) (pos (axisPast (steep s e) q))) (place-on s e k)
+      ∙ sym (held-exactly (leZ (axisOf (steep s e) s) (axisOf (steep s e) e)) (L .held) k few)
 
   -- so no step before or after them leads into it
   off-before : (k : ℕ) → k < points s e → k < t .from → majorHeld q s e (pointAt s e k) ≡ false
@@ -94,10 +89,7 @@ module _ (q : Window) (s e : Point) where
   unfolding extraAt
   extra-out k here next = by (alike s e) (steep s e) here next
     where
-      has-not : Bool → Point → Type 0
-      has-not b p = between (pos (cond b (q .top) (q .left))) (pos (cond b (q .bottom) (q .right))) (cond b (p .1) (p .0)) ≡ false
-
-      by : (a t : Bool) → has-not t (pointAt s e k) → has-not t (pointAt s e (k + 1))
+      by : (a b : Bool) → axisHeld b q (pointAt s e k) ≡ false → axisHeld b q (pointAt s e (k + 1)) ≡ false
           → inWindow q (besideBoth a (pointAt s e k) (pointAt s e (k + 1)) .0) (besideBoth a (pointAt s e k) (pointAt s e (k + 1)) .1) ≡ false
       by true true h n = and-off (between (pos (q .left)) (pos (q .right)) (pointAt s e k .0)) n
       by true false h n = ap (λ (x : Bool). x && between (pos (q .top)) (pos (q .bottom)) (pointAt s e (k + 1) .1)) h

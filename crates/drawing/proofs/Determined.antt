@@ -1,11 +1,13 @@
 -- Each public contract determines its answer and every byte of the buffer: any two outcomes that it allows of the same arguments are equal. `Post`
--- is the contract as the source states it. Assumes nothing.
-use Rattle.whole.proofs.Determined.{OneBuffer, same}
+-- is the contract as the source states it. So does that of `line_steps`, which is told by its ends. Assumes nothing.
+use Rattle.whole.proofs.Determined.{One, OneBuffer, same}
+use Rattle.framebuffer.proofs.Interval.{held-one}
 use Rattle.drawing.proofs.draw_line.Reads as draw-line
 use Rattle.drawing.proofs.draw_connected_line.Reads as draw-connected-line
 use Rattle.drawing.proofs.draw_triangle.Reads as draw-triangle
 use Rattle.drawing.proofs.draw_outline.Reads as draw-outline
 use Rattle.drawing.proofs.draw_circle.Reads as draw-circle
+use Rattle.drawing.proofs.line_steps.Reads as line-steps
 
 pub draw-line-one : OneBuffer draw-line.Post
 draw-line-one κs args r q s t = same
@@ -21,3 +23,6 @@ draw-outline-one κs args r q s t = same
 
 pub draw-circle-one : OneBuffer draw-circle.Post
 draw-circle-one κs args r q s t = same
+
+pub line-steps-one : One line-steps.Post
+line-steps-one κs args r q s t h g = held-one (h .held) (g .held)

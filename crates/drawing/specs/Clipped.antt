@@ -1,5 +1,5 @@
 -- The steps of a line that a rectangle can hold: its major coordinate moves by one place at each step, so that these are an interval.
-use mathlib.Core.Bool.{cond}
+use mathlib.Core.Bool.{Bool, cond}
 use Prim.Native.Nat.{ℕ}
 use lib.IntN.{ℤ}
 use lib.Signed.{leZ}
@@ -9,17 +9,21 @@ use Rattle.framebuffer.specs.declared.Steps.{Steps}
 use Rattle.framebuffer.specs.declared.Window.{Window}
 use Rattle.framebuffer.specs.Interval.{Held}
 
--- the row of a place, if the line is steep, and else its column
-abbrev pub majorOf : Point → Point → Point → ℤ
-majorOf s e p = cond (steep s e) (p .1) (p .0)
+-- along an axis, that of rows if b and else that of columns: the coordinate of a place
+abbrev pub axisOf : Bool → Point → ℤ
+axisOf b p = cond b (p .1) (p .0)
 
--- and the first of these that the rectangle has, and the first after them
-abbrev pub majorFrom : Point → Point → Window → ℕ
-majorFrom s e q = cond (steep s e) (q .top) (q .left)
+-- the first that a rectangle has, and the first after those that it has
+abbrev pub axisFrom : Bool → Window → ℕ
+axisFrom b q = cond b (q .top) (q .left)
 
-abbrev pub majorPast : Point → Point → Window → ℕ
-majorPast s e q = cond (steep s e) (q .bottom) (q .right)
+abbrev pub axisPast : Bool → Window → ℕ
+axisPast b q = cond b (q .bottom) (q .right)
 
--- t are exactly the steps at which it has that of the line's point
+-- the steps of count from s to e at which a rectangle has the coordinate
+abbrev pub AxisSteps : Bool → Window → Point → Point → ℕ → Steps → Type 0
+AxisSteps b q s e count t = Held (axisOf b s) (leZ (axisOf b s) (axisOf b e)) (axisFrom b q) (axisPast b q) count t
+
+-- t are exactly the line's steps at which it has that of the major axis
 pub record LineSteps (q : Window) (s e : Point) (t : Steps) : Type 0 where
-  pub held : Held (majorOf s e s) (leZ (majorOf s e s) (majorOf s e e)) (majorFrom s e q) (majorPast s e q) (points s e) t
+  pub held : AxisSteps (steep s e) q s e (points s e) t

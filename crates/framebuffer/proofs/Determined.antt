@@ -1,5 +1,5 @@
 -- Each public contract determines its answer and every byte of the buffer: any two outcomes that it allows of the same arguments are equal. `Post`
--- is the contract as the source states it. So does `held`, which is inside the library and told by its ends. Assumes nothing.
+-- is the contract as the source states it. So does that of `held`, which is told by its ends. Assumes nothing.
 use Rattle.whole.proofs.Determined.{One, OneBuffer, same}
 use Rattle.framebuffer.proofs.Frame.new.Reads as new
 use Rattle.framebuffer.proofs.buffer_size_bpp.Reads as buffer-size-bpp

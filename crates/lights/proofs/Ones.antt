@@ -72,18 +72,23 @@ bits-more i t b h = many-then (i * 8) t (bitAt b) ∙ ap (λ (n : ℕ). litBits 
         let z : 0 ≡ p / 8 = omega arith in
         ap₂ (λ (m n : ℕ). eqb (digit 2 (7 - m) (getD b n 0)) 1) m d ∙ ap (λ (n : ℕ). eqb (digit 2 (7 - p % 8) (getD (getD b i 0 ∷ []) n 0)) 1) z
 
-module _ (b : List ℕ) (i : ℕ) {sum : ℕ} (e : sum ≡ litBits (i * 8) b) (h : getD b i 0 < 256) where
-  pub byte-more : sum + ones (getD b i 0) ≡ litBits ((i + 1) * 8) b
+module _ (b : List ℕ) (i : ℕ) (h : getD b i 0 < 256) where
+  pub byte-more : litBits (i * 8) b + ones (getD b i 0) ≡ litBits ((i + 1) * 8) b
   byte-more =
       let n : i * 8 + 8 ≡ (i + 1) * 8 = omega arith in
-      ap₂ (λ (m n : ℕ). m + n) e (whole-ones (getD b i 0) h) ∙ sym (bits-more i 8 b (omega arith)) ∙ ap (λ (n : ℕ). litBits n b) n
+      ap (λ (n : ℕ). litBits (i * 8) b + n) (whole-ones (getD b i 0) h) ∙ sym (bits-more i 8 b (omega arith)) ∙ ap (λ (n : ℕ). litBits n b) n
 
-  pub rest-more : (t : ℕ) → t < 8 → {k : ℕ} → k ≡ bitsFrom 1 t → sum + ones (bitAnd (getD b i 0) (255 - k)) ≡ litBits (i * 8 + t) b
+  pub rest-more : (t : ℕ) → t < 8 → {k : ℕ} → k ≡ bitsFrom 1 t → litBits (i * 8) b + ones (bitAnd (getD b i 0) (255 - k)) ≡ litBits (i * 8 + t) b
   rest-more t l a =
-      ap₂ (λ (m n : ℕ). m + n) e (ap (λ (k : ℕ). ones (bitAnd (getD b i 0) (255 - k))) a ∙ masked-ones t (getD b i 0) l h)
+      ap (λ (n : ℕ). litBits (i * 8) b + n) (ap (λ (k : ℕ). ones (bitAnd (getD b i 0) (255 - k))) a ∙ masked-ones t (getD b i 0) l h)
       ∙ sym (bits-more i t b (omega arith))
 
 -- never more than there are
 pub bits-few : (n : ℕ) (b : List ℕ) {r : ℕ} → r ≡ litBits n b → r ≤ n
 unfolding litBits
 bits-few n b e = subst (λ (k : ℕ). k ≤ n) (sym e) (many-le n (bitAt b))
+
+-- among k bits behind m too
+pub more-few : (m k : ℕ) (b : List ℕ) → litBits (m + k) b ≤ litBits m b + k
+unfolding litBits
+more-few m k b = omega (arith, many-then m k (bitAt b), many-le k (λ p. bitAt b (m + p)))

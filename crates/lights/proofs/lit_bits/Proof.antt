@@ -1,10 +1,13 @@
--- `lights::lit_bits` has counted the bits of the first i bytes after i turns; the rest of them are the first of the byte behind. Assumes nothing.
+-- `lights::lit_bits` has counted the bits of the first i bytes, a block a turn; the rest of them are the first of the byte behind. Assumes nothing.
 use mathlib.Core.Path.{_≡_, refl, ap, _∙_}
-use Prim.Native.Nat.{ℕ, _+_, _*_, _-_, _/_, _%_, _≤_}
+use Prim.Native.Nat.{ℕ, _+_, _*_, _-_, _/_, _%_, _≤_, _<_}
 use native.Mathlib.Omega.{arith}
+use lib.Bits.{bitAnd}
+use lib.Count.{ones}
+use lib.ListN.{getD}
 use borrow.Author.Needs.{needs}
 use Rattle.lights.specs.Bits.{litBits}
-use Rattle.lights.proofs.Ones.{byte-more, rest-more, bits-few}
+use Rattle.lights.proofs.Ones.{rest-more, bits-few}
 use Rattle.lights.proofs.lit_bits.Statement.{statement}
 use Rattle.lights.proofs.lit_bits.Tie as tie
 
@@ -21,26 +24,33 @@ loop-holds : tie.Need-loop-holds Inv-loop μ-loop
 unfolding litBits
 loop-holds c = (omega arith, refl)
 
-shared-slice-read-sum : tie.Need-shared-slice-read-sum Inv-loop μ-loop
-shared-slice-read-sum c = omega arith
+block-end-requires : tie.Need-block-end-requires Inv-loop μ-loop
+block-end-requires c κs = omega arith
 
--- a byte more. What is counted is few, so that the sum fits
+-- a block of those that are left
+block : (c : tie.After-block-end Inv-loop μ-loop)
+    → (let r = c .block-end .result in
+    (c .before .before .loop .i < r) × (r ≤ c .before .before .loop .i + 4096) × (r ≤ c .before .before .before .before .args .n / 8))
+block c = let e = c .block-end .ensures in (omega arith, omega arith, omega arith)
+
+ones-of-requires : tie.Need-ones-of-requires Inv-loop μ-loop
+ones-of-requires c κs = let b = block c in (omega arith, omega arith, omega arith)
+
+-- a block more. What is counted is few, so that the sum fits
 loop-again : tie.Need-loop-again Inv-loop μ-loop
-loop-again c =
-    let l = c .before .before .loop in
-    (omega arith, byte-more (c .before .before .before .before .args .bytes .now) (l .i) (l .inv .1) (c .shared-slice-known2 .given (l .i) .fits))
+loop-again c = (block (c .before) .2, ap (λ (n : ℕ). n + c .ones-of .result) (c .before .before .before .loop .inv .1) ∙ c .ones-of .ensures)
+
+cast-sum : tie.Need-cast-sum Inv-loop μ-loop
+cast-sum c = search needs
 
 add-sum : tie.Need-add-sum Inv-loop μ-loop
-add-sum c = omega (arith, bits-few ((c .before .before .loop .i + 1) * 8) _ (loop-again c .1))
-
-add-i : tie.Need-add-i Inv-loop μ-loop
-add-i c = omega arith
+add-sum c = omega (arith, block (c .before), bits-few (c .before .block-end .result * 8) _ (loop-again c .1))
 
 loop-less : tie.Need-loop-less Inv-loop μ-loop
-loop-less c = omega arith
+loop-less c = omega (arith, block (c .before))
 
-shared-slice-read-sum-2 : tie.Need-shared-slice-read-sum-2 Inv-loop μ-loop
-shared-slice-read-sum-2 c = omega arith
+shared-slice-read-sum : tie.Need-shared-slice-read-sum Inv-loop μ-loop
+shared-slice-read-sum c = omega arith
 
 bits-from-requires : tie.Need-bits-from-requires Inv-loop μ-loop
 bits-from-requires c κs = record { good = refl; small = omega arith; near = omega arith }
@@ -53,8 +63,8 @@ returns c =
     let b = a .bytes .now in
     let i : l .i ≡ a .n / 8 = omega arith in
     let e : a .n / 8 * 8 + a .n % 8 ≡ a .n = omega arith in
-    rest-more b (a .n / 8) (l .inv .1 ∙ ap (λ (k : ℕ). litBits (k * 8) b) i) (c .before .shared-slice-known3 .given (a .n / 8) .fits) (a .n % 8) (omega arith)
-    (c .bits-from .ensures)
+    ap (λ (k : ℕ). k + ones (bitAnd (getD b (a .n / 8) 0) (255 - c .bits-from .result))) (l .inv .1 ∙ ap (λ (k : ℕ). litBits (k * 8) b) i)
+    ∙ rest-more b (a .n / 8) (c .before .shared-slice-known2 .given (a .n / 8) .fits) (a .n % 8) (omega arith) (c .bits-from .ensures)
     ∙ ap (λ (k : ℕ). litBits k b) e
 
 add-sum-2 : tie.Need-add-sum-2 Inv-loop μ-loop
@@ -75,12 +85,13 @@ lit-bits-spec =
     μ-loop
     cast-whole
     loop-holds
-    shared-slice-read-sum
+    block-end-requires
+    ones-of-requires
+    cast-sum
     add-sum
-    add-i
     loop-less
     loop-again
-    shared-slice-read-sum-2
+    shared-slice-read-sum
     bits-from-requires
     add-sum-2
     returns

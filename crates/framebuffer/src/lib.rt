@@ -531,17 +531,26 @@ fn fill_frame(buf: &mut [u8], frame: Frame, colour: u32)
     }
 }
 
-// Every pixel of the frame gets the colour.
-pub fn fill(buf: &mut [u8], frame: Frame, colour: u32) -> Drawn
-    ensures { λ r. ⌜ (r, now (buf .exit)) ≡ outcome frame (wholeWindow frame) (fillDrawing colour) (now (buf .entry)) ⌝ }
+// Inside the library: `fill` on a frame that was judged over the buffer.
+pub fn fill_on(buf: &mut [u8], canvas: Canvas, colour: u32) -> Drawn
+    requires { ⌜ Over canvas (length (now buf)) ⌝ }
+    ensures { λ r. ⌜ (r, now (buf .exit)) ≡ outcome (canvas .frame) (wholeWindow (canvas .frame)) (fillDrawing colour) (now (buf .entry)) ⌝ }
 {
-    let number = draw_refusal(frame, buf.len(), colour);
+    let number = colour_refusal(canvas, colour);
     if number != 0 {
         return Drawn { number, count: 0 };
     }
+    let frame = canvas.frame;
     fill_frame(buf, frame, colour);
     Drawn {
         number: 0,
         count: frame.height * frame.width,
     }
+}
+
+// Every pixel of the frame gets the colour.
+pub fn fill(buf: &mut [u8], frame: Frame, colour: u32) -> Drawn
+    ensures { λ r. ⌜ (r, now (buf .exit)) ≡ outcome frame (wholeWindow frame) (fillDrawing colour) (now (buf .entry)) ⌝ }
+{
+    fill_on(buf, frame.over(buf.len()), colour)
 }

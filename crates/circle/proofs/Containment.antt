@@ -63,7 +63,7 @@ parts z x l D e =
     let g = eq-mk _ _ _ _ (simp mks at (rw (as-mk z, as-mk x, as-mk l, as-mk D) at e)) in
     omega arith
 
-off-parts : (x l : ℤ) (d : ℕ) → up (off x l d) + 2 * (up l + dn x) + d ≡ 2 * (up x + dn l) + 1 + dn (off x l d)
+pub off-parts : (x l : ℤ) (d : ℕ) → up (off x l d) + 2 * (up l + dn x) + d ≡ 2 * (up x + dn l) + 1 + dn (off x l d)
 off-parts x l d = omega (arith, parts (off x l d) x l (pos d) refl)
 
 -- at most s from the centre is to leave out (d - s) / 2 at both ends

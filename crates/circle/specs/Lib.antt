@@ -1,3 +1,4 @@
 pub mod Circle
+pub mod Corners
 pub mod Refusal
 pub mod Root

@@ -13,6 +13,7 @@ ghost use lib.IntN.{natAbs, pos, _-ℤ_};
 ghost use Rattle.refusals.specs.First.{first};
 ghost use Rattle.geometry.specs.Answer.{verdict, span};
 ghost use Rattle.circle.specs.Circle.{centre, thresholdOf, doubled, squaredDistance, contained, inBox, leadOf, spanStart, spanEnd};
+ghost use Rattle.circle.specs.Corners.{corners};
 ghost use Rattle.circle.specs.Refusal.{circleTests, Fits};
 
 // The circle's centre, in half-pixel units since it lies between pixels where the diameter is even. For the diameter 0, which contains
@@ -119,6 +120,25 @@ pub fn contains(topleft: Point, diameter: u32, p: Point) -> Verdict
         number: 0,
         yes: accepted_contains(topleft, diameter, p),
     }
+}
+
+// Inside the library: whether an accepted circle contains the four corners of a frame, and with them every pixel of it.
+pub fn accepted_covers(topleft: Point, diameter: u32, width: u32, height: u32) -> bool
+    requires { ⌜ Fits topleft diameter × (width ≤ 2048) × (height ≤ 2048) ⌝ }
+    ensures { λ r. ⌜ r ≡ corners topleft diameter width height ⌝ }
+{
+    let right = width as i32 - 1;
+    let bottom = height as i32 - 1;
+    if !accepted_contains(topleft, diameter, Point(0, 0)) {
+        return false;
+    }
+    if !accepted_contains(topleft, diameter, Point(right, 0)) {
+        return false;
+    }
+    if !accepted_contains(topleft, diameter, Point(0, bottom)) {
+        return false;
+    }
+    accepted_contains(topleft, diameter, Point(right, bottom))
 }
 
 // How many columns of the box come before the first contained one, on a row of the box. dy and dx count half pixels: a column is contained exactly

@@ -401,7 +401,7 @@ fn circle_number(canvas: Canvas, topleft: Point, diameter: u32, colour: u32) -> 
     circle::refusal(topleft, diameter)
 }
 
-// Inside the library: `draw_circle` on a frame that was judged over the buffer.
+// Inside the library: `draw_circle` on a frame that was judged over the buffer. A circle that contains the whole frame fills it.
 pub fn circle_on(
     buf: &mut [u8],
     canvas: Canvas,
@@ -417,6 +417,9 @@ pub fn circle_on(
         return Drawn { number, count: 0 };
     }
     let frame = canvas.frame;
+    if circle::accepted_covers(topleft, diameter, frame.width, frame.height) {
+        return framebuffer::fill_on(buf, canvas, colour);
+    }
     Drawn {
         number: 0,
         count: fill_circle(buf, frame.brush(colour), topleft, diameter),

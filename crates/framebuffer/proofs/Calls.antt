@@ -1,10 +1,11 @@
 -- Laws of a call that draws: its number, test by test, what is known where that is 0, and its outcome, accepted and refused. Assumes nothing.
-use mathlib.Core.Path.{_≡_, sym, ap, subst, _∙_}
-use mathlib.Core.Bool.{Bool, false, cond}
+use mathlib.Core.Path.{_≡_, refl, sym, ap, subst, _∙_}
+use mathlib.Core.Bool.{Bool, true, false, cond, _&&_}
 use mathlib.Core.List.{List, [], _++_, append-nil}
 use Prim.Native.Nat.{ℕ, _*_, _^_, _≤_, _<_}
 use native.Mathlib.Nat.{mul-le-mul}
 use lib.Dec.{eqb}
+use lib.IntN.{pos}
 use lib.ListN.{length}
 use lib.Signed.{mag}
 use mir.Syntax.{w32}
@@ -17,7 +18,7 @@ use Rattle.geometry.specs.declared.Point.{Point}
 use Rattle.layout.specs.Figure.{single, everywhere}
 use Rattle.layout.specs.Layout.{painted}
 use Rattle.layout.specs.Count.{pixelsIn, marked}
-use Rattle.layout.proofs.Pixels.{pixels-everywhere}
+use Rattle.layout.proofs.Pixels.{pixels-everywhere, marked-cong}
 use Rattle.framebuffer.specs.declared.Canvas.{Canvas}
 use Rattle.framebuffer.specs.declared.Frame.{Frame}
 use Rattle.framebuffer.specs.declared.Window.{Window}
@@ -29,7 +30,7 @@ use Rattle.framebuffer.specs.Description.{described, raster, drawTests}
 use Rattle.framebuffer.specs.Drawing.{Drawing, pixelDrawing, fillDrawing, callTests, outcome, pixelOutcome}
 use Rattle.framebuffer.specs.Judged.{Drawable, overBytes, Within, Ready, wholeBrush, brushed}
 use Rattle.framebuffer.specs.Window.{inWindow, heldBy, wholeWindow}
-use Rattle.framebuffer.proofs.Refusals.{draw-numbered, is-drawable, refused-drawn, refused-placed}
+use Rattle.framebuffer.proofs.Refusals.{sound, draw-numbered, is-drawable, refused-drawn, refused-placed}
 use Rattle.framebuffer.proofs.Windows.{whole-within, marked-whole}
 
 -- ---- the number: the frame's and the colour's, else the call's own
@@ -48,7 +49,7 @@ module _ (f : Frame) (len colour : ℕ) where
   pub drawable : {r : ℕ} → r ≡ first (drawTests f len colour) → r ≡ 0 → Drawable f len colour
   drawable e z = is-drawable f len colour (sym e ∙ z)
 
-  drawable-own : (own : Tests) {r : ℕ} → r ≡ first (drawTests f len colour ++ own) → r ≡ 0 → Drawable f len colour
+  pub drawable-own : (own : Tests) {r : ℕ} → r ≡ first (drawTests f len colour ++ own) → r ≡ 0 → Drawable f len colour
   drawable-own own e z = is-drawable f len colour (both-pass (drawTests f len colour) own (draw-numbered f len colour) (sym e ∙ z) .0)
 
   pub own-passed : (own : Tests) {r : ℕ} → r ≡ first (drawTests f len colour ++ own) → r ≡ 0 → first own ≡ 0
@@ -136,6 +137,19 @@ filled-outcome f colour b e z n h =
     accepted-outcome f (wholeWindow f) (fillDrawing colour) b (number-alone f (length b) colour e) z
     ((λ i. ((n ∙ sym (pixels-everywhere (raster f))) i, h i))
     ∙ sym (marked-whole f (drawable f (length b) colour e z .accepted .described) colour b everywhere))
+
+-- a call whose figure has every pixel of the frame is a fill
+pub everywhere-outcome : (f : Frame) (d : Drawing) (b : List ℕ) {r : ℕ} → r ≡ first (callTests f (length b) d) → r ≡ 0
+    → ((u v : ℕ) → u < f .width → v < f .height → d .figure (pos u) (pos v) ≡ true) → outcome f (wholeWindow f) (fillDrawing (d .colour)) b ≡ outcome f (wholeWindow f) d b
+unfolding outcome
+everywhere-outcome f d b e z all =
+    let passed = both-pass (drawTests f (length b) (d .colour)) (d .own) (draw-numbered f (length b) (d .colour)) (sym e ∙ z) .0 in
+    let number = sym (number-alone f (length b) (d .colour) refl) ∙ passed ∙ sym z ∙ e in
+    let placing = sound f (drawable-own f (length b) (d .colour) (d .own) e z .accepted .described) in
+    let made =
+    marked-cong (raster f) placing (d .colour) b (heldBy (wholeWindow f) everywhere) (heldBy (wholeWindow f) (d .figure))
+    (λ u v hu hv. ap (λ (t : Bool). inWindow (wholeWindow f) (pos u) (pos v) && t) (sym (all u v hu hv))) in
+    λ i. (drawn (number i) (made i .0), cond (eqb (number i) 0) (made i .1) b)
 
 -- what answers the needs of a call
 pub ruleset calls = (number-first, number-own, ready-own, own-passed, refused-outcome, brushed-outcome)

@@ -1,13 +1,16 @@
--- `drawing::circle_on` answers its number, and where that is 0 fills the rows within the rectangle of the whole frame. Assumes nothing.
-use mathlib.Core.Path.{_≡_}
+-- `drawing::circle_on` answers its number, and where that is 0 fills the frame, if the circle contains its corners, or else the rows within it. Assumes nothing.
+use mathlib.Core.Path.{_≡_, sym, _∙_}
 use mathlib.Core.List.{_++_}
+use native.Mathlib.Omega.{arith}
 use lib.ListN.{length}
 use borrow.Author.Needs.{needs}
 use Rattle.refusals.specs.First.{first}
 use Rattle.circle.specs.Refusal.{circleTests}
+use Rattle.circle.proofs.Corners.{corners-all}
 use Rattle.circle.proofs.Refusals.{is-accepted}
 use Rattle.framebuffer.specs.Description.{drawTests}
-use Rattle.framebuffer.proofs.Calls.{calls}
+use Rattle.framebuffer.proofs.Calls.{calls, drawable-own, everywhere-outcome}
+use Rattle.drawing.specs.Drawing.{circleDrawing}
 use Rattle.drawing.proofs.circle_on.Statement.{statement}
 use Rattle.drawing.proofs.circle_on.Tie as tie
 
@@ -22,18 +25,54 @@ number c = let s = c .before .before in c .circle-number .ensures (length (s .ar
 returns : tie.Need-returns
 returns c = let n = number (c .before) in search calls
 
-brush-requires : tie.Need-brush-requires
-brush-requires c κs = search needs
+-- accepted: the tests of the frame, the colour and the circle are passed
+accepted-covers-requires : tie.Need-accepted-covers-requires
+accepted-covers-requires c κs =
+    let a = c .before .before .before .before .args in
+    let n = number (c .before .before) in
+    let f = drawable-own (a .canvas .frame) (length (a .buf .now)) (a .colour) (circleTests (a .topleft) (a .diameter)) n (omega arith) .accepted .described in
+    (is-accepted _ _ (search calls), f .width, f .height)
 
-fill-circle-requires : tie.Need-fill-circle-requires
-fill-circle-requires c κs = let n = number (c .before .before .before .before) in (search calls, is-accepted _ _ (search calls))
+fill-on-requires : tie.Need-fill-on-requires
+fill-on-requires c κs = search needs
 
 same-length : tie.Need-same-length
 same-length c = search needs
 
--- accepted
+-- it contains the whole frame
 returns-2 : tie.Need-returns-2
-returns-2 c = let n = number (c .before .before .before .before .before .before .before) in search calls
+returns-2 c =
+    let filled = c .before .before in
+    let asked = filled .before .before in
+    let judged = asked .before .before .before .before in
+    let a = judged .before .before .args in
+    let all = corners-all (a .topleft) (a .diameter) (a .canvas .frame .width) (a .canvas .frame .height) (sym (asked .before .accepted-covers .ensures) ∙ asked .if2 .taken) in
+    filled .fill-on .ensures ∙ everywhere-outcome (a .canvas .frame) (circleDrawing (a .topleft) (a .diameter) (a .colour)) (a .buf .now) (number judged) (omega arith) all
+
+brush-requires : tie.Need-brush-requires
+brush-requires c κs = search needs
+
+fill-circle-requires : tie.Need-fill-circle-requires
+fill-circle-requires c κs = let n = number (c .before .before .before .before .before .before) in (search calls, is-accepted _ _ (search calls))
+
+same-length-2 : tie.Need-same-length-2
+same-length-2 c = search needs
+
+-- or not
+returns-3 : tie.Need-returns-3
+returns-3 c = let n = number (c .before .before .before .before .before .before .before .before .before) in search calls
 
 pub circle-on-spec : {M : Type 1} → statement M
-circle-on-spec = tie.close (tie.spec circle-number-requires returns brush-requires fill-circle-requires same-length returns-2)
+circle-on-spec =
+    tie.close
+    (tie.spec
+    circle-number-requires
+    returns
+    accepted-covers-requires
+    fill-on-requires
+    same-length
+    returns-2
+    brush-requires
+    fill-circle-requires
+    same-length-2
+    returns-3)

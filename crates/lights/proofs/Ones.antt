@@ -83,7 +83,11 @@ module _ (b : List ℕ) (i : ℕ) (h : getD b i 0 < 256) where
       ap (λ (n : ℕ). litBits (i * 8) b + n) (ap (λ (k : ℕ). ones (bitAnd (getD b i 0) (255 - k))) a ∙ masked-ones t (getD b i 0) l h)
       ∙ sym (bits-more i t b (omega arith))
 
--- never more than there are
+-- none at first, and never more than there are
+pub bits-none : (b : List ℕ) → litBits 0 b ≡ 0
+unfolding litBits
+bits-none b = refl
+
 pub bits-few : (n : ℕ) (b : List ℕ) {r : ℕ} → r ≡ litBits n b → r ≤ n
 unfolding litBits
 bits-few n b e = subst (λ (k : ℕ). k ≤ n) (sym e) (many-le n (bitAt b))

@@ -3,7 +3,7 @@ use mathlib.Core.Path.{_≡_, sym, ap, ap₂, _∙_}
 use mathlib.Core.Bool.{Bool}
 use mathlib.Core.List.{List}
 use Prim.Native.Nat.{ℕ, _+_, _-_, _*_, _/_, _%_, _^_, _≤_, _<_}
-use native.Mathlib.Nat.{le-of-eq, div-add-mod', mul-one, mul-comm, mul-le-mul, mul-le-mul-right}
+use native.Mathlib.Nat.{le-of-eq, div-add-mod', mul-one, mul-le-mul, mul-le-mul-right}
 use native.Mathlib.Omega.{arith}
 use lib.Arith.{digits-div, digits-mod}
 use lib.Dec.{eqb}
@@ -44,14 +44,14 @@ module _ (f : Frame) (b : List ℕ) (A : Accepted f (length b)) (one : f .depth 
       let r = A .room in
       omega arith
 
-  -- all rows do, and their pixels are few
-  pub run-room : (f .width * f .height ≤ 4194304) × (f .width * f .height ≤ length b * 8)
+  -- all rows do, and as one run they are few bytes
+  pub run-room : f .distance * 8 ≡ f .width → (f .distance * f .height ≤ 524288) × (f .distance * f .height ≤ length b)
   unfolding size
-  run-room =
-      let n = f .distance in
-      let m : f .width * f .height ≤ n * 8 * f .height = mul-le-mul-right (f .height) (row-bits) in
+  run-room d =
+      let w = A .described .width in
+      let few : f .distance ≤ 256 = omega arith in
       let r = A .room in
-      (mul-le-mul (A .described .width) (A .described .height), omega arith)
+      (mul-le-mul few (A .described .height), omega arith)
 
   pub rows-few : (y : ℕ) → y ≤ f .height → {sum : ℕ} → sum ≡ litUpTo f (y * f .width) b → sum ≤ 4194304
   rows-few y l e =
@@ -90,11 +90,12 @@ module _ (f : Frame) (b : List ℕ) (A : Accepted f (length b)) (one : f .depth 
   rows-lit y e a = a ∙ ap (λ (n : ℕ). litUpTo f (n * f .width) b) e
 
   -- ---- without padding they are one run
-  pub run-lit : f .distance * 8 ≡ f .width → litBits (f .width * f .height) b ≡ litIn (raster f) b
+  pub run-lit : f .distance * 8 ≡ f .width → litBits (f .distance * f .height * 8) b ≡ litIn (raster f) b
   unfolding litBits litIn
   run-lit d =
       let w = f .width in
-      ap (λ (n : ℕ). howMany n (bitAt b)) (mul-comm w (f .height))
+      let n : f .distance * f .height * 8 ≡ f .height * (f .distance * 8) = omega arith in
+      ap (λ (n : ℕ). howMany n (bitAt b)) (n ∙ ap (λ (w : ℕ). f .height * w) d)
       ∙ many-cong (f .height * w) _ _ (λ p l. sym (bit-is (p % w) (p / w) ∙ same p))
     where
       same : (p : ℕ) → bitAt (drop (p / f .width * f .distance) b) (p % f .width) ≡ bitAt b p

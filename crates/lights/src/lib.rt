@@ -32,33 +32,18 @@ fn ones_of(bytes: &[u8], from: usize, past: usize) -> u16
     sum
 }
 
-// Where a block that begins at i ends, of `whole` bytes.
-fn block_end(i: usize, whole: usize) -> usize
-    requires { ⌜ i ≤ 524288 ⌝ }
-    ensures { λ r. ⌜ r ≡ min (i + 4096) whole ⌝ }
-{
-    let end = i + 4096;
-    if end < whole { end } else { whole }
-}
-
-// The ones among the first n bits of bytes: whole bytes, block by block, and of the byte behind them what its mask leaves.
-fn lit_bits(bytes: &[u8], n: u32) -> u32
-    requires { ⌜ (n ≤ 4194304) × (n ≤ length (now bytes) * 8) ⌝ }
+// The ones among the first n bits of a row: whole bytes, and of the byte behind them what its mask leaves.
+fn lit_row(bytes: &[u8], n: u32) -> u32
+    requires { ⌜ (n ≤ 2048) × (n ≤ length (now bytes) * 8) ⌝ }
     ensures { λ r. ⌜ r ≡ litBits n (now (bytes .entry)) ⌝ }
 {
     let whole = (n / 8) as usize;
     let rest = n % 8;
-    let mut sum = 0u32;
-    let mut i = 0usize;
-    while i < whole {
-        let past = block_end(i, whole);
-        sum += ones_of(bytes, i, past) as u32;
-        i = past;
+    let sum = ones_of(bytes, 0, whole) as u32;
+    if rest == 0 {
+        return sum;
     }
-    if rest != 0 {
-        sum += u8::count_ones(bytes[whole] & !packing::bits_from(1, rest));
-    }
-    sum
+    sum + u8::count_ones(bytes[whole] & !packing::bits_from(1, rest))
 }
 
 // The lit pixels of an accepted frame, row by row.
@@ -72,20 +57,44 @@ fn lit_rows(buf: &[u8], frame: Frame) -> u32
     let mut at = 0usize;
     let mut y = 0u32;
     while y < height {
-        sum += lit_bits(&buf[at..], frame.width);
+        sum += lit_row(&buf[at..], frame.width);
         at += distance;
         y += 1;
     }
     sum
 }
 
-// The same. Rows with nothing between them are one run.
+// Where a block that begins at i ends, of n bytes.
+fn block_end(i: usize, n: usize) -> usize
+    requires { ⌜ i ≤ 524288 ⌝ }
+    ensures { λ r. ⌜ r ≡ min (i + 4096) n ⌝ }
+{
+    let end = i + 4096;
+    if end < n { end } else { n }
+}
+
+// The ones of the first n bytes, block by block.
+fn lit_run(bytes: &[u8], n: usize) -> u32
+    requires { ⌜ (n ≤ 524288) × (n ≤ length (now bytes)) ⌝ }
+    ensures { λ r. ⌜ r ≡ litBits (n * 8) (now (bytes .entry)) ⌝ }
+{
+    let mut sum = 0u32;
+    let mut i = 0usize;
+    while i < n {
+        let past = block_end(i, n);
+        sum += ones_of(bytes, i, past) as u32;
+        i = past;
+    }
+    sum
+}
+
+// The lit pixels of an accepted frame. Rows with nothing between them are one run.
 fn lit_frame(buf: &[u8], frame: Frame) -> u32
     requires { ⌜ Accepted frame (length (now buf)) × (frame .depth ≡ 1) ⌝ }
     ensures { λ r. ⌜ r ≡ litIn (raster frame) (now (buf .entry)) ⌝ }
 {
     if frame.distance * 8 == frame.width {
-        return lit_bits(buf, frame.width * frame.height);
+        return lit_run(buf, (frame.distance * frame.height) as usize);
     }
     lit_rows(buf, frame)
 }

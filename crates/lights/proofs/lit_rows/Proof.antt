@@ -33,29 +33,29 @@ room c =
     let s = c .before .before .before .before in
     row-ends (s .args .frame) (s .args .buf .now) (s .pre .0) (s .pre .1) (c .before .loop .y) (omega arith) (c .before .loop .inv .1)
 
-sub-lit-bits : tie.Need-sub-lit-bits Inv-loop μ-loop
-sub-lit-bits c = omega (arith, room c)
+sub-lit-row : tie.Need-sub-lit-row Inv-loop μ-loop
+sub-lit-row c = omega (arith, room c)
 
-part-lit-bits-start : tie.Need-part-lit-bits-start Inv-loop μ-loop
-part-lit-bits-start c = omega (arith, room c)
+part-lit-row-start : tie.Need-part-lit-row-start Inv-loop μ-loop
+part-lit-row-start c = omega (arith, room c)
 
-part-lit-bits-end : tie.Need-part-lit-bits-end Inv-loop μ-loop
-part-lit-bits-end c = omega (arith, room c)
+part-lit-row-end : tie.Need-part-lit-row-end Inv-loop μ-loop
+part-lit-row-end c = omega (arith, room c)
 
-lit-bits-requires : tie.Need-lit-bits-requires Inv-loop μ-loop
-lit-bits-requires c κs =
+lit-row-requires : tie.Need-lit-row-requires Inv-loop μ-loop
+lit-row-requires c κs =
     let s = c .before .before .before .before .before in
     let r = room (c .before) in
     let d = bits s in
     let w = s .pre .0 .described .width in
-    (omega arith, simp (length-take, length-drop) (omega arith))
+    (w, simp (length-take, length-drop) (omega arith))
 
 -- a row more. What is counted is few, so that the sum fits
 loop-again : tie.Need-loop-again Inv-loop μ-loop
 loop-again c =
     let s = c .before .before .before .before .before .before in
     let l = c .before .before .before .loop in
-    (omega arith, omega arith, row-more (s .args .frame) (s .args .buf .now) (s .pre .0) (s .pre .1) (l .y) (l .inv .2) (l .inv .1) (c .lit-bits .ensures))
+    (omega arith, omega arith, row-more (s .args .frame) (s .args .buf .now) (s .pre .0) (s .pre .1) (l .y) (l .inv .2) (l .inv .1) (c .lit-row .ensures))
 
 add-sum : tie.Need-add-sum Inv-loop μ-loop
 add-sum c =
@@ -84,10 +84,10 @@ lit-rows-spec =
     μ-loop
     cast-distance
     loop-holds
-    sub-lit-bits
-    part-lit-bits-start
-    part-lit-bits-end
-    lit-bits-requires
+    sub-lit-row
+    part-lit-row-start
+    part-lit-row-end
+    lit-row-requires
     add-sum
     add-at
     add-y

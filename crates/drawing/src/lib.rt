@@ -417,13 +417,13 @@ pub fn circle_on(
         return Drawn { number, count: 0 };
     }
     let frame = canvas.frame;
-    if circle::accepted_covers(topleft, diameter, frame.width, frame.height) {
-        return framebuffer::fill_on(buf, canvas, colour);
+    if !circle::accepted_covers(topleft, diameter, frame.width, frame.height) {
+        return Drawn {
+            number: 0,
+            count: fill_circle(buf, frame.brush(colour), topleft, diameter),
+        };
     }
-    Drawn {
-        number: 0,
-        count: fill_circle(buf, frame.brush(colour), topleft, diameter),
-    }
+    framebuffer::fill_on(buf, canvas, colour)
 }
 
 // Draws a filled circle.

@@ -1,9 +1,10 @@
--- `drawing::circle_on` answers its number, and where that is 0 fills the frame, if the circle contains its corners, or else the rows within it. Assumes nothing.
+-- `drawing::circle_on` answers its number, and where that is 0 fills the rows within the frame, or all of it where the circle contains its corners. Assumes nothing.
 use mathlib.Core.Path.{_≡_, sym, _∙_}
 use mathlib.Core.List.{_++_}
 use native.Mathlib.Omega.{arith}
 use lib.ListN.{length}
 use borrow.Author.Needs.{needs}
+use borrow.Author.Tests.{not-false}
 use Rattle.refusals.specs.First.{first}
 use Rattle.circle.specs.Refusal.{circleTests}
 use Rattle.circle.proofs.Corners.{corners-all}
@@ -33,34 +34,34 @@ accepted-covers-requires c κs =
     let f = drawable-own (a .canvas .frame) (length (a .buf .now)) (a .colour) (circleTests (a .topleft) (a .diameter)) n (omega arith) .accepted .described in
     (is-accepted _ _ (search calls), f .width, f .height)
 
-fill-on-requires : tie.Need-fill-on-requires
-fill-on-requires c κs = search needs
-
-same-length : tie.Need-same-length
-same-length c = search needs
-
--- it contains the whole frame
-returns-2 : tie.Need-returns-2
-returns-2 c =
-    let filled = c .before .before in
-    let asked = filled .before .before in
-    let judged = asked .before .before .before .before in
-    let a = judged .before .before .args in
-    let all = corners-all (a .topleft) (a .diameter) (a .canvas .frame .width) (a .canvas .frame .height) (sym (asked .before .accepted-covers .ensures) ∙ asked .if2 .taken) in
-    filled .fill-on .ensures ∙ everywhere-outcome (a .canvas .frame) (circleDrawing (a .topleft) (a .diameter) (a .colour)) (a .buf .now) (number judged) (omega arith) all
-
 brush-requires : tie.Need-brush-requires
 brush-requires c κs = search needs
 
 fill-circle-requires : tie.Need-fill-circle-requires
 fill-circle-requires c κs = let n = number (c .before .before .before .before .before .before) in (search calls, is-accepted _ _ (search calls))
 
+same-length : tie.Need-same-length
+same-length c = search needs
+
+returns-2 : tie.Need-returns-2
+returns-2 c = let n = number (c .before .before .before .before .before .before .before .before .before) in search calls
+
+-- it contains the whole frame
+fill-on-requires : tie.Need-fill-on-requires
+fill-on-requires c κs = search needs
+
 same-length-2 : tie.Need-same-length-2
 same-length-2 c = search needs
 
--- or not
 returns-3 : tie.Need-returns-3
-returns-3 c = let n = number (c .before .before .before .before .before .before .before .before .before) in search calls
+returns-3 c =
+    let filled = c .before .before in
+    let asked = filled .before .before in
+    let judged = asked .before .before .before .before in
+    let a = judged .before .before .args in
+    let all =
+    corners-all (a .topleft) (a .diameter) (a .canvas .frame .width) (a .canvas .frame .height) (sym (asked .before .accepted-covers .ensures) ∙ not-false _ (asked .if2 .left)) in
+    filled .fill-on .ensures ∙ everywhere-outcome (a .canvas .frame) (circleDrawing (a .topleft) (a .diameter) (a .colour)) (a .buf .now) (number judged) (omega arith) all
 
 pub circle-on-spec : {M : Type 1} → statement M
 circle-on-spec =
@@ -69,10 +70,10 @@ circle-on-spec =
     circle-number-requires
     returns
     accepted-covers-requires
-    fill-on-requires
-    same-length
-    returns-2
     brush-requires
     fill-circle-requires
+    same-length
+    returns-2
+    fill-on-requires
     same-length-2
     returns-3)

@@ -12,7 +12,7 @@ ghost use Prim.Native.Nat.{_≤_};
 ghost use lib.IntN.{natAbs, pos, _-ℤ_};
 ghost use Rattle.refusals.specs.First.{first};
 ghost use Rattle.geometry.specs.Answer.{verdict, span};
-ghost use Rattle.circle.specs.Circle.{centre, thresholdOf, doubled, squaredDistance, contained, inBox, leadOf, spanStart, spanEnd};
+ghost use Rattle.circle.specs.Circle.{centre, thresholdOf, doubled, squaredDistance, contained, boxRow, inBox, leadOf, spanStart, spanEnd};
 ghost use Rattle.circle.specs.Corners.{corners};
 ghost use Rattle.circle.specs.Refusal.{circleTests, Fits};
 
@@ -156,8 +156,23 @@ fn lead(topleft: Point, diameter: u32, y: i32) -> u32
     (diameter - dx as u32) / 2
 }
 
-// Inside the library: the span of a row of an accepted circle. A row is in the box exactly if its pixel in the box's first column is.
-pub fn accepted_row_span(topleft: Point, diameter: u32, y: i32) -> Span
+// Inside the library: the span of a row of an accepted circle's box.
+pub fn box_row_span(topleft: Point, diameter: u32, y: i32) -> Span
+    requires { ⌜ Fits topleft diameter × (boxRow topleft diameter y ≡ true) ⌝ }
+    ensures { λ r. ⌜ r ≡ span 0 (spanStart topleft diameter y) (spanEnd topleft diameter y) ⌝ }
+{
+    let left = topleft.0;
+    let skipped = lead(topleft, diameter, y);
+    let kept = diameter - skipped;
+    Span {
+        number: 0,
+        start: left + (skipped as i32),
+        end: left + (kept as i32),
+    }
+}
+
+// The span of any row of an accepted circle. A row is in the box exactly if its pixel in the box's first column is.
+fn accepted_row_span(topleft: Point, diameter: u32, y: i32) -> Span
     requires { ⌜ Fits topleft diameter ⌝ }
     ensures { λ r. ⌜ r ≡ span 0 (spanStart topleft diameter y) (spanEnd topleft diameter y) ⌝ }
 {
@@ -169,13 +184,7 @@ pub fn accepted_row_span(topleft: Point, diameter: u32, y: i32) -> Span
             end: 0,
         };
     }
-    let skipped = lead(topleft, diameter, y);
-    let kept = diameter - skipped;
-    Span {
-        number: 0,
-        start: left + (skipped as i32),
-        end: left + (kept as i32),
-    }
+    box_row_span(topleft, diameter, y)
 }
 
 // The columns of row y that the circle contains.

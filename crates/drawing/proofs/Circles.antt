@@ -8,13 +8,13 @@ use native.Mathlib.Omega.{arith}
 use lib.IntN.{ℤ, pos, natAbs, _+ℤ_, _-ℤ_, _*ℤ_}
 use lib.Signed.{leZ, ltZ, clashℤ, _≤ℤ_, _<ℤ_}
 use Rattle.whole.specs.Interval.{between}
-use Rattle.whole.proofs.Decides.{decides-no}
-use Rattle.whole.proofs.Difference.{as-mk, mks, mk-eq, lt-nat, le-nat, nat-le, sum-nat}
+use Rattle.whole.proofs.Decides.{decides-yes, decides-no, decides-between}
+use Rattle.whole.proofs.Difference.{as-mk, mks, mk-eq, lt-nat, le-nat, nat-le, nat-lt, sum-nat}
 use Rattle.whole.proofs.Machine.{lt-yes, lt-no, size-pos}
 use Rattle.whole.proofs.Order.{le-sub}
 use Rattle.whole.proofs.Tests.{lt-or-ge}
 use Rattle.geometry.specs.declared.Point.{Point}
-use Rattle.circle.specs.Circle.{spanStart, spanEnd}
+use Rattle.circle.specs.Circle.{boxRow, spanStart, spanEnd}
 use Rattle.circle.proofs.Containment.{in-box-decides, outside}
 use Rattle.circle.proofs.Spans.{span-agrees}
 use Rattle.framebuffer.specs.declared.Steps.{Steps}
@@ -34,6 +34,12 @@ module _ (c : Point) (d : ℕ) where
 
   pub circle-columns : (y : ℤ) (u v : ℕ) → pos v ≡ y → (leZ (spanStart c d y) (pos u) && ltZ (pos u) (spanEnd c d y)) ≡ circleFigure c d (pos u) (pos v)
   circle-columns y u v e = ap (λ (z : ℤ). leZ (spanStart c d z) (pos u) && ltZ (pos u) (spanEnd c d z)) (sym e) ∙ sym (span-agrees c d (pos u) (pos v))
+
+-- ---- its k-th row is one of its box
+pub box-row : (c : Point) (d k : ℕ) → k < d → boxRow c d (c .1 +ℤ pos k) ≡ true
+box-row c d k l =
+    let here = sum-nat (c .1 +ℤ pos k) (c .1) k refl in
+    decides-yes (decides-between (c .1) (c .1 +ℤ pos d) (c .1 +ℤ pos k)) (nat-le (omega arith), nat-lt (omega (arith, sum-nat (c .1 +ℤ pos d) (c .1) d refl)))
 
 -- ---- a row of the frame: above a circle's box, one of its rows, or below it
 data BoxRow (top : ℤ) (d v : ℕ) : Type 0 where

@@ -372,7 +372,7 @@ fn fill_circle_rows(buf: &mut [u8], brush: Brush, topleft: Point, diameter: u32,
     let mut k = rows.from;
     while k < past {
         let y = top + (k as i32);
-        let row = circle::accepted_row_span(topleft, diameter, y);
+        let row = circle::box_row_span(topleft, diameter, y);
         seen += framebuffer::paint_span(buf, brush, y, row.start, row.end);
         k += 1;
     }

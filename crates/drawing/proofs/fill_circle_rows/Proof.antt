@@ -12,14 +12,14 @@ use Rattle.whole.proofs.Machine.{field-back}
 use Rattle.geometry.specs.Bound.{Coord}
 use Rattle.geometry.specs.Answer.{span}
 use Rattle.geometry.specs.declared.Span.{Span}
-use Rattle.circle.specs.Circle.{spanStart, spanEnd}
+use Rattle.circle.specs.Circle.{boxRow, spanStart, spanEnd}
 use Rattle.circle.proofs.Refusals.{widest}
 use Rattle.circle.proofs.Worked.{after-fits, after-is}
 use Rattle.layout.specs.Figure.{spanFigure}
 use Rattle.framebuffer.specs.Judged.{Ready, brushed}
 use Rattle.drawing.specs.Figure.{circleFigure}
 use Rattle.drawing.proofs.Figures.{brush-sound, few-pixels}
-use Rattle.drawing.proofs.Circles.{circle-columns, none-before, none-after}
+use Rattle.drawing.proofs.Circles.{circle-columns, box-row, none-before, none-after}
 use Rattle.drawing.proofs.Rows.{above, rows-start, rows-turn, rows-end}
 use Rattle.drawing.proofs.fill_circle_rows.Statement.{statement}
 use Rattle.drawing.proofs.fill_circle_rows.Tie as tie
@@ -64,8 +64,10 @@ cast-y c = record { sfits = omega (arith, few c) }
 add-y : tie.Need-add-y Inv-loop μ-loop
 add-y c = after-fits (s c .args .topleft .1) (c .before .loop .k) (top (s c)) (few c)
 
-accepted-row-span-requires : tie.Need-accepted-row-span-requires Inv-loop μ-loop
-accepted-row-span-requires c κs = search needs
+box-row-span-requires : tie.Need-box-row-span-requires Inv-loop μ-loop
+box-row-span-requires c κs =
+    let a = s c .args in
+    (s c .pre .1, ap (boxRow (a .topleft) (a .diameter)) (y-is c) ∙ box-row (a .topleft) (a .diameter) (c .before .loop .k) (omega (arith, s c .pre .2 .most)))
 
 paint-span-requires : tie.Need-paint-span-requires Inv-loop μ-loop
 paint-span-requires c κs =
@@ -93,9 +95,9 @@ loop-again c =
     let a = s h .args in
     let k = h .before .loop .k in
     let y = a .topleft .1 +ℤ pos k in
-    let span-is = row .accepted-row-span .ensures ∙ ap (λ (z : ℤ). span 0 (spanStart (a .topleft) (a .diameter) z) (spanEnd (a .topleft) (a .diameter) z)) (y-is h) in
-    let start = field-back w32 (row .accepted-row-span .result .start) (paint .before .struct-told3 .given .1 .0 .1) ∙ ap (λ (q : Span). q .start) span-is in
-    let end = field-back w32 (row .accepted-row-span .result .end) (paint .before .struct-told3 .given .1 .1 .0 .1) ∙ ap (λ (q : Span). q .end) span-is in (
+    let span-is = row .box-row-span .ensures ∙ ap (λ (z : ℤ). span 0 (spanStart (a .topleft) (a .diameter) z) (spanEnd (a .topleft) (a .diameter) z)) (y-is h) in
+    let start = field-back w32 (row .box-row-span .result .start) (paint .before .struct-told3 .given .1 .0 .1) ∙ ap (λ (q : Span). q .start) span-is in
+    let end = field-back w32 (row .box-row-span .result .end) (paint .before .struct-told3 .given .1 .1 .0 .1) ∙ ap (λ (q : Span). q .end) span-is in (
       paint .paint-span .kept .0 ∙ h .before .loop .inv .0,
       λ ok begun.
           rows-turn (a .brush) (brush-sound ok) (a .buf .now) (circleFigure (a .topleft) (a .diameter)) y (spanStart (a .topleft) (a .diameter) y)
@@ -128,7 +130,7 @@ fill-circle-rows-spec =
     loop-holds
     cast-y
     add-y
-    accepted-row-span-requires
+    box-row-span-requires
     paint-span-requires
     add-seen
     add-k

@@ -14,7 +14,7 @@ use Rattle.layout.proofs.Placing.{Placing}
 use Rattle.layout.proofs.Pixels.{marked-cong, marked-none}
 use Rattle.framebuffer.specs.declared.Brush.{Brush}
 use Rattle.framebuffer.specs.Description.{raster}
-use Rattle.framebuffer.specs.Judged.{brushed}
+use Rattle.framebuffer.specs.Judged.{brushed, onTop}
 use Rattle.framebuffer.specs.Window.{inWindow, heldBy}
 use Rattle.drawing.proofs.Figures.{within-both, brushed-more}
 
@@ -69,11 +69,12 @@ module _ (q : Brush) (P : Placing (raster (q .frame))) (b : List ℕ) (figure : 
       by p false f h = span-off p false refl
 
   -- the span of row y has the figure's columns: one row more is painted, and its pixels are counted
-  pub rows-turn : (y start end : ℤ) {m n : ℕ} {now next : List ℕ}
+  pub rows-turn : (y start end : ℤ) {m r : ℕ} {now next : List ℕ}
       → ((u v : ℕ) → u < q .frame .width → v < q .frame .height → pos v ≡ y → (leZ start (pos u) && ltZ (pos u) end) ≡ figure (pos u) (pos v))
-      → (m, now) ≡ brushed q (above figure y) b → (n, next) ≡ brushed q (spanFigure y start end) now → (m + n, next) ≡ brushed q (above figure (y +ℤ pos 1)) b
+      → (m, now) ≡ brushed q (above figure y) b → (r, next) ≡ onTop m (brushed q (spanFigure y start end) now) → (r, next) ≡ brushed q (above figure (y +ℤ pos 1)) b
   rows-turn y start end same so-far more =
-      brushed-more q P b (above figure y) (spanFigure y start end) (above figure (y +ℤ pos 1)) so-far more
+      more
+      ∙ brushed-more q P b (above figure y) (spanFigure y start end) (above figure (y +ℤ pos 1)) so-far refl
       (λ u v hu hv.
       apart (inWindow (q .window) (pos u) (pos v)) (ltZ (pos v) y) (eqZ (pos v) y) (figure (pos u) (pos v)) (leZ start (pos u) && ltZ (pos u) end)
       (λ l e. lt-apart (lt-yes l) (decides-eq (pos v) y .yes e)))

@@ -373,7 +373,7 @@ fn fill_circle_rows(buf: &mut [u8], brush: Brush, topleft: Point, diameter: u32,
     while k < past {
         let y = top + (k as i32);
         let row = circle::box_row_span(topleft, diameter, y);
-        seen += framebuffer::paint_span(buf, brush, y, row.start, row.end);
+        seen = framebuffer::paint_more(buf, brush, y, row.start, row.end, seen);
         k += 1;
     }
     seen
@@ -455,7 +455,7 @@ fn fill_triangle(buf: &mut [u8], brush: Brush, v1: Point, v2: Point, v3: Point) 
     while y <= bottom {
         let row = walk.row(y);
         let end = row.high + 1;
-        seen += framebuffer::paint_span(buf, brush, y, row.low, end);
+        seen = framebuffer::paint_more(buf, brush, y, row.low, end, seen);
         walk = row.walk;
         y += 1;
     }

@@ -2,7 +2,7 @@
 use mathlib.Core.Path.{_≡_}
 use mathlib.Core.Bool.{Bool, true}
 use mathlib.Core.List.{List}
-use Prim.Native.Nat.{ℕ, _^_, _≤_, _<_}
+use Prim.Native.Nat.{ℕ, _+_, _^_, _≤_, _<_}
 use lib.IntN.{ℤ}
 use Rattle.layout.specs.Count.{marked}
 use Rattle.layout.specs.Packed.{goodDepth, rowBytes}
@@ -63,3 +63,7 @@ wholeBrush f colour = record { frame = f; window = wholeWindow f; colour = colou
 -- what it makes of a figure, as far as its rectangle holds it: how many pixels that has, and a buffer with them in the colour
 abbrev pub brushed : Brush → (ℤ → ℤ → Bool) → List ℕ → ℕ × List ℕ
 brushed q figure b = marked (raster (q .frame)) (heldBy (q .window) figure) (q .colour) b
+
+-- counted on top of n pixels
+abbrev pub onTop : ℕ → ℕ × List ℕ → ℕ × List ℕ
+onTop n p = (n + p .0, p .1)

@@ -14,7 +14,7 @@ ghost use Rattle.layout.specs.Packed.{goodDepth};
 ghost use Rattle.framebuffer.specs.Answer.{sized, read};
 ghost use Rattle.framebuffer.specs.Window.{inWindow, heldBy, wholeWindow, clipped};
 ghost use Rattle.framebuffer.specs.Description.{described, packedDistance, packed, raster, noDistance, size, descriptionTests, frameTests, drawTests, readTests, colourAt};
-ghost use Rattle.framebuffer.specs.Judged.{Described, Accepted, Drawable, overBytes, Over, OverSome, Within, Ready, wholeBrush, brushed};
+ghost use Rattle.framebuffer.specs.Judged.{Described, Accepted, Drawable, overBytes, Over, OverSome, Within, Ready, wholeBrush, brushed, onTop};
 ghost use Rattle.framebuffer.specs.Drawing.{fillDrawing, outcome, pixelOutcome};
 ghost use Rattle.framebuffer.specs.Interval.{Held};
 
@@ -475,22 +475,32 @@ fn paint_columns(buf: &mut [u8], frame: Frame, y: u32, from: u32, past: u32, col
     packing::fill_part(&mut buf[start..end], frame.depth, frame.big, colour);
 }
 
-// Inside the library: row y's columns from `start` to one before `end` get the colour, as far as the rectangle holds them; and how many these are.
-pub fn paint_span(buf: &mut [u8], brush: Brush, y: i32, start: i32, end: i32) -> u32
-    requires { ⌜ Ready brush (length (now buf)) ⌝ }
-    ensures { λ r. ⌜ (r, now (buf .exit)) ≡ brushed brush (spanFigure y start end) (now (buf .entry)) ⌝ }
+// Inside the library: row y's columns from `start` to one before `end` get the colour, as far as the rectangle holds them; and how many these are, on top of those that
+// were counted before. The sum is made first, so that a caller's loop keeps one number over the painting and not two.
+pub fn paint_more(buf: &mut [u8], brush: Brush, y: i32, start: i32, end: i32, before: u32) -> u32
+    requires { ⌜ Ready brush (length (now buf)) × (before ≤ 4194304) ⌝ }
+    ensures { λ r. ⌜ (r, now (buf .exit)) ≡ onTop before (brushed brush (spanFigure y start end) (now (buf .entry))) ⌝ }
 {
     let window = brush.window;
     if !is_between(y, window.top, window.bottom) {
-        return 0;
+        return before;
     }
     let from = clip(start, window.left, window.right);
     let past = clip(end, window.left, window.right);
     if past <= from {
-        return 0;
+        return before;
     }
+    let sum = before + (past - from);
     paint_columns(buf, brush.frame, y as u32, from, past, brush.colour);
-    past - from
+    sum
+}
+
+// Inside the library: the same of one row.
+pub fn paint_span(buf: &mut [u8], brush: Brush, y: i32, start: i32, end: i32) -> u32
+    requires { ⌜ Ready brush (length (now buf)) ⌝ }
+    ensures { λ r. ⌜ (r, now (buf .exit)) ≡ brushed brush (spanFigure y start end) (now (buf .entry)) ⌝ }
+{
+    paint_more(buf, brush, y, start, end, 0)
 }
 
 // ---- the whole frame

@@ -16,7 +16,7 @@ use Rattle.circle.specs.Circle.{boxRow, spanStart, spanEnd}
 use Rattle.circle.proofs.Refusals.{widest}
 use Rattle.circle.proofs.Worked.{after-fits, after-is}
 use Rattle.layout.specs.Figure.{spanFigure}
-use Rattle.framebuffer.specs.Judged.{Ready, brushed}
+use Rattle.framebuffer.specs.Judged.{Ready, brushed, onTop}
 use Rattle.drawing.specs.Figure.{circleFigure}
 use Rattle.drawing.proofs.Figures.{brush-sound, few-pixels}
 use Rattle.drawing.proofs.Circles.{circle-columns, box-row, none-before, none-after}
@@ -69,17 +69,11 @@ box-row-span-requires c κs =
     let a = s c .args in
     (s c .pre .1, ap (boxRow (a .topleft) (a .diameter)) (y-is c) ∙ box-row (a .topleft) (a .diameter) (c .before .loop .k) (omega (arith, s c .pre .2 .most)))
 
-paint-span-requires : tie.Need-paint-span-requires Inv-loop μ-loop
-paint-span-requires c κs =
+paint-more-requires : tie.Need-paint-more-requires Inv-loop μ-loop
+paint-more-requires c κs =
     let h = c .before .before .before .before in
-    subst (Ready (s h .args .brush)) (sym (h .before .loop .inv .0)) (s h .pre .0)
-
-add-seen : tie.Need-add-seen Inv-loop μ-loop
-add-seen c =
-    let paint = c .before .before in
-    let h = paint .before .before .before .before .before in
     let ok = s h .pre .0 in
-    omega (arith, few-pixels ok _ (λ i. h .before .loop .inv .1 ok (begun (s h)) i .0), few-pixels ok _ (λ i. paint .paint-span .ensures i .0))
+    (subst (Ready (s h .args .brush)) (sym (h .before .loop .inv .0)) ok, few-pixels ok _ (λ i. h .before .loop .inv .1 ok (begun (s h)) i .0))
 
 add-k : tie.Need-add-k Inv-loop μ-loop
 add-k c = search needs
@@ -98,13 +92,13 @@ loop-again c =
     let span-is = row .box-row-span .ensures ∙ ap (λ (z : ℤ). span 0 (spanStart (a .topleft) (a .diameter) z) (spanEnd (a .topleft) (a .diameter) z)) (y-is h) in
     let start = field-back w32 (row .box-row-span .result .start) (paint .before .struct-told3 .given .1 .0 .1) ∙ ap (λ (q : Span). q .start) span-is in
     let end = field-back w32 (row .box-row-span .result .end) (paint .before .struct-told3 .given .1 .1 .0 .1) ∙ ap (λ (q : Span). q .end) span-is in (
-      paint .paint-span .kept .0 ∙ h .before .loop .inv .0,
+      paint .paint-more .kept .0 ∙ h .before .loop .inv .0,
       λ ok begun.
           rows-turn (a .brush) (brush-sound ok) (a .buf .now) (circleFigure (a .topleft) (a .diameter)) y (spanStart (a .topleft) (a .diameter) y)
           (spanEnd (a .topleft) (a .diameter) y)
           (λ u v hu hv e. circle-columns (a .topleft) (a .diameter) y u v e)
           (h .before .loop .inv .1 ok begun)
-          (paint .paint-span .ensures ∙ (λ i. brushed (a .brush) (spanFigure (y-is h i) (start i) (end i)) (h .before .loop .buf)))
+          (paint .paint-more .ensures ∙ (λ i. onTop (h .before .loop .seen) (brushed (a .brush) (spanFigure (y-is h i) (start i) (end i)) (h .before .loop .buf))))
           ∙ ap (λ (z : ℤ). brushed (a .brush) (above (circleFigure (a .topleft) (a .diameter)) z) (a .buf .now)) (+ℤ-assoc (a .topleft .1) (pos k) (pos 1)),
     )
 
@@ -131,8 +125,7 @@ fill-circle-rows-spec =
     cast-y
     add-y
     box-row-span-requires
-    paint-span-requires
-    add-seen
+    paint-more-requires
     add-k
     loop-less
     loop-again

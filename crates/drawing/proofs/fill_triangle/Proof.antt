@@ -23,7 +23,7 @@ use Rattle.edges.specs.declared.Row.{Row}
 use Rattle.edges.specs.Edges.{WalkAt, Rowed}
 use Rattle.layout.specs.Figure.{spanFigure}
 use Rattle.framebuffer.specs.Window.{inWindow}
-use Rattle.framebuffer.specs.Judged.{Ready, brushed}
+use Rattle.framebuffer.specs.Judged.{Ready, brushed, onTop}
 use Rattle.drawing.specs.Figure.{triangleFigure}
 use Rattle.drawing.proofs.Figures.{brush-sound, few-pixels}
 use Rattle.drawing.proofs.Fill.{solid, none-above, none-below, row-columns, past-fits, row-fits, nearer, still-below}
@@ -158,19 +158,12 @@ module _ (c : tie.After-struct-told3 Inv-loop μ-loop) where
 add-end : tie.Need-add-end Inv-loop μ-loop
 add-end c = end-fits c
 
-paint-span-requires : tie.Need-paint-span-requires Inv-loop μ-loop
-paint-span-requires c κs =
+paint-more-requires : tie.Need-paint-more-requires Inv-loop μ-loop
+paint-more-requires c κs =
     let h = c .before .before .before .before .before in
-    let s = entry (start h) in
-    subst (Ready (s .args .brush)) (sym (h .before .loop .inv .0)) (s .pre .0)
-
-add-seen : tie.Need-add-seen Inv-loop μ-loop
-add-seen c =
-    let paint = c .before .before in
-    let h = turn (paint .before .before .before) in
     let s = start h in
     let ok = entry s .pre .0 in
-    omega (arith, few-pixels ok _ (λ i. h .before .loop .inv .2 (v1 s) (v2 s) (v3 s) ok (top-is s) (begun s) .1 i .0), few-pixels ok _ (λ i. paint .paint-span .ensures i .0))
+    (subst (Ready (entry s .args .brush)) (sym (h .before .loop .inv .0)) ok, few-pixels ok _ (λ i. h .before .loop .inv .2 (v1 s) (v2 s) (v3 s) ok (top-is s) (begun s) .1 i .0))
 
 add-y : tie.Need-add-y Inv-loop μ-loop
 add-y c = next-row (c .before .before .before .before .before .before .before .before .before)
@@ -190,7 +183,7 @@ loop-again c =
     let r = row told in
     let l = h .before .loop in
     let low-back = field-back w32 (r .low) (paint .before .struct-told4 .given .1 .0 .1) in (
-      paint .paint-span .kept .0 ∙ l .inv .0,
+      paint .paint-more .kept .0 ∙ l .inv .0,
       subst (λ (v : ℤ). top (start h) ≤ℤ v) (sym (next-back h)) (still-below (l .inv .1)),
       λ v1 v2 v3 ok first at.
           let on = l .inv .2 v1 v2 v3 ok first at in
@@ -198,13 +191,13 @@ loop-again c =
           subst
           (λ (v : ℤ).
           WalkAt (sorted v1 v2 v3) (solid v1 v2 v3) v (r .walk)
-          × ((l .seen + paint .paint-span .result, paint .paint-span .last .0) ≡ brushed (a .brush) (above (triangleFigure v1 v2 v3) v) (a .buf .now)))
+          × ((paint .paint-more .result, paint .paint-more .last .0) ≡ brushed (a .brush) (above (triangleFigure v1 v2 v3) v) (a .buf .now)))
           (sym (next-back h)) (
             done .walk,
             rows-turn (a .brush) (brush-sound ok) (a .buf .now) (triangleFigure v1 v2 v3) (y h) (r .low) (r .high +ℤ pos 1)
                 (λ u v hu hv e. row-columns v1 v2 v3 (y h) r done u v (omega (arith, ok .drawable .accepted .described .width)) e)
                 (on .1)
-                (paint .paint-span .ensures ∙ (λ i. brushed (a .brush) (spanFigure (y h) (low-back i) (end-is told i)) (l .buf))),
+                (paint .paint-more .ensures ∙ (λ i. onTop (l .seen) (brushed (a .brush) (spanFigure (y h) (low-back i) (end-is told i)) (l .buf)))),
           ),
     )
 
@@ -233,8 +226,7 @@ fill-triangle-spec =
     loop-holds
     row-requires
     add-end
-    paint-span-requires
-    add-seen
+    paint-more-requires
     add-y
     loop-less
     loop-again

@@ -1,140 +1,30 @@
--- `framebuffer::paint_span` paints what is left of the span within the rectangle, if anything is. Assumes nothing.
-use mathlib.Core.Path.{_≡_, sym, ap, subst, _∙_}
-use mathlib.Core.Bool.{true}
-use Prim.Native.Nat.{ℕ, _-_, _≤_, _<_}
+-- `framebuffer::paint_span` counts on top of none. Assumes nothing.
+use mathlib.Core.Path.{_≡_, _∙_}
+use Prim.Native.Nat.{_+_}
 use native.Mathlib.Omega.{arith}
-use lib.IntN.{ℤ, pos, natAbs}
 use mir.Facts.{toZ-ofZ}
 use borrow.Author.Needs.{needs}
-use borrow.Author.Tests.{not-true, not-false}
-use Rattle.whole.specs.Interval.{between}
-use Rattle.layout.specs.Layout.{painted}
-use Rattle.layout.proofs.Spans.{columns}
-use Rattle.framebuffer.specs.Description.{raster}
-use Rattle.framebuffer.specs.Window.{clipped}
-use Rattle.framebuffer.specs.Judged.{Described}
-use Rattle.framebuffer.proofs.Windows.{within-small, cast-fits, between-pos, in-between}
-use Rattle.framebuffer.proofs.Clips.{row-off, clip-bounds, span-left, span-gone}
+use Rattle.layout.specs.Figure.{spanFigure}
+use Rattle.framebuffer.specs.Judged.{brushed, onTop}
 use Rattle.framebuffer.proofs.paint_span.Statement.{statement}
 use Rattle.framebuffer.proofs.paint_span.Tie as tie
 
--- what the call may lean on
-ok : (c : tie.Start) → Described (c .args .brush .frame)
-ok c = c .pre .drawable .accepted .described
-
--- the rectangle's ends
-small : (c : tie.Start) → (let q = c .args .brush .window in (q .left ≤ q .right) × (q .right ≤ 2048) × (q .top ≤ q .bottom) × (q .bottom ≤ 2048))
-small c = within-small (c .pre .within) (ok c)
-
-is-between-requires : tie.Need-is-between-requires
-is-between-requires c κs = let h = small (c .before .before) in (h .2, h .3)
-
--- whether it has the row
-row : (c : tie.After-is-between)
-    → (let a = c .before .before .before .args in between (pos (a .brush .window .top)) (pos (a .brush .window .bottom)) (a .y) ≡ c .is-between .result)
-row c =
-    let s = c .before .before .before in
-    let a = s .args in sym (c .is-between .ensures ∙ ap (λ (z : ℤ). between (pos (a .brush .window .top)) (pos (a .brush .window .bottom)) z) (toZ-ofZ (s .fits .y)))
-
-returns : tie.Need-returns
-returns c =
-    let s = c .before .before .before .before in
-    let a = s .args in
-    row-off (a .brush .frame) (ok s) (a .brush .colour) (a .buf .now) (a .brush .window) (a .y) (a .start) (a .end) (s .pre .within) (row (c .before) ∙ not-true _ (c .if1 .taken))
-
-inner : (c : tie.Else1) → (let a = c .before .before .before .before .args in between (pos (a .brush .window .top)) (pos (a .brush .window .bottom)) (a .y) ≡ true)
-inner c = row (c .before) ∙ not-false _ (c .if1 .left)
-
-clip-requires : tie.Need-clip-requires
-clip-requires c κs = let h = small (c .before .before .before .before) in (h .0, omega (arith, h .1))
-
-clip-requires-2 : tie.Need-clip-requires-2
-clip-requires-2 c κs = let h = small (c .before .before .before .before .before) in (h .0, omega (arith, h .1))
-
--- the columns that are left
-from : (c : tie.After-clip) → (let a = c .before .before .before .before .before .args in c .clip .result ≡ clipped (a .start) (a .brush .window .left) (a .brush .window .right))
-from c =
-    let s = c .before .before .before .before .before in
-    c .clip .ensures ∙ ap (λ (x : ℤ). clipped x (s .args .brush .window .left) (s .args .brush .window .right)) (toZ-ofZ (s .fits .start))
-
-past : (c : tie.After-clip2)
-    → (let a = c .before .before .before .before .before .before .args in c .clip2 .result ≡ clipped (a .end) (a .brush .window .left) (a .brush .window .right))
-past c =
-    let s = c .before .before .before .before .before .before in
-    c .clip2 .ensures ∙ ap (λ (x : ℤ). clipped x (s .args .brush .window .left) (s .args .brush .window .right)) (toZ-ofZ (s .fits .end))
-
-returns-2 : tie.Need-returns-2
-returns-2 c =
-    let s = c .before .before .before .before .before .before .before in
-    let a = s .args in
-    let f = from (c .before .before) in
-    let p = past (c .before) in
-    span-gone (a .brush .frame) (ok s) (a .brush .colour) (a .buf .now) (a .brush .window) (a .y) (a .start) (a .end) (s .pre .within) (inner (c .before .before .before))
-    (subst (λ (x : ℕ). x ≤ clipped (a .start) (a .brush .window .left) (a .brush .window .right)) p (subst (λ (x : ℕ). c .before .clip2 .result ≤ x) f (c .if2 .taken)))
-
-cast-paint-columns : tie.Need-cast-paint-columns
-cast-paint-columns c =
-    let s = c .before .before .before .before .before .before .before .before in
-    let a = s .args in
-    cast-fits (s .fits .y) (between-pos (a .y) (a .brush .window .top) (a .brush .window .bottom) (inner (c .before .before .before .before)))
-
--- the row is one of the frame's
-below : (c : tie.Else1) → (let a = c .before .before .before .before .args in natAbs (a .y) < a .brush .frame .height)
-below c =
-    let s = c .before .before .before .before in
-    let a = s .args in
-    let b = s .pre .within .bottom in
-    let q = a .brush .window in
-    let i = inner c in
-    let l =
-    in-between (natAbs (a .y)) (q .top) (q .bottom) (ap (λ (z : ℤ). between (pos (q .top)) (pos (q .bottom)) z) (sym (between-pos (a .y) (q .top) (q .bottom) i)) ∙ i) .1
-    in omega arith
-
-paint-columns-requires : tie.Need-paint-columns-requires
-paint-columns-requires c κs =
-    let s = c .before .before .before .before .before .before .before .before in
-    let a = s .args in
-    let r = s .pre .within .right in
-    let p = past (c .before .before) in
-    let h = clip-bounds (a .end) (a .brush .window .left) (a .brush .window .right) (s .pre .within .across) .1 in (
-      s .pre .drawable,
-      subst (λ (z : ℤ). natAbs z < a .brush .frame .height) (sym (toZ-ofZ (s .fits .y))) (below (c .before .before .before .before)),
-      omega arith,
-      omega arith,
-    )
-
-sub-result : tie.Need-sub-result
-sub-result c = search needs
+paint-more-requires : tie.Need-paint-more-requires
+paint-more-requires c κs = (c .before .before .pre, omega arith)
 
 same-length : tie.Need-same-length
 same-length c = search needs
 
-returns-3 : tie.Need-returns-3
-returns-3 c =
-    let s = c .before .before .before .before .before .before .before .before .before .before .before in
-    let a = s .args in
+returns : tie.Need-returns
+returns c =
     let painting = c .before .before in
-    let f = from (painting .before .before .before .before) in
-    let p = past (painting .before .before .before) in
-    (λ k. (
-      p k - f k,
-      (painting .paint-columns .ensures
-          ∙ (λ j. painted (raster (a .brush .frame)) (columns (natAbs (toZ-ofZ (s .fits .y) j)) (f j) (p j)) (a .brush .colour) (a .buf .now))) k,
-    ))
-    ∙ span-left (a .brush .frame) (ok s) (a .brush .colour) (a .buf .now) (a .brush .window) (a .y) (a .start) (a .end) (s .pre .within)
-    (inner (painting .before .before .before .before .before)) (below (painting .before .before .before .before .before)) (omega arith)
+    let s = painting .before .before .before in
+    let a = s .args in
+    let made = brushed (a .brush) (spanFigure (a .y) (a .start) (a .end)) (a .buf .now) in
+    let none : 0 + made .0 ≡ made .0 = omega arith in
+    painting .paint-more .ensures
+    ∙ (λ i. onTop 0 (brushed (a .brush) (spanFigure (toZ-ofZ (s .fits .y) i) (toZ-ofZ (s .fits .start) i) (toZ-ofZ (s .fits .end) i)) (a .buf .now)))
+    ∙ (λ i. (none i, made .1))
 
 pub paint-span-spec : {M : Type 1} → statement M
-paint-span-spec =
-    tie.close
-    (tie.spec
-    is-between-requires
-    returns
-    clip-requires
-    clip-requires-2
-    returns-2
-    cast-paint-columns
-    paint-columns-requires
-    sub-result
-    same-length
-    returns-3)
+paint-span-spec = tie.close (tie.spec paint-more-requires same-length returns)

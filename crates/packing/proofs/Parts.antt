@@ -1,22 +1,23 @@
 -- A colour in whole bytes, as the machine works its digits out and puts them together again, and runs of such bytes. Assumes nothing.
 use mathlib.Core.Path.{_≡_, refl, sym, ap, ap₂, _∙_, subst}
-use mathlib.Core.Bool.{Bool, true}
+use mathlib.Core.Bool.{Bool, true, cond}
 use mathlib.Core.List.{List, _++_}
 use Prim.Native.Nat.{ℕ, zero, suc, _+_, _-_, _*_, _/_, _%_, _^_, _≤_, _<_}
-use native.Mathlib.Nat.{zero-add, le-refl, mod-eq-of-lt, mod-add-mod, mul-zero, mul-suc, mul-comm, div-one, div-div-eq-div-mul, not-suc-le-zero, mul-lt-mul-of-pos-right, pow-suc}
+use native.Mathlib.Nat.{zero-add, le-refl, mod-lt, mod-self, mod-eq-of-lt, mod-add-mod, mul-zero, mul-suc, mul-comm, div-one, div-div-eq-div-mul, not-suc-le-zero, mul-lt-mul-of-pos-right, pow-suc}
 use native.Mathlib.Numerals.{add-one}
 use native.Mathlib.Omega.{arith}
 use lib.Bits.{bitAnd, bitOr, and-mask, or-shifted}
 use lib.Pow.{pow-pos, pow-add, pow-mono}
 use lib.ListN.{length, getD, set, take, drop, replicate, length-drop}
 use lib.Seq.{length-take-le}
+use borrow.Author.Tests.{eq-eqb, ne-eqb}
 use Rattle.layout.specs.Digits.{digit, value, setRun}
 use Rattle.layout.specs.Packed.{goodDepth, turned, fullByte}
 use Rattle.layout.proofs.Cells.{digit-lt, value-cong, digit-value}
 use Rattle.layout.proofs.Places.{large}
 use Rattle.layout.proofs.Runs.{run-in, run-cong, run-then, run-part}
 use Rattle.layout.proofs.Fields.{pow-mul, value-lt}
-use Rattle.packing.specs.Words.{pixelByte}
+use Rattle.packing.specs.Words.{pixelByte, blockSize}
 
 -- a digit is what is left of a shift and a mask
 pub digit-is : (j v : ℕ) → bitAnd (v / 2 ^ (8 * j)) 255 ≡ digit 256 j v
@@ -86,7 +87,7 @@ lent : (i e : ℕ) (b : List ℕ) → e ≤ length b → length (take (e - i) (d
 lent i e b h = length-take-le (e - i) (drop i b) (simp length-drop (omega arith))
 
 -- a run goes on through a part that follows it
-run-on : (i e : ℕ) (b₀ b s : List ℕ) (g h : ℕ → ℕ) → i ≤ e → e ≤ length b → b ≡ setRun 0 i g b₀
+pub run-on : (i e : ℕ) (b₀ b s : List ℕ) (g h : ℕ → ℕ) → i ≤ e → e ≤ length b → b ≡ setRun 0 i g b₀
     → s ≡ setRun 0 (length (take (e - i) (drop i b))) h (take (e - i) (drop i b)) → ((j : ℕ) → j < e - i → h j ≡ g (i + j))
     → take i b ++ (s ++ drop (e - i) (drop i b)) ≡ setRun 0 e g b₀
 run-on i e b₀ b s g h l m eb es same =
@@ -98,12 +99,19 @@ run-on i e b₀ b s g h l m eb es same =
     ∙ run-then 0 i (e - i) g b₀
     ∙ ap (λ (k : ℕ). setRun 0 k g b₀) n
 
--- of blocks, through as much of the next as there is room for
-pub block-on : (i e : ℕ) (b₀ b s block : List ℕ) → i % 48 ≡ 0 → e ≤ i + 48 → i ≤ e → e ≤ length b → b ≡ setRun 0 i (λ j. getD block (j % 48) 0) b₀
+-- behind a multiple of n, j steps are j
+pub behind : (n i j : ℕ) → i % n ≡ 0 → j < n → (i + j) % n ≡ j
+behind n i j z h = sym (mod-add-mod i n j) ∙ ap (λ (k : ℕ). (k + j) % n) z ∙ ap (λ (k : ℕ). k % n) (zero-add j) ∙ mod-eq-of-lt h
+
+pub next-multiple : (n i : ℕ) → i % n ≡ 0 → (i + n) % n ≡ 0
+next-multiple n i z = sym (mod-add-mod i n n) ∙ ap (λ (k : ℕ). (k + n) % n) z ∙ ap (λ (k : ℕ). k % n) (zero-add n) ∙ mod-self n
+
+-- of blocks of n bytes, through as much of the next as there is room for
+pub block-on : (n i e : ℕ) (b₀ b s block : List ℕ) → i % n ≡ 0 → e ≤ i + n → i ≤ e → e ≤ length b → b ≡ setRun 0 i (λ j. getD block (j % n) 0) b₀
     → s ≡ setRun 0 (length (take (e - i) (drop i b))) (λ j. getD block j 0) (take (e - i) (drop i b))
-    → take i b ++ (s ++ drop (e - i) (drop i b)) ≡ setRun 0 e (λ j. getD block (j % 48) 0) b₀
-block-on i e b₀ b s block z w l m eb es =
-    run-on i e b₀ b s (λ j. getD block (j % 48) 0) (λ j. getD block j 0) l m eb es (λ j h. let k : j ≡ (i + j) % 48 = omega arith in ap (λ (n : ℕ). getD block n 0) k)
+    → take i b ++ (s ++ drop (e - i) (drop i b)) ≡ setRun 0 e (λ j. getD block (j % n) 0) b₀
+block-on n i e b₀ b s block z w l m eb es =
+    run-on i e b₀ b s (λ j. getD block (j % n) 0) (λ j. getD block j 0) l m eb es (λ j h. ap (λ (k : ℕ). getD block k 0) (sym (behind n i j z (omega arith))))
 
 -- of pixels, through the next
 module _ (p i : ℕ) (b : List ℕ) (l : i + p ≤ length b) where
@@ -115,28 +123,43 @@ module _ (p i : ℕ) (b : List ℕ) (l : i + p ≤ length b) where
       → take i b ++ (s ++ drop (i + p - i) (drop i b)) ≡ setRun 0 (i + p) (pixelByte p big c) b₀
   pixel-on b₀ s big c z eb es =
       run-on i (i + p) b₀ b s (pixelByte p big c) _ (omega arith) l eb es
-      (λ j h. ap₂ (λ (n k : ℕ). digit 256 (turned big n k) c) pixel-lent (sym (within j (omega arith))))
-    where
-      within : (j : ℕ) → j < p → (i + j) % p ≡ j
-      within j h = sym (mod-add-mod i p j) ∙ ap (λ (k : ℕ). (k + j) % p) z ∙ ap (λ (k : ℕ). k % p) (zero-add j) ∙ mod-eq-of-lt h
+      (λ j h. ap₂ (λ (n k : ℕ). digit 256 (turned big n k) c) pixel-lent (sym (behind p i j z (omega arith))))
 
--- among whole pixels there is room for one wherever one begins; and 48 bytes hold whole ones
-pub whole-pixels : (p i n : ℕ) → 0 < p → p ≤ 4 → (i % p ≡ 0 → n % p ≡ 0 → i < n → i + p ≤ n) × (n % 48 % p ≡ n % p)
-whole-pixels zero i n h l = absurd (omega arith)
-whole-pixels (suc zero) i n h l = (λ a b c. omega arith, omega arith)
-whole-pixels (suc (suc zero)) i n h l = (λ a b c. omega arith, omega arith)
-whole-pixels (suc (suc (suc zero))) i n h l = (λ a b c. omega arith, omega arith)
-whole-pixels (suc (suc (suc (suc zero)))) i n h l = (λ a b c. omega arith, omega arith)
-whole-pixels (suc (suc (suc (suc (suc p))))) i n h l = absurd (omega arith)
+-- among whole pixels there is room for one wherever one begins
+pub whole-pixels : (p i n : ℕ) → 0 < p → p ≤ 4 → i % p ≡ 0 → n % p ≡ 0 → i < n → i + p ≤ n
+whole-pixels zero i n h l a b c = absurd (omega arith)
+whole-pixels (suc zero) i n h l a b c = omega arith
+whole-pixels (suc (suc zero)) i n h l a b c = omega arith
+whole-pixels (suc (suc (suc zero))) i n h l a b c = omega arith
+whole-pixels (suc (suc (suc (suc zero)))) i n h l a b c = omega arith
+whole-pixels (suc (suc (suc (suc (suc p))))) i n h l a b c = absurd (omega arith)
 
--- so 48 bytes of pixels, again and again, are a run of pixels
-pub block-of-pixels : (p : ℕ) (big : Bool) (c n : ℕ) (block b : List ℕ) → 0 < p → p ≤ 4 → block ≡ setRun 0 48 (pixelByte p big c) (replicate 48 0)
-    → setRun 0 n (λ j. getD block (j % 48) 0) b ≡ setRun 0 n (pixelByte p big c) b
-block-of-pixels p big c n block b h l e =
-    run-cong 0 n _ _ b
-    (λ j k. ap₂ (λ (t : List ℕ) (i : ℕ). getD t i 0) e (sym (zero-add (j % 48)))
-    ∙ run-in 0 48 (pixelByte p big c) (replicate 48 0) (j % 48) (omega arith) (omega arith)
-    ∙ ap (λ (i : ℕ). digit 256 (turned big p i) c) (whole-pixels p 0 j h l .1))
+-- blocks of n bytes that hold whole pixels, again and again, are a run of pixels
+pub block-of-pixels : (p : ℕ) (big : Bool) (c n len : ℕ) (block b : List ℕ) → 0 < n → n ≤ 64 → ((j : ℕ) → j % n % p ≡ j % p)
+    → block ≡ setRun 0 n (pixelByte p big c) (replicate 64 0) → setRun 0 len (λ j. getD block (j % n) 0) b ≡ setRun 0 len (pixelByte p big c) b
+block-of-pixels p big c n len block b h few whole e =
+    run-cong 0 len _ _ b
+    (λ j k. ap₂ (λ (t : List ℕ) (i : ℕ). getD t i 0) e (sym (zero-add (j % n)))
+    ∙ run-in 0 n (pixelByte p big c) (replicate 64 0) (j % n) (mod-lt j h) (omega arith)
+    ∙ ap (λ (i : ℕ). digit 256 (turned big p i) c) (whole j))
+
+-- the size of a block holds whole ones
+pub size-is : (d : ℕ) → d ≡ 24 → 48 ≡ blockSize d
+size-is d e = sym (ap (λ (t : Bool). cond t 48 64) (eq-eqb d 24 e))
+
+pub size-other : (d : ℕ) → (d ≡ 24 → ⊥) → 64 ≡ blockSize d
+size-other d h = sym (ap (λ (t : Bool). cond t 48 64) (ne-eqb d 24 h))
+
+pub whole-48 : (p j : ℕ) → 3 ≡ p → j % 48 % p ≡ j % p
+whole-48 p j e = subst (λ (p : ℕ). j % 48 % p ≡ j % p) e (omega arith)
+
+pub whole-64 : (p j : ℕ) → 0 < p → p ≤ 4 → (p ≡ 3 → ⊥) → j % 64 % p ≡ j % p
+whole-64 zero j k l h = absurd (omega arith)
+whole-64 (suc zero) j k l h = omega arith
+whole-64 (suc (suc zero)) j k l h = omega arith
+whole-64 (suc (suc (suc zero))) j k l h = absurd (h refl)
+whole-64 (suc (suc (suc (suc zero)))) j k l h = omega arith
+whole-64 (suc (suc (suc (suc (suc p))))) j k l h = absurd (omega arith)
 
 -- pixels of a depth from 8 on
 pub run-of-pixels : (d : ℕ) (big : Bool) (c n : ℕ) (b : List ℕ) → goodDepth d ≡ true → 8 ≤ d → setRun 0 n (pixelByte (d / 8) big c) b ≡ setRun 0 n (fullByte d big c) b

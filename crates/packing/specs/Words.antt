@@ -1,9 +1,10 @@
 -- The numbers that the code works out on its way to the bytes: masks of pixels in a byte, and a byte changed where a mask has ones.
 use mathlib.Core.Path.{_≡_}
-use mathlib.Core.Bool.{Bool, true}
+use mathlib.Core.Bool.{Bool, true, cond}
 use mathlib.Core.List.{List}
 use Prim.Native.Nat.{ℕ, _+_, _-_, _*_, _%_, _^_, _≤_, _<_}
 use lib.Bits.{bitAnd, bitOr}
+use lib.Dec.{eqb}
 use lib.ListN.{getD, set}
 use Rattle.layout.specs.Digits.{digit, value}
 use Rattle.layout.specs.Packed.{goodDepth, field, per, turned, slotOf}
@@ -40,3 +41,7 @@ mergedAt at p m b = set b at (merged (getD b at 0) p m)
 -- byte j of pixels side by side that all have the colour, each of `parts` bytes
 abbrev pub pixelByte : ℕ → Bool → ℕ → ℕ → ℕ
 pixelByte parts big colour j = digit 256 (turned big parts (j % parts)) colour
+
+-- the bytes of a block: a line of the cache, or at 24 bits as many as hold whole pixels
+abbrev pub blockSize : ℕ → ℕ
+blockSize depth = cond (eqb depth 24) 48 64

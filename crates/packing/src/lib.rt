@@ -6,7 +6,7 @@ ghost use Prim.Native.Nat.{ℕ, _+_, _*_, _/_, _%_, _^_, _≤_, _<_};
 ghost use lib.ListN.{length, getD, replicate};
 ghost use Rattle.layout.specs.Digits.{digit, value, replaced, setRun};
 ghost use Rattle.layout.specs.Packed.{goodDepth, field, parts, per, turned, slotOf, fullByte};
-ghost use Rattle.packing.specs.Words.{Part, pixelMask, masksOf, bitsFrom, bitsTo, merged, mergedAt, pixelByte};
+ghost use Rattle.packing.specs.Words.{Part, pixelMask, masksOf, bitsFrom, bitsTo, merged, mergedAt, pixelByte, blockSize};
 
 // ---- a pixel's field of its byte, at depths 1, 2 and 4
 
@@ -243,18 +243,18 @@ fn pixels(part: &mut [u8], parts: usize, big: bool, colour: u32)
     }
 }
 
-// 48 bytes of pixels, whole ones at each depth above 8. Each call has the number of a pixel's bytes as a constant, of which the compiler makes stores without a loop.
-fn block(depth: u32, big: bool, colour: u32) -> [u8; 48]
+// A block of whole pixels at a depth above 8. Each call has the number of a pixel's bytes as a constant, of which the compiler makes stores without a loop.
+fn block(depth: u32, big: bool, colour: u32) -> [u8; 64]
     requires { ⌜ (goodDepth depth ≡ true) × (8 < depth) ⌝ }
-    ensures { λ r. ⌜ r ≡ setRun 0 48 (pixelByte (depth / 8) big colour) (replicate 48 0) ⌝ }
+    ensures { λ r. ⌜ r ≡ setRun 0 (blockSize depth) (pixelByte (depth / 8) big colour) (replicate 64 0) ⌝ }
 {
-    let mut bytes = [0u8; 48];
+    let mut bytes = [0u8; 64];
     if depth == 16 {
         pixels(&mut bytes, 2, big, colour);
         return bytes;
     }
     if depth == 24 {
-        pixels(&mut bytes, 3, big, colour);
+        pixels(&mut bytes[..48], 3, big, colour);
         return bytes;
     }
     pixels(&mut bytes, 4, big, colour);
@@ -262,8 +262,8 @@ fn block(depth: u32, big: bool, colour: u32) -> [u8; 48]
 }
 
 // A part of the buffer takes the first bytes of a block, as many as it has.
-fn lay(part: &mut [u8], block: &[u8; 48])
-    requires { ⌜ length (now part) ≤ 48 ⌝ }
+fn lay(part: &mut [u8], block: &[u8; 64])
+    requires { ⌜ length (now part) ≤ 64 ⌝ }
     ensures { λ r. ⌜ now (part .exit) ≡ setRun 0 (length (now (part .entry))) (λ j. getD (now (block .entry)) j 0) (now (part .entry)) ⌝ }
 {
     let mut i = 0usize;
@@ -273,27 +273,33 @@ fn lay(part: &mut [u8], block: &[u8; 48])
     }
 }
 
-// A block again and again over all of a part of the buffer. It comes by value: of an own copy the compiler knows that no store into the part changes it, and a turn of the
-// loop becomes three stores of 16 bytes.
-fn repeat(part: &mut [u8], block: [u8; 48])
-    ensures { λ r. ⌜ now (part .exit) ≡ setRun 0 (length (now (part .entry))) (λ j. getD block (j % 48) 0) (now (part .entry)) ⌝ }
+// The first n bytes of a block again and again over all of a part of the buffer. The block comes by value: of an own copy the compiler knows that no store into the part
+// changes it, and with n a constant a turn of the loop becomes three or four stores of 16 bytes.
+fn repeat(part: &mut [u8], block: [u8; 64], n: usize)
+    requires { ⌜ (0 < n) × (n ≤ 64) ⌝ }
+    ensures { λ r. ⌜ now (part .exit) ≡ setRun 0 (length (now (part .entry))) (λ j. getD block (j % n) 0) (now (part .entry)) ⌝ }
 {
     let mut i = 0usize;
-    while 48 <= part.len() - i {
-        let end = i + 48;
+    while n <= part.len() - i {
+        let end = i + n;
         lay(&mut part[i..end], &block);
         i = end;
     }
     lay(&mut part[i..], &block);
 }
 
-// Blocks of pixels over all of a part of the buffer, at a depth above 8. As it is called from two places the compiler does not inline it, and `fill_part` needs no stack
-// for the other depths (docs/BENCHMARKS.md).
+// Blocks of pixels over all of a part of the buffer, at a depth above 8: lines of the cache, or at 24 bits 48 bytes. As it is called from two places the compiler does not
+// inline it, and `fill_part` needs no stack for the other depths (docs/BENCHMARKS.md).
 fn fill_blocks(part: &mut [u8], depth: u32, big: bool, colour: u32)
     requires { ⌜ (goodDepth depth ≡ true) × (8 < depth) ⌝ }
     ensures { λ r. ⌜ now (part .exit) ≡ setRun 0 (length (now (part .entry))) (fullByte depth big colour) (now (part .entry)) ⌝ }
 {
-    repeat(part, block(depth, big, colour));
+    let bytes = block(depth, big, colour);
+    if depth == 24 {
+        repeat(part, bytes, 48);
+        return;
+    }
+    repeat(part, bytes, 64);
 }
 
 // Inside the library: a part of the buffer that holds whole pixels, all of them in the colour. A part shorter than a block is stored pixel by pixel, unless its end cuts

@@ -27,7 +27,7 @@ room : (c : tie.In-loop Inv-loop μ-loop) → c .before .loop .i + c .before .be
 room c =
     let s = c .before .before .before in
     let l = c .before .loop in
-    let w = whole-pixels (s .args .parts) (l .i) (length (s .args .part .now)) (s .pre .0) (s .pre .1) .0 (l .inv .1) (s .pre .2) (omega arith) in
+    let w = whole-pixels (s .args .parts) (l .i) (length (s .args .part .now)) (s .pre .0) (s .pre .1) (l .inv .1) (s .pre .2) (omega arith) in
     omega arith
 
 add-end : tie.Need-add-end Inv-loop μ-loop

@@ -1,24 +1,25 @@
 -- `packing::repeat` has whole blocks below byte i; the last call lays as much of one as is left. Assumes nothing.
 use mathlib.Core.Path.{_≡_, refl, ap, _∙_}
 use Prim.Native.Nat.{ℕ, _+_, _-_, _%_, _≤_}
+use native.Mathlib.Nat.{zero-mod}
 use native.Mathlib.Omega.{arith}
 use lib.ListN.{length, getD}
 use borrow.Author.Needs.{needs}
 use Rattle.layout.specs.Digits.{setRun}
 use Rattle.layout.proofs.Runs.{run-length}
-use Rattle.packing.proofs.Parts.{block-on}
+use Rattle.packing.proofs.Parts.{next-multiple, block-on}
 use Rattle.packing.proofs.repeat.Statement.{statement}
 use Rattle.packing.proofs.repeat.Tie as tie
 
 abbrev Inv-loop : tie.InvT-loop
-Inv-loop part₀ block i₀ part i =
-    (i ≤ length part₀) × (i % 48 ≡ 0) × (length part ≡ length part₀) × (part ≡ setRun 0 i (λ j. getD block (j % 48) 0) part₀)
+Inv-loop part₀ n block i₀ part i =
+    (i ≤ length part₀) × (i % n ≡ 0) × (length part ≡ length part₀) × (part ≡ setRun 0 i (λ j. getD block (j % n) 0) part₀)
 
 abbrev μ-loop : tie.MeasureT-loop
-μ-loop part₀ block i₀ part i = length part₀ - i
+μ-loop part₀ n block i₀ part i = length part₀ - i
 
 loop-holds : tie.Need-loop-holds Inv-loop μ-loop
-loop-holds c = (omega arith, omega arith, refl, refl)
+loop-holds c = (omega arith, zero-mod _, refl, refl)
 
 sub-loop : tie.Need-sub-loop Inv-loop μ-loop
 sub-loop c = search needs
@@ -46,8 +47,8 @@ loop-again c =
     let a = c .before .before .before .before .before .before .before .before .args in
     let l = c .before .before .before .before .before .before .loop in
     let lay = c .before .before .lay in
-    let next = block-on (l .i) (l .i + 48) (a .part .now) (l .part) (lay .last .0) (a .t2) (l .inv .1) (omega arith) (omega arith) (omega arith) (l .inv .3) (lay .ensures) in
-    (omega arith, omega arith, ap length next ∙ simp run-length, next)
+    let next = block-on (a .n) (l .i) (l .i + a .n) (a .part .now) (l .part) (lay .last .0) (a .t2) (l .inv .1) (omega arith) (omega arith) (omega arith) (l .inv .3) (lay .ensures) in
+    (omega arith, next-multiple (a .n) (l .i) (l .inv .1), ap length next ∙ simp run-length, next)
 
 sub-lay-2 : tie.Need-sub-lay-2 Inv-loop μ-loop
 sub-lay-2 c = search needs
@@ -69,8 +70,8 @@ returns c =
     let a = c .before .before .before .before .before .before .before .before .args in
     let l = c .before .before .before .before .before .before .loop in
     let lay = c .before .before .lay2 in
-    block-on (l .i) (length (l .part)) (a .part .now) (l .part) (lay .last .0) (a .t2) (l .inv .1) (omega arith) (omega arith) (omega arith) (l .inv .3) (lay .ensures)
-    ∙ ap (λ (n : ℕ). setRun 0 n (λ j. getD (a .t2) (j % 48) 0) (a .part .now)) (l .inv .2)
+    block-on (a .n) (l .i) (length (l .part)) (a .part .now) (l .part) (lay .last .0) (a .t2) (l .inv .1) (omega arith) (omega arith) (omega arith) (l .inv .3) (lay .ensures)
+    ∙ ap (λ (k : ℕ). setRun 0 k (λ j. getD (a .t2) (j % a .n) 0) (a .part .now)) (l .inv .2)
 
 pub repeat-spec : {M : Type 1} → statement M
 repeat-spec =

@@ -302,7 +302,7 @@ fn fill_blocks(part: &mut [u8], depth: u32, big: bool, colour: u32)
     repeat(part, bytes, 64);
 }
 
-// Inside the library: a part of the buffer that holds whole pixels, all of them in the colour. A part shorter than a block is stored pixel by pixel, unless its end cuts
+// Inside the library: a part of the buffer that holds whole pixels, all of them in the colour. A part of less than 48 bytes is stored pixel by pixel, unless its end cuts
 // one off, which the contract allows.
 pub fn fill_part(part: &mut [u8], depth: u32, big: bool, colour: u32)
     requires { ⌜ (goodDepth depth ≡ true) × (colour < 2 ^ depth) × (parts depth ≤ length (now part)) ⌝ }

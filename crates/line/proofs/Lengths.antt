@@ -83,7 +83,7 @@ toward-size a b = by (leZ a b)
     by false = omega arith
 
 -- no line has more points than there are coordinates
-nearly : {a b : ℤ} → Coord a → Coord b → natAbs (b -ℤ a) ≤ 262143
+pub nearly : {a b : ℤ} → Coord a → Coord b → natAbs (b -ℤ a) ≤ 262143
 nearly {a} {b} h k = rw (as-mk a, as-mk b) (simp mks (mk-size _ _ 262143 (omega (arith, le-nat (h .low), le-nat (k .high))) (omega (arith, le-nat (h .high), le-nat (k .low)))))
 
 pub points-most : {s e : Point} → Bounded s → Bounded e → points s e ≤ 262144

@@ -1,4 +1,5 @@
 pub mod Moves
+pub mod Reach
 pub mod Lengths
 pub mod Walk
 pub mod Points

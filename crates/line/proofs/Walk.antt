@@ -252,12 +252,21 @@ module _ {s e : Point} {k m : ℕ} {w : Walker} (st : Stands s e k m w) where
           low = later-low M n k m (st .low);
         }
 
+-- the error before the major move says the same of the minor move after it
+less-test : (t u z : ℤ) → ltZ (t -ℤ u) z ≡ ltZ t (z +ℤ u)
+less-test t u z =
+    decides-one _ _
+    (decides-map (decides-lt (t -ℤ u) z) (λ h. subst (λ (x : ℤ). x <ℤ (z +ℤ u)) (sym (restored t u)) (lt-move (t -ℤ u) z u h))
+    (λ h. move-lt (t -ℤ u) z u (subst (λ (x : ℤ). x <ℤ (z +ℤ u)) (restored t u) h)))
+    (decides-lt t (z +ℤ u))
+
+pub due-next : {s e : Point} {k m : ℕ} {w : Walker} → Stands s e k m w → ltZ (w .course .threshold -ℤ w .course .up) (w .error) ≡ isDue (major s e) (minor s e) (k + 1) m
+due-next {w = w} st =
+    less-test (w .course .threshold) (w .course .up) (w .error)
+    ∙ due-test (advances st {r = record { x = w .x +ℤ w .course .xmajor; y = w .y +ℤ w .course .ymajor; error = w .error +ℤ w .course .up; course = w .course }} refl refl refl refl)
+
 -- ---- where that leaves it
 module _ {s e : Point} {k : ℕ} {w : Walker} where
-  -- after the minor move that was due
-  pub settled-due : {r : Walker} (at : DueAt s e k w) → Stands s e k (at .m + 1) r → WalkerAt s e k r
-  settled-due at st = record { m = at .m + 1; stands = st; near = then-near (major s e) (minor s e) k (at .m) (narrow s e) (at .due) }
-
   -- no minor move is due
   pub settled-not : (at : DueAt s e k w) → isDue (major s e) (minor s e) k (at .m) ≡ false → WalkerAt s e k w
   settled-not at f = record { m = at .m; stands = at .stands; near = ltb-false _ _ f }
@@ -265,6 +274,14 @@ module _ {s e : Point} {k : ℕ} {w : Walker} where
   -- after the major move
   pub advanced : {r : Walker} (at : WalkerAt s e k w) → Stands s e (k + 1) (at .m) r → DueAt s e (k + 1) r
   advanced at st = record { m = at .m; stands = st; due = then-due (major s e) (minor s e) k (at .m) (at .near) }
+
+  -- after both moves, where the minor one was due, and after the major one where it was not
+  pub stepped-due : {r : Walker} (at : WalkerAt s e k w) → Stands s e (k + 1) (at .m + 1) r → WalkerAt s e (k + 1) r
+  stepped-due at st =
+      record { m = at .m + 1; stands = st; near = then-near (major s e) (minor s e) (k + 1) (at .m) (narrow s e) (then-due (major s e) (minor s e) k (at .m) (at .near)) }
+
+  pub stepped-not : {r : Walker} (at : WalkerAt s e k w) → Stands s e (k + 1) (at .m) r → isDue (major s e) (minor s e) (k + 1) (at .m) ≡ false → WalkerAt s e (k + 1) r
+  stepped-not at st f = record { m = at .m; stands = st; near = ltb-false _ _ f }
 
 -- a walker made at a step: where the rule's moves lead, with their error, it is the one that walked there
 module _ {s e : Point} {k : ℕ} (start : Bounded s) (end : Bounded e) (walked : k ≤ major s e) where

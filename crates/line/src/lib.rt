@@ -1,7 +1,7 @@
 // Lines: the walker over a line's points, and the questions on a line. A line's points depend on the end that it starts from.
 ghost use mathlib.Core.Path.{_≡_};
 ghost use mathlib.Core.Bool.{true};
-ghost use Prim.Native.Nat.{ℕ, _+_, _*_, _≤_};
+ghost use Prim.Native.Nat.{ℕ, _+_, _*_, _≤_, _<_};
 ghost use lib.Dec.{eqb};
 ghost use lib.IntN.{pos, natAbs, _+ℤ_, _-ℤ_, _*ℤ_};
 ghost use Rattle.refusals.specs.First.{first};
@@ -9,6 +9,7 @@ ghost use Rattle.geometry.specs.declared.Point.{Point as Place};
 ghost use Rattle.geometry.specs.Bound.{Coord, Bounded};
 ghost use Rattle.geometry.specs.Answer.{verdict};
 ghost use Rattle.line.specs.Line.{toward, moves, major, minor, points, pointAt, onLine, hasPoint};
+ghost use Rattle.line.specs.Reach.{reach, reachFrom};
 ghost use Rattle.line.specs.Walk.{CourseOf, SomeCourse, Reachable, Near, standing, isDue, Stands, Moving, Walking, DueAt, WalkerAt};
 ghost use Rattle.line.specs.Answer.{endTests, stepTests, lengthAnswer, stepAnswer};
 use geometry::Point;
@@ -109,17 +110,6 @@ pub fn course_of(start: Point, end: Point) -> Course
     }
 }
 
-// The walker after the minor move that is due, if one is.
-fn settled(w: Walker) -> Walker
-    requires { ⌜ Moving w ⌝ }
-    ensures { λ r. ⌜ ((s e : Place) (k : ℕ) → DueAt s e k w → WalkerAt s e k r) ⌝ }
-{
-    if w.is_due() {
-        return w.minor_move();
-    }
-    w
-}
-
 impl Walker {
     // Inside the library: the walker that stands at a line's start and has handed out no point.
     pub fn new(start: Point, end: Point) -> Self
@@ -193,19 +183,32 @@ impl Walker {
         }
     }
 
+    // Whether a minor move is due after the major one. The error before that move is asked, so that a loop need not wait for the one after it (docs/BENCHMARKS.md).
+    fn is_due_next(self) -> bool
+        requires { ⌜ Walking self ⌝ }
+        ensures { λ r. ⌜ ((s e : Place) (k m : ℕ) → Stands s e k m self → r ≡ isDue (major s e) (minor s e) (k + 1) m) ⌝ }
+    {
+        let c = self.course;
+        let error = self.error;
+        c.threshold - c.up < error
+    }
+
     // Inside the library: the point that the walker stands at, and the walker at the next.
     pub fn step(self) -> Stepped
         requires { ⌜ Walking self ⌝ }
         ensures { λ r. ⌜ ((s e : Place) (k : ℕ) → k ≤ major s e → WalkerAt s e k self → (r .point ≡ pointAt s e k) × WalkerAt s e (k + 1) (r .walker)) ⌝ }
     {
-        let x = self.x;
-        let y = self.y;
+        let point = Point(self.x, self.y);
         let moved = self.major_move();
-        let point = Point(x, y);
-        let next = settled(moved);
+        if self.is_due_next() {
+            return Stepped {
+                point: point,
+                walker: moved.minor_move(),
+            };
+        }
         Stepped {
             point: point,
-            walker: next,
+            walker: moved,
         }
     }
 }
@@ -229,6 +232,25 @@ pub fn minor_moves(start: Point, end: Point, k: u32) -> u32
 {
     let c = course_of(start, end);
     moves_at(c.threshold as u32, c.up as u32, k)
+}
+
+// Inside the library: the last step at which a line has made so many moves along its minor axis, were it to go on.
+pub fn reach_of(major: u32, minor: u32, moved: u32) -> u64
+    requires { ⌜ (major ≤ 262144) × (moved ≤ 262144) × (0 < minor) ⌝ }
+    ensures { λ r. ⌜ r ≡ reach major minor moved ⌝ }
+{
+    (2 * moved as u64 + 1) * major as u64 / (2 * minor as u64)
+}
+
+// Inside the library: the first step at which it has: one past the last at which it has made one fewer.
+pub fn first_with(major: u32, minor: u32, moved: u32) -> u32
+    requires { ⌜ (major ≤ 262144) × (minor ≤ major) × (moved ≤ minor) ⌝ }
+    ensures { λ r. ⌜ r ≡ reachFrom major minor moved ⌝ }
+{
+    if moved == 0 {
+        return 0;
+    }
+    (reach_of(major, minor, moved - 1) + 1) as u32
 }
 
 // The coordinate that is so many major and minor moves from a, each move being -1, 0 or 1.

@@ -6,13 +6,15 @@ use mathlib.Core.Bool.{Bool, true, false, cond}
 use mathlib.Core.Logic.{_↔_}
 use Prim.Native.Nat.{ℕ, zero, suc, _+_, _*_, _-_, _≤_, _<_, min}
 use native.Mathlib.Decide.{decLt}
-use native.Mathlib.Nat.{le-div-iff-mul-le, mul-le-mul-left, mul-le-mul-right}
+use native.Mathlib.Nat.{mul-le-mul-left, mul-le-mul-right}
 use native.Mathlib.Omega.{arith}
 use borrow.Author.Tests.{le-leb, lt-leb, leb-true, leb-false, eqb-true, eqb-false}
 use lib.Dec.{leb, eqb}
 use Rattle.line.specs.Line.{moves}
-use Rattle.triangle.specs.Offsets.{reach, reachFrom, firstOffset, lastOffset}
+use Rattle.line.specs.Reach.{reach, reachFrom}
+use Rattle.triangle.specs.Offsets.{firstOffset, lastOffset}
 use Rattle.line.proofs.Moves.{Band, moves-band, moves-is, moves-minor, moves-none}
+use Rattle.line.proofs.Reach.{reaches, firsts}
 use Rattle.line.proofs.Closed.{OnLine}
 
 -- the offset t is that of a point on row v
@@ -61,21 +63,6 @@ steep w h v s r =
     }
 
 -- ---- a low edge: from one past the last of the row above to the last of this row, as far as the edge goes
-pub reaches : (w h v t : ℕ) → 0 < h → (t ≤ reach w h v) ↔ (2 * h * t ≤ 2 * w * v + w)
-unfolding reach
-reaches w h v t p = (
-  λ l. omega (arith, le-div-iff-mul-le {k = 2 * h} {x = t} {y = (2 * v + 1) * w} (omega arith) .0 l),
-  λ l. le-div-iff-mul-le {k = 2 * h} {x = t} {y = (2 * v + 1) * w} (omega arith) .1 (omega arith),
-)
-
-firsts : (w h v t : ℕ) → 0 < h → 0 < w → (reachFrom w h v ≤ t) ↔ (2 * w * v ≤ 2 * h * t + (w - 1))
-unfolding reachFrom
-firsts w h zero t p q = (λ l. omega arith, λ l. omega arith)
-firsts w h (suc v) t p q = (
-  λ l. let n : ¬ (2 * h * t ≤ 2 * w * v + w) = λ s. omega (arith, reaches w h v t p .1 s) in omega arith,
-  λ l. let n : ¬ (t ≤ reach w h v) = λ s. omega (arith, reaches w h v t p .0 s) in omega arith,
-)
-
 -- a row has an offset
 some-reach : (w h v : ℕ) → 0 < h → h < w → reachFrom w h v ≤ reach w h v
 unfolding reachFrom
@@ -110,15 +97,6 @@ module _ (w h v : ℕ) (p : 0 < h) (s : h < w) (r : v ≤ h) where
         before = λ t l. let n : ¬ (2 * w * v ≤ 2 * h * t + (w - 1)) = λ g. omega (arith, firsts w h v t p (omega arith) .1 g) in omega arith;
         past = λ q t l. low-past t (decLt w t) l;
       }
-
--- as the code works out the first
-pub from-past : (w h v : ℕ) → 0 < v → reach w h (v - 1) + 1 ≡ reachFrom w h v
-unfolding reachFrom
-from-past w h zero p = absurd (omega arith)
-from-past w h (suc v) p = ap (λ (n : ℕ). reach w h n + 1) (omega arith)
-
-pub from-wide : (w h v : ℕ) → 0 < h → h < w → v ≤ h → reachFrom w h v ≤ w
-from-wide w h v p s r = let o = low w h v p s r in omega (arith, o .some, o .wide)
 
 -- ---- any edge
 pub offsets : (w h v : ℕ) → v ≤ h → Offsets w h v (firstOffset w h v) (lastOffset w h v)

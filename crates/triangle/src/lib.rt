@@ -11,7 +11,8 @@ ghost use Rattle.geometry.specs.Bound.{Bounded};
 ghost use Rattle.geometry.specs.Answer.{verdict, span};
 ghost use Rattle.triangle.specs.Order.{placed, sorted, Down};
 ghost use Rattle.triangle.specs.Triangle.{noneBelow, noneAbove, onEdge, isFlat, contained};
-ghost use Rattle.triangle.specs.Offsets.{reach, reachFrom, firstOffset, lastOffset};
+ghost use Rattle.line.specs.Reach.{reach};
+ghost use Rattle.triangle.specs.Offsets.{firstOffset, lastOffset};
 ghost use Rattle.triangle.specs.Row.{extended, hull, lineColumns, edgeColumns, rowSpan, firstRow, rowCount};
 ghost use Rattle.triangle.specs.Box.{isBeyond, outsideBox};
 ghost use Rattle.triangle.specs.Answer.{vertexTests, rowsAnswer};
@@ -232,31 +233,12 @@ pub fn rows(v1: Point, v2: Point, v3: Point) -> RowRange
     }
 }
 
-// The last column on a row of an edge that is wider than high, counted from its start, were the edge to go on.
-fn reach_on(wide: u32, high: u32, row: u32) -> u64
-    requires { ⌜ (wide ≤ 262144) × (row ≤ 262144) × (0 < high) ⌝ }
-    ensures { λ r. ⌜ r ≡ reach wide high row ⌝ }
-{
-    (2 * row as u64 + 1) * wide as u64 / (2 * high as u64)
-}
-
-// The first column on a row of an edge that is wider than high: one past the last of the row above.
-fn first_on(wide: u32, high: u32, row: u32) -> u32
-    requires { ⌜ (wide ≤ 262144) × (high < wide) × (0 < high) × (row ≤ high) ⌝ }
-    ensures { λ r. ⌜ r ≡ reachFrom wide high row ⌝ }
-{
-    if row == 0 {
-        return 0;
-    }
-    (reach_on(wide, high, row - 1) + 1) as u32
-}
-
-// The last column on a row of an edge that is wider than high.
+// The last column on a row of an edge that is wider than high, counted from its start.
 fn last_on(wide: u32, high: u32, row: u32) -> u32
     requires { ⌜ (wide ≤ 262144) × (high < wide) × (0 < high) × (row ≤ high) ⌝ }
     ensures { λ r. ⌜ r ≡ min wide (reach wide high row) ⌝ }
 {
-    let last = reach_on(wide, high, row);
+    let last = line::reach_of(wide, high, row);
     if last < wide as u64 {
         return last as u32;
     }
@@ -282,7 +264,7 @@ fn stretch_on(wide: u32, high: u32, row: u32) -> Stretch
         };
     }
     Stretch {
-        first: first_on(wide, high, row),
+        first: line::first_with(wide, high, row),
         last: last_on(wide, high, row),
     }
 }

@@ -24,8 +24,8 @@ returns-2 c =
     let f = le-leb (s .wide) (s .high) (c .before .if2 .taken) in
     (rw (e, f) (c .moves-at .ensures (s .wide) refl), rw (e, f) (c .moves-at .ensures (s .wide) refl))
 
-first-on-requires : tie.Need-first-on-requires
-first-on-requires c κs = search needs
+first-with-requires : tie.Need-first-with-requires
+first-with-requires c κs = search needs
 
 last-on-requires : tie.Need-last-on-requires
 last-on-requires c κs = search needs
@@ -36,7 +36,7 @@ returns-3 c =
     let s = c .before .before .before .before .args in
     let e = ne-eqb (s .high) 0 (c .before .before .before .if1 .left) in
     let f = lt-leb (s .wide) (s .high) (c .before .before .if2 .left) in
-    (rw (e, f) (c .before .first-on .ensures), rw (e, f) (c .last-on .ensures))
+    (rw (e, f) (c .before .first-with .ensures), rw (e, f) (c .last-on .ensures))
 
 pub stretch-on-spec : {M : Type 1} → statement M
-stretch-on-spec = tie.close (tie.spec returns mul-moves-at moves-at-requires returns-2 first-on-requires last-on-requires returns-3)
+stretch-on-spec = tie.close (tie.spec returns mul-moves-at moves-at-requires returns-2 first-with-requires last-on-requires returns-3)

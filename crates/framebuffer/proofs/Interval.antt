@@ -114,13 +114,15 @@ one-end side apart {count} {p} {q} few more same = by (lt-or-ge p q) (lt-or-ge q
     by (inr l) (inl m) = absurd (apart q p m (sym (same q (omega arith))))
     by (inr l) (inr m) = omega arith
 
-pub held-one : {a : ℤ} {grows : Bool} {low high count : ℕ} {t u : Steps} → Held a grows low high count t → Held a grows low high count u → t ≡ u
-held-one {t = t} {u} h g =
-    let from =
-    one-end leb (λ p q l e. true≢false (sym (le-leb p p (omega arith)) ∙ e ∙ lt-leb q p l)) (h .first) (g .first) (λ k few. h .begins k few ∙ sym (g .begins k few)) in
-    let past =
-    one-end (λ p k. ltb k p) (λ p q l e. true≢false (sym (lt-ltb p q l) ∙ sym e ∙ le-ltb p p (omega arith))) (h .most) (g .most) (λ k few. h .ends k few ∙ sym (g .ends k few)) in
+pub one-interval : {count : ℕ} {t u : Steps} → t .from ≤ count → u .from ≤ count → t .past ≤ count → u .past ≤ count
+    → ((k : ℕ) → k < count → leb (t .from) k ≡ leb (u .from) k) → ((k : ℕ) → k < count → ltb k (t .past) ≡ ltb k (u .past)) → t ≡ u
+one-interval first also most too begins ends =
+    let from = one-end leb (λ p q l e. true≢false (sym (le-leb p p (omega arith)) ∙ e ∙ lt-leb q p l)) first also begins in
+    let past = one-end (λ p k. ltb k p) (λ p q l e. true≢false (sym (lt-ltb p q l) ∙ sym e ∙ le-ltb p p (omega arith))) most too ends in
     λ i. record { from = from i; past = past i }
+
+pub held-one : {a : ℤ} {grows : Bool} {low high count : ℕ} {t u : Steps} → Held a grows low high count t → Held a grows low high count u → t ≡ u
+held-one h g = one-interval (h .first) (g .first) (h .most) (g .most) (λ k few. h .begins k few ∙ sym (g .begins k few)) (λ k few. h .ends k few ∙ sym (g .ends k few))
 
 -- ---- steps before and after them are none of them
 pub step-before : (t : Steps) (k : ℕ) → k < t .from → isStep t k ≡ false

@@ -1,5 +1,5 @@
 // Packed frames in a lent buffer: the description of a frame and its refusals, setting, reading and filling. Figures reach the bytes through
-// put_point, paint_span and read_point, which do not judge the frame again.
+// put_point, set_point, paint_span, paint_more and read_point, which do not judge the frame again.
 ghost use mathlib.Core.Path.{_≡_};
 ghost use mathlib.Core.Bool.{true};
 ghost use Prim.Native.Nat.{ℕ, _+_, _*_, _/_, _≤_, _<_};
@@ -307,6 +307,14 @@ impl Window {
     }
 }
 
+// The pixel at a place that the rectangle holds gets the colour.
+fn put_held(buf: &mut [u8], frame: Frame, window: Window, x: i32, y: i32, colour: u32)
+    requires { ⌜ Drawable frame (length (now buf)) colour × Within window frame × (inWindow window x y ≡ true) ⌝ }
+    ensures { λ r. ⌜ now (buf .exit) ≡ painted (raster frame) (heldBy window (single x y)) colour (now (buf .entry)) ⌝ }
+{
+    put_at(buf, frame, x as u32, y as u32, colour);
+}
+
 // The pixel at a place gets the colour, if the rectangle holds it; and whether it does.
 fn put_within(buf: &mut [u8], frame: Frame, window: Window, p: geometry::Point, colour: u32) -> bool
     requires { ⌜ Drawable frame (length (now buf)) colour × Within window frame ⌝ }
@@ -318,7 +326,7 @@ fn put_within(buf: &mut [u8], frame: Frame, window: Window, p: geometry::Point, 
     if !window.holds(x, y) {
         return false;
     }
-    put_at(buf, frame, x as u32, y as u32, colour);
+    put_held(buf, frame, window, x, y, colour);
     true
 }
 
@@ -328,6 +336,14 @@ pub fn put_point(buf: &mut [u8], brush: Brush, p: geometry::Point) -> bool
     ensures { λ r. ⌜ (r ≡ inWindow (brush .window) (p .0) (p .1)) × (now (buf .exit) ≡ brushed brush (single (p .0) (p .1)) (now (buf .entry)) .1) ⌝ }
 {
     put_within(buf, brush.frame, brush.window, p, brush.colour)
+}
+
+// Inside the library: the same of a place that is known to be in the brush's rectangle, which is not asked again.
+pub fn set_point(buf: &mut [u8], brush: Brush, p: geometry::Point)
+    requires { ⌜ Ready brush (length (now buf)) × (inWindow (brush .window) (p .0) (p .1) ≡ true) ⌝ }
+    ensures { λ r. ⌜ now (buf .exit) ≡ brushed brush (single (p .0) (p .1)) (now (buf .entry)) .1 ⌝ }
+{
+    put_held(buf, brush.frame, brush.window, p.0, p.1, brush.colour);
 }
 
 // A pixel set on a frame of this depth. Where that is a constant the compiler works out what goes by it: the bytes of a row and of a pixel, the mask, each shift. The place comes as
@@ -461,13 +477,52 @@ fn paint_fields(buf: &mut [u8], frame: Frame, y: u32, from: u32, past: u32, colo
     packing::set_all(&mut buf[first + 1..last], p);
 }
 
+// The same on a frame of this depth, which is handed on as a constant, as in `set_pixel`.
+fn fields_at_depth(
+    buf: &mut [u8],
+    depth: u32,
+    frame: Frame,
+    y: u32,
+    from: u32,
+    past: u32,
+    colour: u32,
+)
+    requires { ⌜ (depth ≡ frame .depth)
+        × (Drawable frame (length (now buf)) colour × (frame .depth < 8) × (y < frame .height) × (from < past) × (past ≤ frame .width)) ⌝ }
+    ensures { λ r. ⌜ now (buf .exit) ≡ painted (raster frame) (spanFigure (pos y) (pos from) (pos past)) colour (now (buf .entry)) ⌝ }
+{
+    let known = Frame {
+        width: frame.width,
+        height: frame.height,
+        depth,
+        big: frame.big,
+        distance: frame.distance,
+    };
+    paint_fields(buf, known, y, from, past, colour);
+}
+
+fn paint_by_depth(buf: &mut [u8], frame: Frame, y: u32, from: u32, past: u32, colour: u32)
+    requires { ⌜ Drawable frame (length (now buf)) colour × (frame .depth < 8) × (y < frame .height) × (from < past) × (past ≤ frame .width) ⌝ }
+    ensures { λ r. ⌜ now (buf .exit) ≡ painted (raster frame) (spanFigure (pos y) (pos from) (pos past)) colour (now (buf .entry)) ⌝ }
+{
+    if frame.depth == 1 {
+        fields_at_depth(buf, 1, frame, y, from, past, colour);
+        return;
+    }
+    if frame.depth == 2 {
+        fields_at_depth(buf, 2, frame, y, from, past, colour);
+        return;
+    }
+    fields_at_depth(buf, 4, frame, y, from, past, colour);
+}
+
 // Columns of row y. From depth 8 on they are whole bytes.
 fn paint_columns(buf: &mut [u8], frame: Frame, y: u32, from: u32, past: u32, colour: u32)
     requires { ⌜ Drawable frame (length (now buf)) colour × (y < frame .height) × (from < past) × (past ≤ frame .width) ⌝ }
     ensures { λ r. ⌜ now (buf .exit) ≡ painted (raster frame) (spanFigure (pos y) (pos from) (pos past)) colour (now (buf .entry)) ⌝ }
 {
     if frame.depth < 8 {
-        paint_fields(buf, frame, y, from, past, colour);
+        paint_by_depth(buf, frame, y, from, past, colour);
         return;
     }
     let start = byte_of(frame, from, y);

@@ -16,14 +16,14 @@ use Rattle.framebuffer.proofs.paint_columns.Tie as tie
 ok : (c : tie.Start) → Drawable (c .args .frame) (length (c .args .buf .now)) (c .args .colour)
 ok c = c .pre .0
 
-paint-fields-requires : tie.Need-paint-fields-requires
-paint-fields-requires c κs = let p = c .before .before .before .before .pre in (p .0, c .before .if1 .taken, p .1, p .2, p .3)
+paint-by-depth-requires : tie.Need-paint-by-depth-requires
+paint-by-depth-requires c κs = let p = c .before .before .before .before .pre in (p .0, c .before .if1 .taken, p .1, p .2, p .3)
 
 same-length : tie.Need-same-length
 same-length c = search needs
 
 returns : tie.Need-returns
-returns c = c .before .before .paint-fields .ensures
+returns c = c .before .before .paint-by-depth .ensures
 
 byte-of-requires : tie.Need-byte-of-requires
 byte-of-requires c κs =
@@ -80,7 +80,7 @@ pub paint-columns-spec : {M : Type 1} → statement M
 paint-columns-spec =
     tie.close
     (tie.spec
-    paint-fields-requires
+    paint-by-depth-requires
     same-length
     returns
     byte-of-requires

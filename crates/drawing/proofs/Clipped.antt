@@ -1,42 +1,60 @@
--- Laws of the steps of a line that a rectangle can hold: along the major axis one step is one place, and all other steps lead out of the rectangle. So do the points of a
--- connected line that come before the step before them, and from the step after them on. Assumes nothing.
-use mathlib.Core.Path.{_≡_, refl, sym, ap, subst, _∙_}
-use mathlib.Core.Bool.{Bool, true, false, cond, _&&_}
+-- Laws of the steps of a line that a rectangle holds. Those of its major axis: one step is one place, and all other steps lead out of the rectangle; so do the points of a
+-- connected line that come before the step before them, and from the step after them on. Those of both axes: exactly these lead into it. Assumes nothing.
+use mathlib.Core.Path.{_≡_, refl, sym, ap, ap₂, subst, _∙_}
+use mathlib.Core.Bool.{Bool, true, false, cond, not, _&&_}
 use mathlib.Core.Logic.{_⊎_, inl, inr, ⊎-elim}
-use Prim.Native.Nat.{ℕ, _+_, _-_, _≤_, _<_}
+use Prim.Native.Nat.{ℕ, _+_, _-_, _≤_, _<_, max, min}
 use native.Mathlib.Omega.{arith}
-use borrow.Author.Tests.{lt-ltb, le-ltb}
-use lib.Dec.{ltb}
-use lib.IntN.{pos, _+ℤ_, _*ℤ_}
-use lib.Signed.{leZ}
+use borrow.Author.Tests.{leb-true, leb-false, ltb-true, le-leb, lt-leb, lt-ltb, le-ltb}
+use lib.Dec.{leb, ltb}
+use lib.IntN.{ℤ, pos, natAbs, _+ℤ_, _-ℤ_, _*ℤ_}
+use lib.Signed.{leZ, ltZ}
+use mir.Syntax.{w32}
+use mir.Val.{toZ, ofZ}
 use Rattle.whole.specs.Interval.{between}
-use Rattle.whole.proofs.Tests.{lt-or-ge}
+use Rattle.whole.proofs.Machine.{back}
+use Rattle.whole.proofs.Tests.{same-test, and-true, true-and, lt-or-ge}
 use Rattle.geometry.specs.declared.Point.{Point}
-use Rattle.line.specs.Line.{toward, wide, high, steep, major, points, pointAt}
+use Rattle.geometry.specs.Bound.{Coord}
+use Rattle.geometry.proofs.Bound.{coord}
+use Rattle.line.specs.Line.{toward, moves, wide, high, steep, major, points, pointAt}
+use Rattle.line.specs.Reach.{reachFrom}
 use Rattle.line.proofs.Lengths.{major-by, x-by, y-by}
+use Rattle.line.proofs.Moves.{moves-minor}
+use Rattle.line.proofs.Reach.{from-wide, from-exactly}
 use Rattle.connected.specs.Connected.{besideBoth, indexOf, lastIndex, connectedPoints, pointsBefore, alike, extraAt, connectedAt}
 use Rattle.connected.proofs.Indices.{Grows, View, normal, extra, view, index-more, grows-index, normal-at, extra-at}
 use Rattle.framebuffer.specs.declared.Steps.{Steps}
 use Rattle.framebuffer.specs.declared.Window.{Window}
-use Rattle.framebuffer.specs.Interval.{onFrom}
+use Rattle.framebuffer.specs.Interval.{onFrom, come, stays}
 use Rattle.framebuffer.specs.Window.{inWindow}
-use Rattle.framebuffer.proofs.Interval.{isStep, held-exactly, step-before, step-after}
-use Rattle.drawing.specs.Clipped.{axisOf, axisFrom, axisPast, AxisSteps, LineSteps}
+use Rattle.framebuffer.proofs.Interval.{isStep, held-exactly, one-interval, step-before, step-after}
+use Rattle.drawing.specs.Clipped.{axisOf, axisFrom, axisPast, AxisSteps, LineSteps, Common, comeAlong, staysAlong, InnerSteps}
+
+-- ---- a coordinate as it is read
+pub coord-read : {z : ℤ} → Coord z → Coord (toZ w32 (ofZ w32 z))
+coord-read h = subst Coord (sym (back (coord h) .is)) h
+
+-- ---- how many moves are made along an axis
+abbrev pub axisLength : Bool → Point → Point → ℕ
+axisLength b s e = natAbs (axisOf b e -ℤ axisOf b s)
+
+pub axis-length : (b : Bool) (s e : Point) → axisLength b s e ≡ cond b (high s e) (wide s e)
+unfolding wide high
+axis-length true s e = refl
+axis-length false s e = refl
 
 -- ---- the steps along the axis that was found
-pub line-steps : (q : Window) (s e : Point) (b : Bool) → steep s e ≡ b → {t : Steps} → AxisSteps b q s e (cond b (high s e) (wide s e) + 1) t → LineSteps q s e t
+pub line-steps : (q : Window) (s e : Point) (b : Bool) → steep s e ≡ b → {t : Steps} → AxisSteps b q s e (axisLength b s e + 1) t → LineSteps q s e t
 line-steps q s e b axis {t} h =
-    let found = subst (λ (b : Bool). AxisSteps b q s e (cond b (high s e) (wide s e) + 1) t) (sym axis) h in
-    record { held = subst (λ (n : ℕ). AxisSteps (steep s e) q s e (n + 1) t) (sym (major-by s e (steep s e) refl)) found }
+    let found = subst (λ (b : Bool). AxisSteps b q s e (axisLength b s e + 1) t) (sym axis) h in
+    record { held = subst (λ (n : ℕ). AxisSteps (steep s e) q s e (n + 1) t) (axis-length (steep s e) s e ∙ sym (major-by s e (steep s e) refl)) found }
 
 -- ---- along the major axis one step is one place
-place-on : (s e : Point) (k : ℕ) → axisOf (steep s e) (pointAt s e k) ≡ onFrom (leZ (axisOf (steep s e) s) (axisOf (steep s e) e)) (axisOf (steep s e) s) k
+place-on : (s e : Point) (b : Bool) → steep s e ≡ b → (k : ℕ) → axisOf b (pointAt s e k) ≡ onFrom (leZ (axisOf b s) (axisOf b e)) (axisOf b s) k
 unfolding pointAt
-place-on s e k = by (steep s e) refl
-  where
-    by : (b : Bool) → steep s e ≡ b → axisOf b (pointAt s e k) ≡ onFrom (leZ (axisOf b s) (axisOf b e)) (axisOf b s) k
-    by true axis = ap (λ (n : ℕ). s .1 +ℤ toward (s .1) (e .1) *ℤ pos n) (y-by s e true axis k)
-    by false axis = ap (λ (n : ℕ). s .0 +ℤ toward (s .0) (e .0) *ℤ pos n) (x-by s e false axis k)
+place-on s e true axis k = ap (λ (n : ℕ). s .1 +ℤ toward (s .1) (e .1) *ℤ pos n) (y-by s e true axis k)
+place-on s e false axis k = ap (λ (n : ℕ). s .0 +ℤ toward (s .0) (e .0) *ℤ pos n) (x-by s e false axis k)
 
 -- whether the rectangle has the coordinate of a place
 abbrev axisHeld : Bool → Window → Point → Bool
@@ -49,6 +67,10 @@ and-off : (a : Bool) {b : Bool} → b ≡ false → (a && b) ≡ false
 and-off true h = h
 and-off false h = refl
 
+and-on : (a : Bool) → (a && true) ≡ a
+and-on true = refl
+and-on false = refl
+
 -- ---- a place of which it has not that is outside
 axis-out : (b : Bool) (q : Window) (p : Point) → axisHeld b q p ≡ false → inWindow q (p .0) (p .1) ≡ false
 axis-out true q p h = and-off (between (pos (q .left)) (pos (q .right)) (p .0)) h
@@ -60,7 +82,7 @@ major-out q s e p = axis-out (steep s e) q p
 module _ {q : Window} {s e : Point} {t : Steps} (L : LineSteps q s e t) where
   exactly : (k : ℕ) → k < points s e → majorHeld q s e (pointAt s e k) ≡ isStep t k
   exactly k few =
-      ap (between (pos (axisFrom (steep s e) q)) (pos (axisPast (steep s e) q))) (place-on s e k)
+      ap (between (pos (axisFrom (steep s e) q)) (pos (axisPast (steep s e) q))) (place-on s e (steep s e) refl k)
       ∙ sym (held-exactly (leZ (axisOf (steep s e) s) (axisOf (steep s e) e)) (L .held) k few)
 
   -- so no step before or after them leads into it
@@ -70,18 +92,9 @@ module _ {q : Window} {s e : Point} {t : Steps} (L : LineSteps q s e t) where
   off-after : (k : ℕ) → k < points s e → t .past ≤ k → majorHeld q s e (pointAt s e k) ≡ false
   off-after k few l = exactly k few ∙ step-after t k l
 
-  pub out-before : (k : ℕ) → k < points s e → k < t .from → inWindow q (pointAt s e k .0) (pointAt s e k .1) ≡ false
-  out-before k few l = major-out q s e (pointAt s e k) (off-before k few l)
-
-  pub out-after : (k : ℕ) → k < points s e → t .past ≤ k → inWindow q (pointAt s e k .0) (pointAt s e k .1) ≡ false
-  out-after k few l = major-out q s e (pointAt s e k) (off-after k few l)
-
   -- and none at all, if they are none
   off-none : t .past ≤ t .from → (k : ℕ) → k < points s e → majorHeld q s e (pointAt s e k) ≡ false
   off-none none k few = ⊎-elim (off-before k few) (λ l. off-after k few (omega arith)) (lt-or-ge k (t .from))
-
-  pub out-none : t .past ≤ t .from → (k : ℕ) → k < points s e → inWindow q (pointAt s e k .0) (pointAt s e k .1) ≡ false
-  out-none none k few = major-out q s e (pointAt s e k) (off-none none k few)
 
 -- ---- a connected line. An extra point has the major coordinate of a normal one beside it
 module _ (q : Window) (s e : Point) where
@@ -147,3 +160,126 @@ module _ {q : Window} {s e : Point} {t : Steps} (L : LineSteps q s e t) where
       by : View s e i → inWindow q (connectedAt s e i .0) (connectedAt s e i .1) ≡ false
       by (normal k m here) = normal-outside q s e m here (off-none L none k (omega arith))
       by (extra k m g here) = extra-outside q s e m g here (off-none L none k (omega arith)) (off-none L none (k + 1) (omega arith))
+
+-- ---- both axes: two intervals in one
+module _ (a b k : ℕ) where
+  larger-start : leb (max a b) k ≡ (leb a k && leb b k)
+  larger-start =
+      same-test _ _ (λ h. let m = leb-true (max a b) k h in true-and (le-leb a k (omega arith)) (le-leb b k (omega arith)))
+      (λ h. let p = and-true (leb a k) (leb b k) h in le-leb (max a b) k (omega (arith, leb-true a k (p .0), leb-true b k (p .1))))
+
+  smaller-end : ltb k (min a b) ≡ (ltb k a && ltb k b)
+  smaller-end =
+      same-test _ _ (λ h. let m = ltb-true k (min a b) h in true-and (lt-ltb k a (omega arith)) (lt-ltb k b (omega arith)))
+      (λ h. let p = and-true (ltb k a) (ltb k b) h in lt-ltb k (min a b) (omega (arith, ltb-true k a (p .0), ltb-true k b (p .1))))
+
+-- what is not at or past one end is before it
+other-side : (p k v m : ℕ) → leb p k ≡ leb v m → ltb k p ≡ ltb m v
+other-side p k v m e = by (lt-or-ge k p)
+  where
+    by : (k < p) ⊎ (p ≤ k) → ltb k p ≡ ltb m v
+    by (inl l) = lt-ltb k p l ∙ sym (lt-ltb m v (leb-false v m (sym e ∙ lt-leb p k l)))
+    by (inr l) = le-ltb k p l ∙ sym (le-ltb m v (leb-true v m (sym e ∙ le-leb p k l)))
+
+-- a step of a line of lengths M and n from which on it has made v moves along the minor axis
+abbrev pub StepWith : ℕ → ℕ → ℕ → ℕ → Type 0
+StepWith M n v f = (f ≤ M + 1) × ((k : ℕ) → k ≤ M → leb f k ≡ leb v (moves M n k))
+
+-- past the last, for more moves than it makes
+pub step-past : (M n v : ℕ) → n < v → StepWith M n v (M + 1)
+step-past M n v h = (omega arith, λ k l. lt-leb (M + 1) k (omega arith) ∙ sym (lt-leb v (moves M n k) (omega (arith, moves-minor M n k l))))
+
+pub step-first : (M n v : ℕ) → n ≤ M → v ≤ n → StepWith M n v (reachFrom M n v)
+step-first M n v s r = (omega (arith, from-wide M n v s r), λ k l. from-exactly M n v k s r)
+
+pub common : (M n : ℕ) (u v : Steps) {f p : ℕ} {t : Steps} → u .from ≤ M + 1 → u .past ≤ M + 1 → StepWith M n (v .from) f → StepWith M n (v .past) p
+    → t .from ≡ max (u .from) f → t .past ≡ min (u .past) p → Common M n u v t
+common M n u v {f} {p} few most first last from past =
+    record {
+      first = omega (arith, first .0);
+      most = omega (arith, last .0);
+      begins = λ k l. ap (λ (x : ℕ). leb x k) from ∙ larger-start (u .from) f k ∙ ap (λ (t : Bool). leb (u .from) k && t) (first .1 k l);
+      ends =
+          λ k l. ap (λ (x : ℕ). ltb k x) past ∙ smaller-end (u .past) p k
+          ∙ ap (λ (t : Bool). ltb k (u .past) && t) (other-side p k (v .past) (moves M n k) (last .1 k l));
+    }
+
+-- ---- the moves along both axes, b being the major one
+both-swap : (s t : Bool) → (s && t) ≡ (t && s)
+both-swap true t = sym (and-on t)
+both-swap false t = sym (and-off t refl)
+
+in-order : (f : Bool → Bool) (b : Bool) → (f b && f (not b)) ≡ (f false && f true)
+in-order f true = both-swap (f true) (f false)
+in-order f false = refl
+
+-- after k moves along it, there are so many along the other
+minor-on : (s e : Point) (b : Bool) → steep s e ≡ b → (k : ℕ)
+    → axisOf (not b) (pointAt s e k) ≡ onFrom (leZ (axisOf (not b) s) (axisOf (not b) e)) (axisOf (not b) s) (moves (axisLength b s e) (axisLength (not b) s e) k)
+unfolding pointAt wide high
+minor-on s e true axis k = ap (λ (n : ℕ). s .0 +ℤ toward (s .0) (e .0) *ℤ pos n) (x-by s e true axis k)
+minor-on s e false axis k = ap (λ (n : ℕ). s .1 +ℤ toward (s .1) (e .1) *ℤ pos n) (y-by s e false axis k)
+
+module _ (q : Window) (s e : Point) (b : Bool) (axis : steep s e ≡ b) where
+  pub inner-steps : {along across t : Steps} → AxisSteps b q s e (axisLength b s e + 1) along → AxisSteps (not b) q s e (axisLength (not b) s e + 1) across
+      → Common (axisLength b s e) (axisLength (not b) s e) along across t → InnerSteps q s e t
+  inner-steps {along} {across} h g both =
+      record {
+        first = omega (arith, both .first, length);
+        most = omega (arith, both .most, length);
+        begins =
+            λ k few. both .begins k (on few)
+            ∙ ap₂ _&&_ (h .begins k (omega (arith, on few)) ∙ ap (come (leZ (axisOf b s) (axisOf b e)) (axisFrom b q) (axisPast b q)) (sym (place-on s e b axis k)))
+            (g .begins _ (made few) ∙ ap (come (leZ (axisOf (not b) s) (axisOf (not b) e)) (axisFrom (not b) q) (axisPast (not b) q)) (sym (minor-on s e b axis k)))
+            ∙ in-order (λ c. comeAlong c q s e (pointAt s e k)) b;
+        ends =
+            λ k few. both .ends k (on few)
+            ∙ ap₂ _&&_ (h .ends k (omega (arith, on few)) ∙ ap (stays (leZ (axisOf b s) (axisOf b e)) (axisFrom b q) (axisPast b q)) (sym (place-on s e b axis k)))
+            (g .ends _ (made few) ∙ ap (stays (leZ (axisOf (not b) s) (axisOf (not b) e)) (axisFrom (not b) q) (axisPast (not b) q)) (sym (minor-on s e b axis k)))
+            ∙ in-order (λ c. staysAlong c q s e (pointAt s e k)) b;
+      }
+    where
+      length : axisLength b s e ≡ major s e
+      length = axis-length b s e ∙ sym (major-by s e b axis)
+
+      on : {k : ℕ} → k < points s e → k ≤ axisLength b s e
+      on few = omega (arith, length)
+
+      made : {k : ℕ} → k < points s e → moves (axisLength b s e) (axisLength (not b) s e) k < axisLength (not b) s e + 1
+      made {k} few = omega (arith, moves-minor (axisLength b s e) (axisLength (not b) s e) k (on few))
+
+-- ---- exactly these steps lead into the rectangle
+come-stays : (g : Bool) (low high : ℕ) (z : ℤ) → (come g low high z && stays g low high z) ≡ between (pos low) (pos high) z
+come-stays true low high z = refl
+come-stays false low high z = both-swap (ltZ z (pos high)) (leZ (pos low) z)
+
+pairs : (a b c d : Bool) → ((a && b) && (c && d)) ≡ ((a && c) && (b && d))
+pairs true b true d = refl
+pairs true b false d = and-off b refl
+pairs false b c d = refl
+
+module _ {q : Window} {s e : Point} {t : Steps} (I : InnerSteps q s e t) where
+  inner-exactly : (k : ℕ) → k < points s e → inWindow q (pointAt s e k .0) (pointAt s e k .1) ≡ isStep t k
+  inner-exactly k few =
+      let p = pointAt s e k in
+      sym (ap₂ _&&_ (I .begins k few) (I .ends k few)
+      ∙ pairs (comeAlong false q s e p) (comeAlong true q s e p) (staysAlong false q s e p) (staysAlong true q s e p)
+      ∙ ap₂ _&&_ (come-stays (leZ (s .0) (e .0)) (q .left) (q .right) (p .0)) (come-stays (leZ (s .1) (e .1)) (q .top) (q .bottom) (p .1)))
+
+  pub inner-in : (k : ℕ) → t .from ≤ k → k < t .past → inWindow q (pointAt s e k .0) (pointAt s e k .1) ≡ true
+  inner-in k a b = inner-exactly k (omega (arith, I .most)) ∙ true-and (le-leb (t .from) k a) (lt-ltb k (t .past) b)
+
+  pub out-before : (k : ℕ) → k < points s e → k < t .from → inWindow q (pointAt s e k .0) (pointAt s e k .1) ≡ false
+  out-before k few l = inner-exactly k few ∙ step-before t k l
+
+  pub out-after : (k : ℕ) → k < points s e → t .past ≤ k → inWindow q (pointAt s e k .0) (pointAt s e k .1) ≡ false
+  out-after k few l = inner-exactly k few ∙ step-after t k l
+
+  -- and none, if they are none
+  pub out-none : t .past ≤ t .from → (k : ℕ) → k < points s e → inWindow q (pointAt s e k .0) (pointAt s e k .1) ≡ false
+  out-none none k few = ⊎-elim (out-before k few) (λ l. out-after k few (omega arith)) (lt-or-ge k (t .from))
+
+-- there is one such answer
+pub inner-one : {q : Window} {s e : Point} {t u : Steps} → InnerSteps q s e t → InnerSteps q s e u → t ≡ u
+inner-one {t = t} {u} h g =
+    one-interval (h .first) (g .first) (h .most) (g .most) (λ k few. h .begins k few ∙ sym (g .begins k few)) (λ k few. h .ends k few ∙ sym (g .ends k few))

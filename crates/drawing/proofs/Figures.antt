@@ -84,6 +84,11 @@ pub connected-walked : (s e : Point) → walked (connectedAt s e) (connectedPoin
 unfolding hasConnected
 connected-walked s e = refl
 
+-- a point that is new, as a number
+pub new-one : (had : Bool) → boolByte (not had) ≡ oneIf (not had)
+new-one true = refl
+new-one false = refl
+
 -- a point that is inside, as a number, adds one where there is no earlier figure
 pub inside-adds : (inside : Bool) → boolByte inside ≡ oneIf (inside && not false)
 inside-adds true = refl
@@ -144,7 +149,7 @@ module _ (q : Brush) (P : Placing (raster (q .frame))) (b : List ℕ) where
 
 -- ---- what a figure has that an earlier one has not
 -- all of it, if there is none
-pub none-earlier : (q : Brush) (figure : ℤ → ℤ → Bool) (b : List ℕ) {n : ℕ} {next : List ℕ}
+none-earlier : (q : Brush) (figure : ℤ → ℤ → Bool) (b : List ℕ) {n : ℕ} {next : List ℕ}
     → n ≡ brushed q (newIn (λ x y. false) figure) b .0 → next ≡ brushed q figure b .1 → (n, next) ≡ brushed q figure b
 none-earlier q figure b e f = λ i. ((e ∙ all) i, f i)
   where
@@ -289,6 +294,13 @@ module _ {q : Brush} {len : ℕ} (R : Ready q len) (before : ℤ → ℤ → Boo
         bytes = put ∙ ap₂ (λ (p : Point) (b : List ℕ). brushed q (single (p .0) (p .1)) b .1) here (a .bytes) ∙ walked-more q (brush-sound R) b path k;
       }
 
+  -- the same of a point that the rectangle is known to hold
+  pub along-inside : {k seen more : ℕ} {now next : List ℕ} {p : Point} → Along q before path b k seen now
+      → p ≡ path k → ((j : ℕ) → j < k → path k ≡ path j → ⊥)
+      → inWindow (q .window) (path k .0) (path k .1) ≡ true → more ≡ oneIf (not (before (p .0) (p .1))) → next ≡ brushed q (single (p .0) (p .1)) now .1
+      → Along q before path b (k + 1) (seen + more) next
+  along-inside a here apart held adds put = along-turn {inside = true} a here apart (sym (ap (λ (p : Point). inWindow (q .window) (p .0) (p .1)) here ∙ held)) adds put
+
   -- steps that lead out of the rectangle add nothing, and need not be walked
   pub along-skip : {j seen : ℕ} {now : List ℕ} → Along q before path b j seen now → (n : ℕ) → j ≤ n → ((i : ℕ) → j ≤ i → i < n → inWindow (q .window) (path i .0) (path i .1) ≡ false)
       → Along q before path b n seen now
@@ -314,3 +326,16 @@ module _ {q : Brush} {len : ℕ} (R : Ready q len) (before : ℤ → ℤ → Boo
   along-end a all e =
       let f = ap (walked path) all ∙ e in
       (a .count ∙ ap (λ (s : ℤ → ℤ → Bool). brushed q (newIn before s) b .0) f, a .bytes ∙ ap (λ (s : ℤ → ℤ → Bool). brushed q s b .1) f)
+
+-- the same count by another name
+pub along-count : {q : Brush} {before : ℤ → ℤ → Bool} {path : ℕ → Point} {b : List ℕ} {k m n : ℕ} {now : List ℕ} → m ≡ n → Along q before path b k m now
+    → Along q before path b k n now
+along-count e a = record { count = sym e ∙ a .count; bytes = a .bytes }
+
+-- the same where no figure comes before it
+abbrev pub none : ℤ → ℤ → Bool
+none x y = false
+
+pub along-all : {q : Brush} {len : ℕ} → Ready q len → (path : ℕ → Point) (b : List ℕ) {n seen : ℕ} {now : List ℕ} {figure : ℤ → ℤ → Bool}
+    → Along q none path b n seen now → walked path n ≡ figure → (seen, now) ≡ brushed q figure b
+along-all {q} R path b {figure = figure} a e = let r = along-end R none path b a refl e in none-earlier q figure b (r .0) (r .1)

@@ -1,6 +1,5 @@
 -- The edges of an outline that are drawn already, so that a pixel of two edges counts once (02, T-02: "distinct frame pixels").
 use mathlib.Core.Bool.{Bool, not, _&&_, _||_}
-use lib.Dec.{eqb}
 use lib.IntN.{ℤ}
 use Rattle.geometry.specs.Bound.{Bounded}
 use Rattle.drawing.specs.declared.Earlier.{Earlier}
@@ -10,9 +9,9 @@ use Rattle.drawing.specs.Figure.{lineFigure}
 abbrev pub Ends : Earlier → Type 0
 Ends q = Bounded (q .a) × Bounded (q .b) × Bounded (q .c)
 
--- none for 0 edges, for 1 the line a to b, else the line b to c too
+-- the line a to b, and with the second one the line b to c too
 abbrev pub earlierFigure : Earlier → ℤ → ℤ → Bool
-earlierFigure q x y = not (eqb (q .edges) 0) && (lineFigure (q .a) (q .b) x y || (not (eqb (q .edges) 1) && lineFigure (q .b) (q .c) x y))
+earlierFigure q x y = lineFigure (q .a) (q .b) x y || (q .second && lineFigure (q .b) (q .c) x y)
 
 -- what of a figure is not in an earlier one
 abbrev pub newIn : (ℤ → ℤ → Bool) → (ℤ → ℤ → Bool) → ℤ → ℤ → Bool

@@ -1,14 +1,16 @@
 // Drawing calls into a lent buffer. Each judges its frame once, then its own arguments, and sets every pixel of the frame that its figure
 // contains; its answer says how many these are. Calls on a frame that was judged already have `_on` in their name.
 ghost use mathlib.Core.Path.{_≡_};
-ghost use mathlib.Core.Bool.{true, not, _&&_};
+ghost use mathlib.Core.Bool.{true};
 ghost use mathlib.Core.List.{_++_};
-ghost use Prim.Native.Nat.{ℕ, _-_, _≤_};
+ghost use Prim.Native.Nat.{ℕ, _+_, _-_, _≤_, max, min};
+ghost use lib.Dec.{leb};
+ghost use lib.IntN.{natAbs, _-ℤ_};
 ghost use lib.ListN.{length};
-ghost use lib.Signed.{_≤ℤ_};
+ghost use lib.Signed.{leZ, _≤ℤ_};
 ghost use Rattle.refusals.specs.First.{first};
-ghost use Rattle.layout.specs.Count.{oneIf};
-ghost use Rattle.geometry.specs.Bound.{Bounded};
+ghost use Rattle.geometry.specs.Bound.{Coord, Bounded};
+ghost use Rattle.line.specs.Line.{moves};
 ghost use Rattle.line.specs.Answer.{endTests};
 ghost use Rattle.triangle.specs.Answer.{vertexTests};
 ghost use Rattle.circle.specs.Refusal.{Fits, circleTests};
@@ -17,7 +19,7 @@ ghost use Rattle.framebuffer.specs.Drawing.{outcome};
 ghost use Rattle.framebuffer.specs.Interval.{Held};
 ghost use Rattle.framebuffer.specs.Judged.{Over, OverSome, Ready, brushed};
 ghost use Rattle.framebuffer.specs.Window.{wholeWindow};
-ghost use Rattle.drawing.specs.Clipped.{LineSteps};
+ghost use Rattle.drawing.specs.Clipped.{LineSteps, Common, InnerSteps};
 ghost use Rattle.drawing.specs.Earlier.{Ends, earlierFigure, newIn};
 ghost use Rattle.drawing.specs.Figure.{lineFigure, connectedFigure, outlineFigure, triangleFigure, circleFigure};
 ghost use Rattle.drawing.specs.Drawing.{lineDrawing, connectedDrawing, outlineDrawing, triangleDrawing, circleDrawing};
@@ -29,9 +31,9 @@ use framebuffer::Steps;
 use framebuffer::Window;
 use geometry::Point;
 
-// The edges of an outline that are drawn already: the first `edges` of the lines a to b and b to c.
+// The edges of an outline that are drawn already: the line a to b, and with the second one the line b to c too.
 struct Earlier {
-    edges: u32,
+    second: bool,
     a: Point,
     b: Point,
     c: Point,
@@ -43,35 +45,27 @@ impl Earlier {
         requires { ⌜ Ends self ⌝ }
         ensures { λ r. ⌜ r ≡ earlierFigure self (p .0) (p .1) ⌝ }
     {
-        if self.edges == 0 {
-            return false;
-        }
         if line::meets(self.a, self.b, p) {
             return true;
         }
-        if self.edges == 1 {
+        if !self.second {
             return false;
         }
         line::meets(self.b, self.c, p)
     }
-
-    // 1 for a point that is inside and on none of them, else 0.
-    fn adds(self, inside: bool, p: Point) -> u32
-        requires { ⌜ Ends self ⌝ }
-        ensures { λ r. ⌜ r ≡ oneIf (inside && not (earlierFigure self (p .0) (p .1))) ⌝ }
-    {
-        if !inside {
-            return 0;
-        }
-        if self.has(p) {
-            return 0;
-        }
-        1
-    }
 }
 
-// The steps of an accepted line on which its major coordinate is one of the rectangle's. No other step leads into the rectangle, so that a line is walked from the
-// first of them to the last, however long it is.
+// ---- the steps of a line that lead into the rectangle
+
+// Of the moves of a coordinate from a to b, one place each, those that lead to a place from low to one before high.
+fn axis_steps(a: i32, b: i32, low: u32, high: u32) -> Steps
+    requires { ⌜ (Coord a × Coord b) × (low ≤ 2048) × (high ≤ 2048) ⌝ }
+    ensures { λ r. ⌜ Held a (leZ a b) low high (natAbs (b -ℤ a) + 1) r ⌝ }
+{
+    framebuffer::held(a, a <= b, low, high, line::distance(a, b) as u32 + 1)
+}
+
+// The steps of an accepted line on which its major coordinate is one of the rectangle's. No other step leads into the rectangle.
 fn line_steps(window: Window, start: Point, end: Point) -> Steps
     requires { ⌜ ((window .left ≤ window .right) × (window .right ≤ 2048) × (window .top ≤ window .bottom) × (window .bottom ≤ 2048)) × (Bounded start × Bounded end) ⌝ }
     ensures { λ r. ⌜ LineSteps window start end r ⌝ }
@@ -83,18 +77,76 @@ fn line_steps(window: Window, start: Point, end: Point) -> Steps
     let wide = line::distance(x0, x1);
     let high = line::distance(y0, y1);
     if wide <= high {
-        return framebuffer::held(y0, y0 <= y1, window.top, window.bottom, high as u32 + 1);
+        return axis_steps(y0, y1, window.top, window.bottom);
     }
-    framebuffer::held(x0, x0 <= x1, window.left, window.right, wide as u32 + 1)
+    axis_steps(x0, x1, window.left, window.right)
 }
 
-// The points of an accepted line, as far as the rectangle holds them; and how many of these are on no earlier edge.
+fn larger(a: u32, b: u32) -> u32
+    ensures { λ r. ⌜ r ≡ max a b ⌝ }
+{
+    if a < b { b } else { a }
+}
+
+fn smaller(a: u32, b: u32) -> u32
+    ensures { λ r. ⌜ r ≡ min a b ⌝ }
+{
+    if b < a { b } else { a }
+}
+
+// The first step of a line of these lengths that has made so many moves along the minor axis, or one past its last.
+fn step_with(major: u32, minor: u32, moved: u32) -> u32
+    requires { ⌜ (major ≤ 262144) × (minor ≤ major) ⌝ }
+    ensures { λ r. ⌜ (r ≤ major + 1) × ((k : ℕ) → k ≤ major → leb r k ≡ leb moved (moves major minor k)) ⌝ }
+{
+    if minor < moved {
+        return major + 1;
+    }
+    line::first_with(major, minor, moved)
+}
+
+// The steps of a line of these lengths that `along` has, and at which `across` has the moves along the minor axis.
+fn common_steps(major: u32, minor: u32, along: Steps, across: Steps) -> Steps
+    requires { ⌜ (major ≤ 262144) × (minor ≤ major) × (along .from ≤ major + 1) × (along .past ≤ major + 1) ⌝ }
+    ensures { λ r. ⌜ Common major minor along across r ⌝ }
+{
+    let from = step_with(major, minor, across.from);
+    let past = step_with(major, minor, across.past);
+    Steps {
+        from: larger(along.from, from),
+        past: smaller(along.past, past),
+    }
+}
+
+// The steps of an accepted line that lead into the rectangle. Both coordinates move one way only, so that these follow one another: a line is walked from the first of
+// them to the last, however long it is, and no place is asked for by itself.
+fn inner_steps(window: Window, start: Point, end: Point) -> Steps
+    requires { ⌜ ((window .left ≤ window .right) × (window .right ≤ 2048) × (window .top ≤ window .bottom) × (window .bottom ≤ 2048)) × (Bounded start × Bounded end) ⌝ }
+    ensures { λ r. ⌜ InnerSteps window start end r ⌝ }
+{
+    let x0 = start.0;
+    let y0 = start.1;
+    let x1 = end.0;
+    let y1 = end.1;
+    let wide = line::distance(x0, x1) as u32;
+    let high = line::distance(y0, y1) as u32;
+    let columns = axis_steps(x0, x1, window.left, window.right);
+    let rows = axis_steps(y0, y1, window.top, window.bottom);
+    if wide <= high {
+        return common_steps(high, wide, rows, columns);
+    }
+    common_steps(wide, high, columns, rows)
+}
+
+// ---- lines
+
+// The points of an accepted edge, as far as the rectangle holds them; and how many of these are on no earlier edge.
 fn draw_edge(buf: &mut [u8], brush: Brush, earlier: Earlier, start: Point, end: Point) -> u32
     requires { ⌜ Ready brush (length (now buf)) × Ends earlier × (Bounded start × Bounded end) ⌝ }
     ensures { λ r. ⌜ (r ≡ brushed brush (newIn (earlierFigure earlier) (lineFigure start end)) (now (buf .entry)) .0)
         × (now (buf .exit) ≡ brushed brush (lineFigure start end) (now (buf .entry)) .1) ⌝ }
 {
-    let steps = line_steps(brush.window, start, end);
+    let steps = inner_steps(brush.window, start, end);
     let past = steps.past;
     let mut k = steps.from;
     if past <= k {
@@ -104,8 +156,8 @@ fn draw_edge(buf: &mut [u8], brush: Brush, earlier: Earlier, start: Point, end: 
     let mut seen = 0u32;
     while k < past {
         let stepped = walker.step();
-        let inside = framebuffer::put_point(buf, brush, stepped.point);
-        seen += earlier.adds(inside, stepped.point);
+        framebuffer::set_point(buf, brush, stepped.point);
+        seen += !earlier.has(stepped.point) as u32;
         walker = stepped.walker;
         k += 1;
     }
@@ -127,19 +179,44 @@ fn draw_upright(buf: &mut [u8], brush: Brush, start: Point, end: Point) -> u32
     requires { ⌜ Ready brush (length (now buf)) × (Bounded start × Bounded end) × (start .0 ≡ end .0) ⌝ }
     ensures { λ r. ⌜ (r, now (buf .exit)) ≡ brushed brush (lineFigure start end) (now (buf .entry)) ⌝ }
 {
-    let steps = line_steps(brush.window, start, end);
+    let steps = inner_steps(brush.window, start, end);
+    let first = steps.from;
     let past = steps.past;
+    if past <= first {
+        return 0;
+    }
     let x = start.0;
     let from = start.1;
     let on = line::direction(from, end.1);
-    let mut seen = 0u32;
-    let mut k = steps.from;
+    let mut k = first;
     while k < past {
         let y = from + on * (k as i32);
-        seen += framebuffer::put_point(buf, brush, Point(x, y)) as u32;
+        framebuffer::set_point(buf, brush, Point(x, y));
         k += 1;
     }
-    seen
+    past - first
+}
+
+// Any other line goes by the walker. Of earlier edges, which `draw_edge` asks for, this loop knows nothing: it measured faster (docs/BENCHMARKS.md).
+fn draw_slanting(buf: &mut [u8], brush: Brush, start: Point, end: Point) -> u32
+    requires { ⌜ Ready brush (length (now buf)) × (Bounded start × Bounded end) ⌝ }
+    ensures { λ r. ⌜ (r, now (buf .exit)) ≡ brushed brush (lineFigure start end) (now (buf .entry)) ⌝ }
+{
+    let steps = inner_steps(brush.window, start, end);
+    let first = steps.from;
+    let past = steps.past;
+    if past <= first {
+        return 0;
+    }
+    let mut walker = line::Walker::at(start, end, first);
+    let mut k = first;
+    while k < past {
+        let stepped = walker.step();
+        framebuffer::set_point(buf, brush, stepped.point);
+        walker = stepped.walker;
+        k += 1;
+    }
+    past - first
 }
 
 // A line by itself: no edge comes before it.
@@ -153,13 +230,7 @@ fn draw_alone(buf: &mut [u8], brush: Brush, start: Point, end: Point) -> u32
     if start.0 == end.0 {
         return draw_upright(buf, brush, start, end);
     }
-    let none = Earlier {
-        edges: 0,
-        a: start,
-        b: start,
-        c: start,
-    };
-    draw_edge(buf, brush, none, start, end)
+    draw_slanting(buf, brush, start, end)
 }
 
 // The number that drawing a line answers, connected or not.
@@ -298,7 +369,7 @@ fn draw_second(buf: &mut [u8], brush: Brush, a: Point, b: Point, c: Point) -> u3
         return draw_level_after(buf, brush, a, b, c);
     }
     let first = Earlier {
-        edges: 1,
+        second: false,
         a: a,
         b: b,
         c: c,
@@ -319,7 +390,7 @@ fn draw_edges(buf: &mut [u8], brush: Brush, v1: Point, v2: Point, v3: Point) -> 
         return draw_alone(buf, brush, p1, p3);
     }
     let both = Earlier {
-        edges: 2,
+        second: true,
         a: p1,
         b: p2,
         c: p3,

@@ -1,11 +1,8 @@
--- `drawing::draw_alone` paints a level line as a span and an upright one in its column, and draws any other as an edge before which there is none, so that all its points
--- are new. Assumes nothing.
+-- `drawing::draw_alone` paints a level line as a span and an upright one in its column, and walks any other. Assumes nothing.
 use mir.Syntax.{w32}
 use borrow.Author.Needs.{needs}
 use Rattle.whole.proofs.Machine.{eq-bits}
 use Rattle.geometry.proofs.Bound.{coord-fits}
-use Rattle.drawing.specs.Figure.{lineFigure}
-use Rattle.drawing.proofs.Figures.{none-earlier}
 use Rattle.drawing.proofs.draw_alone.Statement.{statement}
 use Rattle.drawing.proofs.draw_alone.Tie as tie
 
@@ -31,19 +28,14 @@ same-length-2 c = search needs
 returns-2 : tie.Need-returns-2
 returns-2 c = c .before .before .draw-upright .ensures
 
-draw-edge-requires : tie.Need-draw-edge-requires
-draw-edge-requires c κs =
-    let s = c .before .before .before .before .before .before .before .before .before .before .before .before in
-    let h = s .pre .1 .0 in (s .pre .0, (h, h, h), s .pre .1)
+draw-slanting-requires : tie.Need-draw-slanting-requires
+draw-slanting-requires c κs = let s = c .before .before .before .before .before .before .before .before .before .before .before .before in (s .pre .0, s .pre .1)
 
 same-length-3 : tie.Need-same-length-3
 same-length-3 c = search needs
 
 returns-3 : tie.Need-returns-3
-returns-3 c =
-    let edge = c .before .before in
-    let a = edge .before .before .before .before .before .before .before .before .before .before .before .before .before .args in
-    none-earlier (a .brush) (lineFigure (a .start) (a .end)) (a .buf .now) (edge .draw-edge .ensures .0) (edge .draw-edge .ensures .1)
+returns-3 c = c .before .before .draw-slanting .ensures
 
 pub draw-alone-spec : {M : Type 1} → statement M
 draw-alone-spec =
@@ -55,6 +47,6 @@ draw-alone-spec =
     draw-upright-requires
     same-length-2
     returns-2
-    draw-edge-requires
+    draw-slanting-requires
     same-length-3
     returns-3)

@@ -1,10 +1,9 @@
 -- `drawing::draw_connected` sets the points that the walker hands out, one a turn: before index i those of the indices below i are set, and those inside are counted.
 -- The points that are left out are outside the rectangle. No two are the same. Assumes nothing.
 use mathlib.Core.Path.{_≡_, refl, sym, ap, subst, _∙_}
-use mathlib.Core.Bool.{Bool, false, cond}
+use mathlib.Core.Bool.{Bool, cond}
 use Prim.Native.Nat.{ℕ, _-_, _≤_}
 use native.Mathlib.Omega.{arith}
-use lib.IntN.{ℤ}
 use lib.ListN.{length}
 use borrow.Author.Needs.{needs}
 use borrow.Author.Tests.{le-ltb}
@@ -18,15 +17,10 @@ use Rattle.framebuffer.specs.declared.Steps.{Steps}
 use Rattle.framebuffer.specs.Judged.{Ready}
 use Rattle.framebuffer.proofs.Windows.{within-small}
 use Rattle.drawing.specs.Clipped.{LineSteps}
-use Rattle.drawing.specs.Figure.{connectedFigure}
-use Rattle.drawing.proofs.Figures.{connected-walked, inside-adds, inside-one, none-earlier, Along, along-start, along-turn, along-skip, along-end}
+use Rattle.drawing.proofs.Figures.{connected-walked, inside-adds, inside-one, Along, along-start, along-turn, along-skip, none, along-all}
 use Rattle.drawing.proofs.Clipped.{connected-before, connected-after, connected-none}
 use Rattle.drawing.proofs.draw_connected.Statement.{statement}
 use Rattle.drawing.proofs.draw_connected.Tie as tie
-
--- no figure comes before it
-abbrev none : ℤ → ℤ → Bool
-none x y = false
 
 abbrev Inv-loop : tie.InvT-loop
 Inv-loop buf₀ brush first past walker₀ seen₀ i₀ buf walker seen i =
@@ -65,12 +59,10 @@ returns : tie.Need-returns Inv-loop μ-loop
 returns c =
     let l = c .before .before in
     let a = entry l .args in
-    let r =
-    along-end (entry l .pre .0) none (connectedAt (s l) (e l)) (a .buf .now)
+    along-all (entry l .pre .0) (connectedAt (s l) (e l)) (a .buf .now)
     (along-skip (entry l .pre .0) none (connectedAt (s l) (e l)) (a .buf .now) (begun l) (connectedPoints (s l) (e l)) (omega arith)
     (λ i h few. connected-none (clipped l) (c .if1 .taken) i (omega arith)))
-    refl (connected-walked (s l) (e l)) in
-    none-earlier (a .brush) (connectedFigure (s l) (e l)) (a .buf .now) (r .0) (r .1)
+    (connected-walked (s l) (e l))
 
 one-before-requires : tie.Need-one-before-requires Inv-loop μ-loop
 one-before-requires c κs = search needs
@@ -198,12 +190,10 @@ returns-2 c =
     let b = c .before in
     let a = entry (k b) .args in
     let all : past (p b) ≤ b .loop .i = omega arith in
-    let r =
-    along-end (entry (k b) .pre .0) none (connectedAt (s (k b)) (e (k b))) (a .buf .now)
+    along-all (entry (k b) .pre .0) (connectedAt (s (k b)) (e (k b))) (a .buf .now)
     (along-skip (entry (k b) .pre .0) none (connectedAt (s (k b)) (e (k b))) (a .buf .now) (head b .1) (connectedPoints (s (k b)) (e (k b))) (head b .2)
     (λ i h few. connected-after (clipped (k b)) i (omega arith) (omega (arith, p b .before .before .points-before .ensures))))
-    refl (connected-walked (s (k b)) (e (k b))) in
-    none-earlier (a .brush) (connectedFigure (s (k b)) (e (k b))) (a .buf .now) (r .0) (r .1)
+    (connected-walked (s (k b)) (e (k b)))
 
 pub draw-connected-spec : {M : Type 1} → statement M
 draw-connected-spec =

@@ -1,41 +1,44 @@
--- `drawing::draw_edge` sets the points that the walker hands out, one a turn: before step k those of the steps below k are set, and those that no earlier
--- edge has are counted. The steps that are left out lead out of the rectangle. No step leads where one before it led. Assumes nothing.
-use mathlib.Core.Path.{_≡_, refl, sym, subst, _∙_}
-use mathlib.Core.Bool.{not, _&&_}
+-- `drawing::draw_edge` sets the points that the walker hands out, one a turn, from the first step that leads into the rectangle to the last: before step k those of the
+-- steps below k are set, and those that no earlier edge has are counted. No step leads where one before it led. Assumes nothing.
+use mathlib.Core.Path.{_≡_, refl, sym, subst, ap, _∙_}
+use mathlib.Core.Bool.{Bool, not}
 use Prim.Native.Nat.{ℕ, _-_, _≤_}
 use native.Mathlib.Omega.{arith}
 use lib.ListN.{length}
+use mir.Val.{boolByte}
 use borrow.Author.Needs.{needs}
 use Rattle.geometry.specs.declared.Point.{Point}
 use Rattle.line.specs.Line.{points, pointAt}
 use Rattle.line.specs.Walk.{WalkerAt}
 use Rattle.line.proofs.Apart.{steps-apart}
 use Rattle.line.proofs.Lengths.{points-most}
+use Rattle.layout.specs.Count.{oneIf}
 use Rattle.layout.proofs.Counts.{one-small}
 use Rattle.framebuffer.specs.declared.Steps.{Steps}
 use Rattle.framebuffer.specs.Judged.{Ready}
+use Rattle.framebuffer.specs.Window.{inWindow}
 use Rattle.framebuffer.proofs.Windows.{within-small}
-use Rattle.drawing.specs.Clipped.{LineSteps}
+use Rattle.drawing.specs.Clipped.{InnerSteps}
 use Rattle.drawing.specs.Earlier.{earlierFigure}
-use Rattle.drawing.proofs.Figures.{line-walked, Along, along-start, along-turn, along-skip, along-end}
-use Rattle.drawing.proofs.Clipped.{out-before, out-after, out-none}
+use Rattle.drawing.proofs.Figures.{line-walked, new-one, Along, along-start, along-inside, along-skip, along-end}
+use Rattle.drawing.proofs.Clipped.{inner-in, out-before, out-after, out-none}
 use Rattle.drawing.proofs.draw_edge.Statement.{statement}
 use Rattle.drawing.proofs.draw_edge.Tie as tie
 
 abbrev Inv-loop : tie.InvT-loop
 Inv-loop buf₀ brush earlier past k₀ walker₀ seen₀ buf k walker seen =
-    (length buf ≡ length buf₀) × (k ≤ past) × (seen ≤ k)
-    × ((s e : Point) → past ≤ points s e → Ready brush (length buf₀) → WalkerAt s e k₀ walker₀ → Along brush (earlierFigure earlier) (pointAt s e) buf₀ k₀ 0 buf₀
-    → WalkerAt s e k walker × Along brush (earlierFigure earlier) (pointAt s e) buf₀ k seen buf)
+    (length buf ≡ length buf₀) × (k₀ ≤ k) × (k ≤ past) × (seen ≤ k)
+    × ((s e : Point) → InnerSteps (brush .window) s e (record { from = k₀; past = past }) → Ready brush (length buf₀) → WalkerAt s e k₀ walker₀
+    → Along brush (earlierFigure earlier) (pointAt s e) buf₀ k₀ 0 buf₀ → WalkerAt s e k walker × Along brush (earlierFigure earlier) (pointAt s e) buf₀ k seen buf)
 
 abbrev μ-loop : tie.MeasureT-loop
 μ-loop buf₀ brush earlier past k₀ walker₀ seen₀ buf k walker seen = past - k
 
-line-steps-requires : tie.Need-line-steps-requires Inv-loop μ-loop
-line-steps-requires c κs = let s = c .before in (within-small (s .pre .0 .within) (s .pre .0 .drawable .accepted .described), s .pre .2)
+inner-steps-requires : tie.Need-inner-steps-requires Inv-loop μ-loop
+inner-steps-requires c κs = let s = c .before in (within-small (s .pre .0 .within) (s .pre .0 .drawable .accepted .described), s .pre .2)
 
 -- the steps that are walked
-module _ (c : tie.After-line-steps Inv-loop μ-loop) where
+module _ (c : tie.After-inner-steps Inv-loop μ-loop) where
   abbrev entry : tie.Start Inv-loop μ-loop
   entry = c .before .before
 
@@ -43,16 +46,16 @@ module _ (c : tie.After-line-steps Inv-loop μ-loop) where
   path = pointAt (entry .args .start) (entry .args .end)
 
   abbrev steps : Steps
-  steps = c .line-steps .result
+  steps = c .inner-steps .result
 
-  clipped : LineSteps (entry .args .brush .window) (entry .args .start) (entry .args .end) steps
-  clipped = c .line-steps .ensures
+  inner : InnerSteps (entry .args .brush .window) (entry .args .start) (entry .args .end) steps
+  inner = c .inner-steps .ensures
+
+  few-steps : steps .past ≤ 262144
+  few-steps = omega (arith, inner .most, points-most (entry .pre .2 .0) (entry .pre .2 .1))
 
   begun : Along (entry .args .brush) (earlierFigure (entry .args .earlier)) path (entry .args .buf .now) 0 0 (entry .args .buf .now)
   begun = along-start (entry .pre .0) (earlierFigure (entry .args .earlier)) path (entry .args .buf .now)
-
-  few-steps : steps .past ≤ 262144
-  few-steps = omega (arith, clipped .held .most, points-most (entry .pre .2 .0) (entry .pre .2 .1))
 
 returns : tie.Need-returns Inv-loop μ-loop
 returns c =
@@ -60,18 +63,18 @@ returns c =
     let s = entry l in
     let a = s .args in
     along-end (s .pre .0) (earlierFigure (a .earlier)) (path l) (a .buf .now)
-    (along-skip (s .pre .0) (earlierFigure (a .earlier)) (path l) (a .buf .now) (begun l) (points (a .start) (a .end)) (omega arith) (λ i h few. out-none (clipped l) (c .if1 .taken) i few))
+    (along-skip (s .pre .0) (earlierFigure (a .earlier)) (path l) (a .buf .now) (begun l) (points (a .start) (a .end)) (omega arith) (λ i h few. out-none (inner l) (c .if1 .taken) i few))
     refl (line-walked (a .start) (a .end))
 
 at-requires : tie.Need-at-requires Inv-loop μ-loop
-at-requires c κs = (entry (c .before) .pre .2, omega (arith, clipped (c .before) .held .most, c .if1 .left))
+at-requires c κs = (entry (c .before) .pre .2, omega (arith, inner (c .before) .most, c .if1 .left))
 
 loop-holds : tie.Need-loop-holds Inv-loop μ-loop
-loop-holds c = (refl, omega (arith, c .before .if1 .left), omega arith, λ s e n ok at a. (at, a))
+loop-holds c = (refl, omega arith, omega (arith, c .before .if1 .left), omega arith, λ s e i ok at a. (at, a))
 
 -- at the loop's head the walker stands at step k, and the steps below it are set and counted
 module _ (c : tie.At-loop Inv-loop μ-loop) where
-  abbrev l : tie.After-line-steps Inv-loop μ-loop
+  abbrev l : tie.After-inner-steps Inv-loop μ-loop
   l = c .before .before .before
 
   head : WalkerAt (entry l .args .start) (entry l .args .end) (c .loop .k) (c .loop .walker)
@@ -79,61 +82,66 @@ module _ (c : tie.At-loop Inv-loop μ-loop) where
   head =
       let s = entry l in
       let a = s .args in
-      c .loop .inv .3 (a .start) (a .end) (clipped l .held .most) (s .pre .0) (c .before .at .ensures)
+      c .loop .inv .4 (a .start) (a .end) (inner l) (s .pre .0) (c .before .at .ensures)
       (along-skip (s .pre .0) (earlierFigure (a .earlier)) (path l) (a .buf .now) (begun l) (steps l .from) (omega arith)
-      (λ i h before. out-before (clipped l) i (omega (arith, clipped l .held .most, c .before .before .if1 .left)) before))
+      (λ i h before. out-before (inner l) i (omega (arith, inner l .most, c .before .before .if1 .left)) before))
 
 step-requires : tie.Need-step-requires Inv-loop μ-loop
 step-requires c κs =
     let h = c .before in
     let s = entry (l h) in
-    record { s = s .args .start; e = s .args .end; k = h .loop .k; more = omega (arith, clipped (l h) .held .most); here = head h .0 }
+    record { s = s .args .start; e = s .args .end; k = h .loop .k; more = omega (arith, inner (l h) .most); here = head h .0 }
 
-put-point-requires : tie.Need-put-point-requires Inv-loop μ-loop
-put-point-requires c κs =
-    let h = c .before .before .before in
+set-point-requires : tie.Need-set-point-requires Inv-loop μ-loop
+set-point-requires c κs =
+    let step = c .before in
+    let h = step .before .before in
     let s = entry (l h) in
-    subst (Ready (s .args .brush)) (sym (h .loop .inv .0)) (s .pre .0)
+    let a = s .args in (
+      subst (Ready (a .brush)) (sym (h .loop .inv .0)) (s .pre .0),
+      ap (λ (p : Point). inWindow (a .brush .window) (p .0) (p .1)) (step .step .ensures (a .start) (a .end) (h .loop .k) (omega (arith, inner (l h) .most)) (head h .0) .0)
+          ∙ inner-in (inner (l h)) (h .loop .k) (h .loop .inv .1) (omega arith),
+    )
 
-adds-requires : tie.Need-adds-requires Inv-loop μ-loop
-adds-requires c κs = entry (l (c .before .before .before .before .before .before)) .pre .1
+has-requires : tie.Need-has-requires Inv-loop μ-loop
+has-requires c κs = entry (l (c .before .before .before .before .before .before)) .pre .1
+
+cast-seen : tie.Need-cast-seen Inv-loop μ-loop
+cast-seen c = tt
 
 -- a point adds one at most
-one : (c : tie.After-adds Inv-loop μ-loop) → c .adds .result ≤ 1
-one c =
-    let put = c .before .before .before in
-    let step = put .before .before in
-    let p = step .step .result .point in
-    one-small (put .put-point .result && not (earlierFigure (entry (l (step .before .before)) .args .earlier) (p .0) (p .1))) (c .adds .ensures)
+one : (had : Bool) → boolByte (not had) ≤ 1
+one had = one-small (not had) (new-one had)
 
 add-seen : tie.Need-add-seen Inv-loop μ-loop
 add-seen c =
     let h = c .before .before .before .before .before .before .before in
-    omega (arith, few-steps (l h), h .loop .inv .1, h .loop .inv .2, one c)
+    omega (arith, few-steps (l h), h .loop .inv .2, h .loop .inv .3, one (c .has .result))
 
 add-k : tie.Need-add-k Inv-loop μ-loop
-add-k c = let h = c .before .before .before .before .before .before .before .before in omega (arith, few-steps (l h), h .loop .inv .1)
+add-k c = let h = c .before .before .before .before .before .before .before .before in omega (arith, few-steps (l h), h .loop .inv .2)
 
 loop-less : tie.Need-loop-less Inv-loop μ-loop
 loop-less c = search needs
 
 loop-again : tie.Need-loop-again Inv-loop μ-loop
 loop-again c =
-    let adds = c .before in
-    let put = adds .before .before .before in
+    let has = c .before in
+    let put = has .before .before .before in
     let step = put .before .before in
     let h = step .before .before in
     let a = entry (l h) .args in (
-      put .put-point .kept .0 ∙ h .loop .inv .0,
+      put .set-point .kept .0 ∙ h .loop .inv .0,
+      omega (arith, h .loop .inv .1),
       omega arith,
-      omega (arith, h .loop .inv .2, one adds),
-      λ s e n ok at b.
-          let i = h .loop .inv .3 s e n ok at b in
-          let g = step .step .ensures s e (h .loop .k) (omega arith) (i .0) in (
+      omega (arith, h .loop .inv .3, one (has .has .result)),
+      λ s e i ok at b.
+          let j = h .loop .inv .4 s e i ok at b in
+          let g = step .step .ensures s e (h .loop .k) (omega (arith, i .most)) (j .0) in (
             g .1,
-            along-turn ok (earlierFigure (a .earlier)) (pointAt s e) (a .buf .now) (i .1) (g .0)
+            along-inside ok (earlierFigure (a .earlier)) (pointAt s e) (a .buf .now) (j .1) (g .0)
                 (λ j l e′. let z = steps-apart s e (h .loop .k) j e′ in omega arith)
-                (put .put-point .ensures .0) (adds .adds .ensures) (put .put-point .ensures .1),
+                (inner-in i (h .loop .k) (h .loop .inv .1) (omega arith)) (new-one (has .has .result) ∙ ap (λ (t : Bool). oneIf (not t)) (has .has .ensures)) (put .set-point .ensures),
           ),
     )
 
@@ -147,8 +155,8 @@ returns-2 c =
     let a = s .args in
     let all : steps (l h) .past ≤ h .loop .k = omega arith in
     along-end (s .pre .0) (earlierFigure (a .earlier)) (path (l h)) (a .buf .now)
-    (along-skip (s .pre .0) (earlierFigure (a .earlier)) (path (l h)) (a .buf .now) (head h .1) (points (a .start) (a .end)) (omega (arith, clipped (l h) .held .most, h .loop .inv .1))
-    (λ i k few. out-after (clipped (l h)) i few (omega arith)))
+    (along-skip (s .pre .0) (earlierFigure (a .earlier)) (path (l h)) (a .buf .now) (head h .1) (points (a .start) (a .end)) (omega (arith, inner (l h) .most, h .loop .inv .2))
+    (λ i k few. out-after (inner (l h)) i few (omega arith)))
     refl (line-walked (a .start) (a .end))
 
 pub draw-edge-spec : {M : Type 1} → statement M
@@ -157,13 +165,14 @@ draw-edge-spec =
     (tie.spec
     Inv-loop
     μ-loop
-    line-steps-requires
+    inner-steps-requires
     returns
     at-requires
     loop-holds
     step-requires
-    put-point-requires
-    adds-requires
+    set-point-requires
+    has-requires
+    cast-seen
     add-seen
     add-k
     loop-less

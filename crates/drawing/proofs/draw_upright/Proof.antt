@@ -1,10 +1,9 @@
--- `drawing::draw_upright` sets the points of one column, one a turn: before step k those of the steps below k are set, and those inside are counted. The steps that are left out
--- lead out of the rectangle. Assumes nothing.
-use mathlib.Core.Path.{_≡_, refl, sym, ap₂, subst, _∙_}
-use mathlib.Core.Bool.{Bool, false}
-use Prim.Native.Nat.{ℕ, _-_, _≤_}
+-- `drawing::draw_upright` sets the points of one column, one a turn, from the first step that leads into the rectangle to the last: before step k those of the steps below k
+-- are set and counted. Assumes nothing.
+use mathlib.Core.Path.{_≡_, refl, sym, ap, ap₂, subst, _∙_}
+use Prim.Native.Nat.{ℕ, _+_, _-_, _≤_}
 use native.Mathlib.Omega.{arith}
-use lib.IntN.{ℤ, pos, _+ℤ_, _*ℤ_}
+use lib.IntN.{pos, _+ℤ_, _*ℤ_}
 use lib.ListN.{length}
 use mir.Syntax.{w32}
 use mir.Val.{toZ, ofZ}
@@ -18,31 +17,26 @@ use Rattle.line.proofs.Apart.{steps-apart}
 use Rattle.line.proofs.Lengths.{points-most, toward-size}
 use Rattle.framebuffer.specs.declared.Steps.{Steps}
 use Rattle.framebuffer.specs.Judged.{Ready}
+use Rattle.framebuffer.specs.Window.{inWindow}
 use Rattle.framebuffer.proofs.Windows.{within-small}
-use Rattle.drawing.specs.Clipped.{LineSteps}
-use Rattle.drawing.specs.Figure.{lineFigure}
-use Rattle.drawing.proofs.Figures.{line-walked, inside-adds, inside-one, none-earlier, Along, along-start, along-turn, along-skip, along-end}
-use Rattle.drawing.proofs.Clipped.{out-before, out-after}
+use Rattle.drawing.specs.Clipped.{InnerSteps}
+use Rattle.drawing.proofs.Figures.{line-walked, Along, along-start, along-inside, along-skip, along-count, none, along-all}
+use Rattle.drawing.proofs.Clipped.{inner-in, out-before, out-after, out-none}
 use Rattle.drawing.proofs.Level.{upright-at}
 use Rattle.drawing.proofs.draw_upright.Statement.{statement}
 use Rattle.drawing.proofs.draw_upright.Tie as tie
 
--- no figure comes before it
-abbrev none : ℤ → ℤ → Bool
-none x y = false
-
--- the locals are the column, the first row and the way of an upright line, whose steps end with `past`
-record Column (s e : Point) (x from on past : ℕ) : Type 0 where
+-- the locals are the column, the first row and the way of an upright line
+record Column (s e : Point) (x from on : ℕ) : Type 0 where
   start : Bounded s
   end : Bounded e
   upright : s .0 ≡ e .0
   column : toZ w32 x ≡ s .0
   row : toZ w32 from ≡ s .1
   way : toZ w32 on ≡ toward (s .1) (e .1)
-  most : past ≤ points s e
 
 -- the row of step k, as it is worked out
-module _ {s e : Point} {x from on past : ℕ} (line : Column s e x from on past) (k : ℕ) (few : k ≤ 262144) where
+module _ {s e : Point} {x from on : ℕ} (line : Column s e x from on) (k : ℕ) (few : k ≤ 262144) where
   moved : Has w32 (toZ w32 on *ℤ toZ w32 k) (toward (s .1) (e .1) *ℤ pos k) 262144
   moved = times (record { is = line .way; size = toward-size (s .1) (e .1); room = omega arith }) (same-bits few tt) tt
 
@@ -50,88 +44,104 @@ module _ {s e : Point} {x from on past : ℕ} (line : Column s e x from on past)
   row-at = plus (record { is = line .row; size = coord-size (line .start .y); room = omega arith }) (back moved) tt
 
 abbrev Inv-loop : tie.InvT-loop
-Inv-loop buf₀ brush past x from on seen₀ k₀ buf seen k =
-    (length buf ≡ length buf₀) × (seen ≤ k)
-    × ((s e : Point) → Column s e x from on past → k₀ ≤ points s e → Ready brush (length buf₀) → Along brush none (pointAt s e) buf₀ k₀ 0 buf₀
-    → Along brush none (pointAt s e) buf₀ k seen buf × (k ≤ points s e))
+Inv-loop buf₀ brush first past x from on k₀ buf k =
+    (length buf ≡ length buf₀) × (first ≤ k) × (k ≤ past)
+    × ((s e : Point) → InnerSteps (brush .window) s e (record { from = first; past = past }) → Column s e x from on → Ready brush (length buf₀)
+    → Along brush none (pointAt s e) buf₀ first 0 buf₀ → Along brush none (pointAt s e) buf₀ k (k - first) buf)
 
 abbrev μ-loop : tie.MeasureT-loop
-μ-loop buf₀ brush past x from on seen₀ k₀ buf seen k = past - k
+μ-loop buf₀ brush first past x from on k₀ buf k = past - k
 
-line-steps-requires : tie.Need-line-steps-requires Inv-loop μ-loop
-line-steps-requires c κs = let s = c .before in (within-small (s .pre .0 .within) (s .pre .0 .drawable .accepted .described), s .pre .1)
+inner-steps-requires : tie.Need-inner-steps-requires Inv-loop μ-loop
+inner-steps-requires c κs = let s = c .before in (within-small (s .pre .0 .within) (s .pre .0 .drawable .accepted .described), s .pre .1)
 
-direction-requires : tie.Need-direction-requires Inv-loop μ-loop
-direction-requires c κs = search needs
-
--- the steps that are walked, and the line
-module _ (c : tie.After-direction Inv-loop μ-loop) where
-  abbrev l : tie.After-line-steps Inv-loop μ-loop
-  l = c .before .before .before .before
-
+-- the steps that are walked
+module _ (c : tie.After-inner-steps Inv-loop μ-loop) where
   abbrev entry : tie.Start Inv-loop μ-loop
-  entry = l .before .before
+  entry = c .before .before
 
   abbrev path : ℕ → Point
   path = pointAt (entry .args .start) (entry .args .end)
 
   abbrev steps : Steps
-  steps = l .line-steps .result
+  steps = c .inner-steps .result
 
-  clipped : LineSteps (entry .args .brush .window) (entry .args .start) (entry .args .end) steps
-  clipped = l .line-steps .ensures
+  inner : InnerSteps (entry .args .brush .window) (entry .args .start) (entry .args .end) steps
+  inner = c .inner-steps .ensures
 
-  begun : Along (entry .args .brush) none path (entry .args .buf .now) (steps .from) 0 (entry .args .buf .now)
-  begun =
-      along-skip (entry .pre .0) none path (entry .args .buf .now) (along-start (entry .pre .0) none path (entry .args .buf .now)) (steps .from) (omega arith)
-      (λ i h before. out-before clipped i (omega (arith, clipped .held .first)) before)
+  few-steps : steps .past ≤ 262144
+  few-steps = omega (arith, inner .most, points-most (entry .pre .1 .0) (entry .pre .1 .1))
 
-  it : Column (entry .args .start) (entry .args .end) (ofZ w32 (entry .args .start .0)) (ofZ w32 (entry .args .start .1)) (ofZ w32 (c .direction .result)) (steps .past)
+  begun : Along (entry .args .brush) none path (entry .args .buf .now) 0 0 (entry .args .buf .now)
+  begun = along-start (entry .pre .0) none path (entry .args .buf .now)
+
+returns : tie.Need-returns Inv-loop μ-loop
+returns c =
+    let l = c .before in
+    let s = entry l in
+    let a = s .args in
+    along-all (s .pre .0) (path l) (a .buf .now)
+    (along-skip (s .pre .0) none (path l) (a .buf .now) (begun l) (points (a .start) (a .end)) (omega arith) (λ i h few. out-none (inner l) (c .if1 .taken) i few))
+    (line-walked (a .start) (a .end))
+
+direction-requires : tie.Need-direction-requires Inv-loop μ-loop
+direction-requires c κs = search needs
+
+-- the line, as the locals have it
+module _ (c : tie.After-direction Inv-loop μ-loop) where
+  abbrev l : tie.After-inner-steps Inv-loop μ-loop
+  l = c .before .before .before .before .before
+
+  it : Column (entry l .args .start) (entry l .args .end) (ofZ w32 (entry l .args .start .0)) (ofZ w32 (entry l .args .start .1)) (ofZ w32 (c .direction .result))
   it =
-      let b = entry .pre .1 in
+      let b = entry l .pre .1 in
       let kept : toZ w32 (ofZ w32 (c .direction .result)) ≡ c .direction .result = search needs in
       record {
         start = b .0;
         end = b .1;
-        upright = entry .pre .2;
+        upright = entry l .pre .2;
         column = back (coord (b .0 .x)) .is;
         row = back (coord (b .0 .y)) .is;
         way = kept ∙ c .direction .ensures ∙ ap₂ toward (back (coord (b .0 .y)) .is) (back (coord (b .1 .y)) .is);
-        most = clipped .held .most;
       }
 
 loop-holds : tie.Need-loop-holds Inv-loop μ-loop
-loop-holds c = (refl, omega arith, λ s e line few ok a. (a, few))
+loop-holds c =
+    let first = steps (l c) .from in
+    let none-yet : 0 ≡ first - first = omega arith in
+    (refl, omega arith, omega (arith, c .before .before .before .before .if1 .left), λ s e i line ok a. along-count none-yet a)
 
-few-steps : (c : tie.In-loop Inv-loop μ-loop) → c .before .loop .k ≤ 262143
-few-steps c = let d = c .before .before in omega (arith, clipped d .held .most, points-most (entry d .pre .1 .0) (entry d .pre .1 .1))
+few-now : (c : tie.In-loop Inv-loop μ-loop) → c .before .loop .k ≤ 262143
+few-now c = omega (arith, few-steps (l (c .before .before)))
 
 cast-y : tie.Need-cast-y Inv-loop μ-loop
-cast-y c = record { sfits = omega (arith, few-steps c) }
+cast-y c = record { sfits = omega (arith, few-now c) }
 
 mul-y : tie.Need-mul-y Inv-loop μ-loop
-mul-y c = fits (moved (it (c .before .before)) (c .before .loop .k) (omega (arith, few-steps c)))
+mul-y c = fits (moved (it (c .before .before)) (c .before .loop .k) (omega (arith, few-now c)))
 
 add-y : tie.Need-add-y Inv-loop μ-loop
-add-y c = fits (row-at (it (c .before .before)) (c .before .loop .k) (omega (arith, few-steps c)))
+add-y c = fits (row-at (it (c .before .before)) (c .before .loop .k) (omega (arith, few-now c)))
 
-put-point-requires : tie.Need-put-point-requires Inv-loop μ-loop
-put-point-requires c κs =
-    let h = c .before .before in
-    let s = entry (h .before) in
-    subst (Ready (s .args .brush)) (sym (h .loop .inv .0)) (s .pre .0)
+-- the place that is worked out is the step's
+here : {s e : Point} {x from on : ℕ} (line : Column s e x from on) (k : ℕ) → k ≤ major s e → (few : k ≤ 262144)
+    → (toZ w32 x, toZ w32 (ofZ w32 (toZ w32 from +ℤ toZ w32 (ofZ w32 (toZ w32 on *ℤ toZ w32 k))))) ≡ pointAt s e k
+here {s} {e} line k walked few = (λ i. (line .column i, back (row-at line k few) .is i)) ∙ sym (upright-at s e k (line .upright) walked)
 
-cast-seen : tie.Need-cast-seen Inv-loop μ-loop
-cast-seen c = tt
-
-add-seen : tie.Need-add-seen Inv-loop μ-loop
-add-seen c =
-    let put = c .before .before in
-    let h = put .before .before in
-    omega (arith, few-steps h, h .before .loop .inv .1, inside-one (put .put-point .result))
+set-point-requires : tie.Need-set-point-requires Inv-loop μ-loop
+set-point-requires c κs =
+    let turn = c .before in
+    let h = turn .before in
+    let d = h .before in
+    let s = entry (l d) in
+    let a = s .args in (
+      subst (Ready (a .brush)) (sym (h .loop .inv .0)) (s .pre .0),
+      ap (λ (p : Point). inWindow (a .brush .window) (p .0) (p .1)) (here (it d) (h .loop .k) (omega (arith, inner (l d) .most)) (omega (arith, few-now turn)))
+          ∙ inner-in (inner (l d)) (h .loop .k) (h .loop .inv .1) (omega arith),
+    )
 
 add-k : tie.Need-add-k Inv-loop μ-loop
-add-k c = omega (arith, few-steps (c .before .before .before .before))
+add-k c = omega (arith, few-now (c .before .before .before .before))
 
 loop-less : tie.Need-loop-less Inv-loop μ-loop
 loop-less c = search needs
@@ -141,36 +151,39 @@ loop-again c =
     let put = c .before .before in
     let turn = put .before .before in
     let h = turn .before in
-    let a = entry (h .before) .args in (
-      put .put-point .kept .0 ∙ h .loop .inv .0,
-      omega (arith, h .loop .inv .1, inside-one (put .put-point .result)),
-      λ s e line few ok b.
-          let i = h .loop .inv .2 s e line few ok b in
-          let walked : h .loop .k ≤ major s e = omega (arith, line .most) in
-          let y = back (row-at line (h .loop .k) (omega (arith, few-steps turn))) .is in (
-            along-turn ok none (pointAt s e) (a .buf .now) (i .0) ((λ i. (line .column i, y i)) ∙ sym (upright-at s e (h .loop .k) (line .upright) walked))
-                (λ j l e′. let z = steps-apart s e (h .loop .k) j e′ in omega arith)
-                (put .put-point .ensures .0) (inside-adds (put .put-point .result)) (put .put-point .ensures .1),
-            omega arith,
-          ),
+    let a = entry (l (h .before)) .args in
+    let more : h .loop .k - steps (l (h .before)) .from + 1 ≡ h .loop .k + 1 - steps (l (h .before)) .from = omega (arith, h .loop .inv .1) in (
+      put .set-point .kept .0 ∙ h .loop .inv .0,
+      omega (arith, h .loop .inv .1),
+      omega arith,
+      λ s e i line ok b.
+          along-count more
+          (along-inside ok none (pointAt s e) (a .buf .now) (h .loop .inv .3 s e i line ok b) (here line (h .loop .k) (omega (arith, i .most)) (omega (arith, few-now turn)))
+          (λ j l e′. let z = steps-apart s e (h .loop .k) j e′ in omega arith)
+          (inner-in i (h .loop .k) (h .loop .inv .1) (omega arith)) refl (put .set-point .ensures)),
     )
+
+sub-result : tie.Need-sub-result Inv-loop μ-loop
+sub-result c = search needs
 
 same-length : tie.Need-same-length Inv-loop μ-loop
 same-length c = c .before .loop .inv .0
 
-returns : tie.Need-returns Inv-loop μ-loop
-returns c =
+returns-2 : tie.Need-returns-2 Inv-loop μ-loop
+returns-2 c =
     let h = c .before in
     let d = h .before in
-    let s = entry d in
+    let s = entry (l d) in
     let a = s .args in
-    let i = h .loop .inv .2 (a .start) (a .end) (it d) (clipped d .held .first) (s .pre .0) (begun d) in
-    let all : steps d .past ≤ h .loop .k = omega arith in
-    let r =
-    along-end (s .pre .0) none (path d) (a .buf .now)
-    (along-skip (s .pre .0) none (path d) (a .buf .now) (i .0) (points (a .start) (a .end)) (i .1) (λ j l few. out-after (clipped d) j few (omega arith)))
-    refl (line-walked (a .start) (a .end)) in
-    none-earlier (a .brush) (lineFigure (a .start) (a .end)) (a .buf .now) (r .0) (r .1)
+    let all : h .loop .k ≡ steps (l d) .past = omega (arith, h .loop .inv .2) in
+    let from =
+    along-skip (s .pre .0) none (path (l d)) (a .buf .now) (begun (l d)) (steps (l d) .from) (omega arith)
+    (λ i h before. out-before (inner (l d)) i (omega (arith, inner (l d) .first)) before) in
+    along-all (s .pre .0) (path (l d)) (a .buf .now)
+    (along-skip (s .pre .0) none (path (l d)) (a .buf .now)
+    (subst (λ (n : ℕ). Along (a .brush) none (path (l d)) (a .buf .now) n (n - steps (l d) .from) (h .loop .buf)) all (h .loop .inv .3 (a .start) (a .end) (inner (l d)) (it d) (s .pre .0) from))
+    (points (a .start) (a .end)) (inner (l d) .most) (λ i k few. out-after (inner (l d)) i few k))
+    (line-walked (a .start) (a .end))
 
 pub draw-upright-spec : {M : Type 1} → statement M
 draw-upright-spec =
@@ -178,17 +191,17 @@ draw-upright-spec =
     (tie.spec
     Inv-loop
     μ-loop
-    line-steps-requires
+    inner-steps-requires
+    returns
     direction-requires
     loop-holds
     cast-y
     mul-y
     add-y
-    put-point-requires
-    cast-seen
-    add-seen
+    set-point-requires
     add-k
     loop-less
     loop-again
+    sub-result
     same-length
-    returns)
+    returns-2)

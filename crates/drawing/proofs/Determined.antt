@@ -1,15 +1,11 @@
 -- Each public contract determines its answer and every byte of the buffer: any two outcomes that it allows of the same arguments are equal. `Post`
--- is the contract as the source states it. So do those of `line_steps` and `inner_steps`, which are told by their ends. Assumes nothing.
-use Rattle.whole.proofs.Determined.{One, OneBuffer, same}
-use Rattle.framebuffer.proofs.Interval.{held-one}
+-- is the contract as the source states it. Assumes nothing.
+use Rattle.whole.proofs.Determined.{OneBuffer, same}
 use Rattle.drawing.proofs.draw_line.Reads as draw-line
 use Rattle.drawing.proofs.draw_connected_line.Reads as draw-connected-line
 use Rattle.drawing.proofs.draw_triangle.Reads as draw-triangle
 use Rattle.drawing.proofs.draw_outline.Reads as draw-outline
 use Rattle.drawing.proofs.draw_circle.Reads as draw-circle
-use Rattle.drawing.proofs.line_steps.Reads as line-steps
-use Rattle.drawing.proofs.inner_steps.Reads as inner-steps
-use Rattle.drawing.proofs.Clipped.{inner-one}
 
 pub draw-line-one : OneBuffer draw-line.Post
 draw-line-one κs args r q s t = same
@@ -25,9 +21,3 @@ draw-outline-one κs args r q s t = same
 
 pub draw-circle-one : OneBuffer draw-circle.Post
 draw-circle-one κs args r q s t = same
-
-pub line-steps-one : One line-steps.Post
-line-steps-one κs args r q s t h g = held-one (h .held) (g .held)
-
-pub inner-steps-one : One inner-steps.Post
-inner-steps-one κs args r q s t h g = inner-one h g

@@ -1,5 +1,4 @@
 pub mod Figures
-pub mod Clipped
 pub mod Level
 pub mod Rows
 pub mod Fill

@@ -1,4 +1,3 @@
 pub mod Figure
-pub mod Clipped
 pub mod Earlier
 pub mod Drawing

@@ -3,14 +3,11 @@
 ghost use mathlib.Core.Path.{_≡_};
 ghost use mathlib.Core.Bool.{true};
 ghost use mathlib.Core.List.{_++_};
-ghost use Prim.Native.Nat.{ℕ, _+_, _-_, _≤_, max, min};
-ghost use lib.Dec.{leb};
-ghost use lib.IntN.{natAbs, _-ℤ_};
+ghost use Prim.Native.Nat.{ℕ, _-_, _≤_};
 ghost use lib.ListN.{length};
-ghost use lib.Signed.{leZ, _≤ℤ_};
+ghost use lib.Signed.{_≤ℤ_};
 ghost use Rattle.refusals.specs.First.{first};
-ghost use Rattle.geometry.specs.Bound.{Coord, Bounded};
-ghost use Rattle.line.specs.Line.{moves};
+ghost use Rattle.geometry.specs.Bound.{Bounded};
 ghost use Rattle.line.specs.Answer.{endTests};
 ghost use Rattle.triangle.specs.Answer.{vertexTests};
 ghost use Rattle.circle.specs.Refusal.{Fits, circleTests};
@@ -19,7 +16,6 @@ ghost use Rattle.framebuffer.specs.Drawing.{outcome};
 ghost use Rattle.framebuffer.specs.Interval.{Held};
 ghost use Rattle.framebuffer.specs.Judged.{Over, OverSome, Ready, brushed};
 ghost use Rattle.framebuffer.specs.Window.{wholeWindow};
-ghost use Rattle.drawing.specs.Clipped.{LineSteps, Common, InnerSteps};
 ghost use Rattle.drawing.specs.Earlier.{Ends, earlierFigure, newIn};
 ghost use Rattle.drawing.specs.Figure.{lineFigure, connectedFigure, outlineFigure, triangleFigure, circleFigure};
 ghost use Rattle.drawing.specs.Drawing.{lineDrawing, connectedDrawing, outlineDrawing, triangleDrawing, circleDrawing};
@@ -28,7 +24,6 @@ use framebuffer::Canvas;
 use framebuffer::Drawn;
 use framebuffer::Frame;
 use framebuffer::Steps;
-use framebuffer::Window;
 use geometry::Point;
 
 // The edges of an outline that are drawn already: the line a to b, and with the second one the line b to c too.
@@ -55,98 +50,13 @@ impl Earlier {
     }
 }
 
-// ---- the steps of a line that lead into the rectangle
-
-// Of the moves of a coordinate from a to b, one place each, those that lead to a place from low to one before high.
-fn axis_steps(a: i32, b: i32, low: u32, high: u32) -> Steps
-    requires { ⌜ (Coord a × Coord b) × (low ≤ 2048) × (high ≤ 2048) ⌝ }
-    ensures { λ r. ⌜ Held a (leZ a b) low high (natAbs (b -ℤ a) + 1) r ⌝ }
-{
-    framebuffer::held(a, a <= b, low, high, line::distance(a, b) as u32 + 1)
-}
-
-// The steps of an accepted line on which its major coordinate is one of the rectangle's. No other step leads into the rectangle.
-fn line_steps(window: Window, start: Point, end: Point) -> Steps
-    requires { ⌜ ((window .left ≤ window .right) × (window .right ≤ 2048) × (window .top ≤ window .bottom) × (window .bottom ≤ 2048)) × (Bounded start × Bounded end) ⌝ }
-    ensures { λ r. ⌜ LineSteps window start end r ⌝ }
-{
-    let x0 = start.0;
-    let y0 = start.1;
-    let x1 = end.0;
-    let y1 = end.1;
-    let wide = line::distance(x0, x1);
-    let high = line::distance(y0, y1);
-    if wide <= high {
-        return axis_steps(y0, y1, window.top, window.bottom);
-    }
-    axis_steps(x0, x1, window.left, window.right)
-}
-
-fn larger(a: u32, b: u32) -> u32
-    ensures { λ r. ⌜ r ≡ max a b ⌝ }
-{
-    if a < b { b } else { a }
-}
-
-fn smaller(a: u32, b: u32) -> u32
-    ensures { λ r. ⌜ r ≡ min a b ⌝ }
-{
-    if b < a { b } else { a }
-}
-
-// The first step of a line of these lengths that has made so many moves along the minor axis, or one past its last.
-fn step_with(major: u32, minor: u32, moved: u32) -> u32
-    requires { ⌜ (major ≤ 262144) × (minor ≤ major) ⌝ }
-    ensures { λ r. ⌜ (r ≤ major + 1) × ((k : ℕ) → k ≤ major → leb r k ≡ leb moved (moves major minor k)) ⌝ }
-{
-    if minor < moved {
-        return major + 1;
-    }
-    line::first_with(major, minor, moved)
-}
-
-// The steps of a line of these lengths that `along` has, and at which `across` has the moves along the minor axis.
-fn common_steps(major: u32, minor: u32, along: Steps, across: Steps) -> Steps
-    requires { ⌜ (major ≤ 262144) × (minor ≤ major) × (along .from ≤ major + 1) × (along .past ≤ major + 1) ⌝ }
-    ensures { λ r. ⌜ Common major minor along across r ⌝ }
-{
-    let from = step_with(major, minor, across.from);
-    let past = step_with(major, minor, across.past);
-    Steps {
-        from: larger(along.from, from),
-        past: smaller(along.past, past),
-    }
-}
-
-// The steps of an accepted line that lead into the rectangle. Both coordinates move one way only, so that these follow one another: a line is walked from the first of
-// them to the last, however long it is, and no place is asked for by itself.
-fn inner_steps(window: Window, start: Point, end: Point) -> Steps
-    requires { ⌜ ((window .left ≤ window .right) × (window .right ≤ 2048) × (window .top ≤ window .bottom) × (window .bottom ≤ 2048)) × (Bounded start × Bounded end) ⌝ }
-    ensures { λ r. ⌜ InnerSteps window start end r ⌝ }
-{
-    let x0 = start.0;
-    let y0 = start.1;
-    let x1 = end.0;
-    let y1 = end.1;
-    let wide = line::distance(x0, x1) as u32;
-    let high = line::distance(y0, y1) as u32;
-    let columns = axis_steps(x0, x1, window.left, window.right);
-    let rows = axis_steps(y0, y1, window.top, window.bottom);
-    if wide <= high {
-        return common_steps(high, wide, rows, columns);
-    }
-    common_steps(wide, high, columns, rows)
-}
-
-// ---- lines
-
 // The points of an accepted edge, as far as the rectangle holds them; and how many of these are on no earlier edge.
 fn draw_edge(buf: &mut [u8], brush: Brush, earlier: Earlier, start: Point, end: Point) -> u32
     requires { ⌜ Ready brush (length (now buf)) × Ends earlier × (Bounded start × Bounded end) ⌝ }
     ensures { λ r. ⌜ (r ≡ brushed brush (newIn (earlierFigure earlier) (lineFigure start end)) (now (buf .entry)) .0)
         × (now (buf .exit) ≡ brushed brush (lineFigure start end) (now (buf .entry)) .1) ⌝ }
 {
-    let steps = inner_steps(brush.window, start, end);
+    let steps = clips::inner_steps(brush.window, start, end);
     let past = steps.past;
     let mut k = steps.from;
     if past <= k {
@@ -179,7 +89,7 @@ fn draw_upright(buf: &mut [u8], brush: Brush, start: Point, end: Point) -> u32
     requires { ⌜ Ready brush (length (now buf)) × (Bounded start × Bounded end) × (start .0 ≡ end .0) ⌝ }
     ensures { λ r. ⌜ (r, now (buf .exit)) ≡ brushed brush (lineFigure start end) (now (buf .entry)) ⌝ }
 {
-    let steps = inner_steps(brush.window, start, end);
+    let steps = clips::inner_steps(brush.window, start, end);
     let first = steps.from;
     let past = steps.past;
     if past <= first {
@@ -202,7 +112,7 @@ fn draw_slanting(buf: &mut [u8], brush: Brush, start: Point, end: Point) -> u32
     requires { ⌜ Ready brush (length (now buf)) × (Bounded start × Bounded end) ⌝ }
     ensures { λ r. ⌜ (r, now (buf .exit)) ≡ brushed brush (lineFigure start end) (now (buf .entry)) ⌝ }
 {
-    let steps = inner_steps(brush.window, start, end);
+    let steps = clips::inner_steps(brush.window, start, end);
     let first = steps.from;
     let past = steps.past;
     if past <= first {
@@ -284,7 +194,7 @@ fn draw_connected(buf: &mut [u8], brush: Brush, start: Point, end: Point) -> u32
     requires { ⌜ Ready brush (length (now buf)) × (Bounded start × Bounded end) ⌝ }
     ensures { λ r. ⌜ (r, now (buf .exit)) ≡ brushed brush (connectedFigure start end) (now (buf .entry)) ⌝ }
 {
-    let steps = line_steps(brush.window, start, end);
+    let steps = clips::line_steps(brush.window, start, end);
     if steps.past <= steps.from {
         return 0;
     }

@@ -16,9 +16,9 @@ use Rattle.connected.proofs.Members.{distinct}
 use Rattle.framebuffer.specs.declared.Steps.{Steps}
 use Rattle.framebuffer.specs.Judged.{Ready}
 use Rattle.framebuffer.proofs.Windows.{within-small}
-use Rattle.drawing.specs.Clipped.{LineSteps}
+use Rattle.clips.specs.Steps.{LineSteps}
 use Rattle.drawing.proofs.Figures.{connected-walked, inside-adds, inside-one, Along, along-start, along-turn, along-skip, none, along-all}
-use Rattle.drawing.proofs.Clipped.{connected-before, connected-after, connected-none}
+use Rattle.clips.proofs.Steps.{connected-before, connected-after, connected-none}
 use Rattle.drawing.proofs.draw_connected.Statement.{statement}
 use Rattle.drawing.proofs.draw_connected.Tie as tie
 

@@ -19,9 +19,9 @@ use Rattle.framebuffer.specs.declared.Steps.{Steps}
 use Rattle.framebuffer.specs.Judged.{Ready}
 use Rattle.framebuffer.specs.Window.{inWindow}
 use Rattle.framebuffer.proofs.Windows.{within-small}
-use Rattle.drawing.specs.Clipped.{InnerSteps}
+use Rattle.clips.specs.Steps.{InnerSteps}
 use Rattle.drawing.proofs.Figures.{line-walked, Along, along-start, along-inside, along-skip, along-count, none, along-all}
-use Rattle.drawing.proofs.Clipped.{inner-in, out-before, out-after, out-none}
+use Rattle.clips.proofs.Steps.{inner-in, out-before, out-after, out-none}
 use Rattle.drawing.proofs.Level.{upright-at}
 use Rattle.drawing.proofs.draw_upright.Statement.{statement}
 use Rattle.drawing.proofs.draw_upright.Tie as tie

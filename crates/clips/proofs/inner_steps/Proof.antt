@@ -1,4 +1,4 @@
--- `drawing::inner_steps` asks for the moves along each axis, and puts them together by the major one. Assumes nothing.
+-- `clips::inner_steps` asks for the moves along each axis, and puts them together by the major one. Assumes nothing.
 use mathlib.Core.Path.{_≡_, refl, sym, _∙_}
 use mathlib.Core.Bool.{true, false}
 use Prim.Native.Nat.{ℕ, _+_, _≤_}
@@ -13,10 +13,10 @@ use Rattle.geometry.specs.declared.Point.{Point}
 use Rattle.geometry.proofs.Bound.{coord}
 use Rattle.line.specs.Line.{wide, high, steep}
 use Rattle.line.proofs.Lengths.{wide-of, high-of, wide-size, high-size}
-use Rattle.drawing.specs.Clipped.{AxisSteps}
-use Rattle.drawing.proofs.Clipped.{coord-read, axisLength, axis-length, inner-steps}
-use Rattle.drawing.proofs.inner_steps.Statement.{statement}
-use Rattle.drawing.proofs.inner_steps.Tie as tie
+use Rattle.clips.specs.Steps.{AxisSteps}
+use Rattle.clips.proofs.Steps.{coord-read, axisLength, axis-length, inner-steps}
+use Rattle.clips.proofs.inner_steps.Statement.{statement}
+use Rattle.clips.proofs.inner_steps.Tie as tie
 
 distance-requires : tie.Need-distance-requires
 distance-requires c κs = search needs

@@ -1,4 +1,4 @@
--- `drawing::axis_steps` counts the places from a to b, and asks for the steps along them. Assumes nothing.
+-- `clips::axis_steps` counts the places from a to b, and asks for the steps along them. Assumes nothing.
 use Prim.Native.Nat.{_≤_}
 use native.Mathlib.Omega.{arith}
 use lib.IntN.{pos, natAbs, _-ℤ_}
@@ -7,9 +7,9 @@ use mir.Syntax.{w32}
 use mir.Val.{toZ, ofZ}
 use Rattle.whole.proofs.Machine.{Has, to-nat, nat-is}
 use Rattle.line.proofs.Lengths.{nearly}
-use Rattle.drawing.proofs.Clipped.{coord-read}
-use Rattle.drawing.proofs.axis_steps.Statement.{statement}
-use Rattle.drawing.proofs.axis_steps.Tie as tie
+use Rattle.clips.proofs.Steps.{coord-read}
+use Rattle.clips.proofs.axis_steps.Statement.{statement}
+use Rattle.clips.proofs.axis_steps.Tie as tie
 
 distance-requires : tie.Need-distance-requires
 distance-requires c κs = (coord-read (c .pre .0 .0), coord-read (c .pre .0 .1))

@@ -29,7 +29,7 @@ use Rattle.framebuffer.specs.declared.Window.{Window}
 use Rattle.framebuffer.specs.Interval.{onFrom, come, stays}
 use Rattle.framebuffer.specs.Window.{inWindow}
 use Rattle.framebuffer.proofs.Interval.{isStep, held-exactly, one-interval, step-before, step-after}
-use Rattle.drawing.specs.Clipped.{axisOf, axisFrom, axisPast, AxisSteps, LineSteps, Common, comeAlong, staysAlong, InnerSteps}
+use Rattle.clips.specs.Steps.{axisOf, axisFrom, axisPast, AxisSteps, LineSteps, Common, comeAlong, staysAlong, InnerSteps}
 
 -- ---- a coordinate as it is read
 pub coord-read : {z : ℤ} → Coord z → Coord (toZ w32 (ofZ w32 z))

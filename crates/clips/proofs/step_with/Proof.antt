@@ -1,9 +1,9 @@
--- `drawing::step_with` is past the last step for more moves than the line makes, and else the first with so many. Assumes nothing.
+-- `clips::step_with` is past the last step for more moves than the line makes, and else the first with so many. Assumes nothing.
 use mathlib.Core.Path.{sym, subst}
 use borrow.Author.Needs.{needs}
-use Rattle.drawing.proofs.Clipped.{StepWith, step-past, step-first}
-use Rattle.drawing.proofs.step_with.Statement.{statement}
-use Rattle.drawing.proofs.step_with.Tie as tie
+use Rattle.clips.proofs.Steps.{StepWith, step-past, step-first}
+use Rattle.clips.proofs.step_with.Statement.{statement}
+use Rattle.clips.proofs.step_with.Tie as tie
 
 add-result : tie.Need-add-result
 add-result c = search needs

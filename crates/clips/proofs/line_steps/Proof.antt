@@ -1,4 +1,4 @@
--- `drawing::line_steps` finds the major axis and asks for the steps along it. Assumes nothing.
+-- `clips::line_steps` finds the major axis and asks for the steps along it. Assumes nothing.
 use mathlib.Core.Path.{_≡_, sym, _∙_}
 use native.Mathlib.Omega.{arith}
 use lib.IntN.{pos}
@@ -10,9 +10,9 @@ use Rattle.whole.proofs.Machine.{Has, back, tests-le}
 use Rattle.geometry.proofs.Bound.{coord}
 use Rattle.line.specs.Line.{wide, high, steep}
 use Rattle.line.proofs.Lengths.{wide-of, high-of}
-use Rattle.drawing.proofs.Clipped.{coord-read, line-steps}
-use Rattle.drawing.proofs.line_steps.Statement.{statement}
-use Rattle.drawing.proofs.line_steps.Tie as tie
+use Rattle.clips.proofs.Steps.{coord-read, line-steps}
+use Rattle.clips.proofs.line_steps.Statement.{statement}
+use Rattle.clips.proofs.line_steps.Tie as tie
 
 distance-requires : tie.Need-distance-requires
 distance-requires c κs = search needs

@@ -1,8 +1,8 @@
--- `drawing::common_steps` turns moves along the minor axis into steps, and takes the larger first and the smaller last. Assumes nothing.
+-- `clips::common_steps` turns moves along the minor axis into steps, and takes the larger first and the smaller last. Assumes nothing.
 use borrow.Author.Needs.{needs}
-use Rattle.drawing.proofs.Clipped.{common}
-use Rattle.drawing.proofs.common_steps.Statement.{statement}
-use Rattle.drawing.proofs.common_steps.Tie as tie
+use Rattle.clips.proofs.Steps.{common}
+use Rattle.clips.proofs.common_steps.Statement.{statement}
+use Rattle.clips.proofs.common_steps.Tie as tie
 
 step-with-requires : tie.Need-step-with-requires
 step-with-requires c κs = search needs

@@ -1,0 +1,95 @@
+// Which steps of a line lead into a rectangle of a frame. Both coordinates of a line move one way only, so that these steps follow one another, and they are worked out
+// from the line's ends.
+ghost use mathlib.Core.Path.{_≡_};
+ghost use Prim.Native.Nat.{ℕ, _+_, _≤_, max, min};
+ghost use lib.Dec.{leb};
+ghost use lib.IntN.{natAbs, _-ℤ_};
+ghost use lib.Signed.{leZ};
+ghost use Rattle.geometry.specs.Bound.{Coord, Bounded};
+ghost use Rattle.line.specs.Line.{moves};
+ghost use Rattle.framebuffer.specs.Interval.{Held};
+ghost use Rattle.clips.specs.Steps.{LineSteps, Common, InnerSteps};
+use framebuffer::Steps;
+use framebuffer::Window;
+use geometry::Point;
+
+// Of the moves of a coordinate from a to b, one place each, those that lead to a place from low to one before high.
+fn axis_steps(a: i32, b: i32, low: u32, high: u32) -> Steps
+    requires { ⌜ (Coord a × Coord b) × (low ≤ 2048) × (high ≤ 2048) ⌝ }
+    ensures { λ r. ⌜ Held a (leZ a b) low high (natAbs (b -ℤ a) + 1) r ⌝ }
+{
+    framebuffer::held(a, a <= b, low, high, line::distance(a, b) as u32 + 1)
+}
+
+// Inside the library: the steps of an accepted line on which its major coordinate is one of the rectangle's. No other step leads into the rectangle.
+pub fn line_steps(window: Window, start: Point, end: Point) -> Steps
+    requires { ⌜ ((window .left ≤ window .right) × (window .right ≤ 2048) × (window .top ≤ window .bottom) × (window .bottom ≤ 2048)) × (Bounded start × Bounded end) ⌝ }
+    ensures { λ r. ⌜ LineSteps window start end r ⌝ }
+{
+    let x0 = start.0;
+    let y0 = start.1;
+    let x1 = end.0;
+    let y1 = end.1;
+    let wide = line::distance(x0, x1);
+    let high = line::distance(y0, y1);
+    if wide <= high {
+        return axis_steps(y0, y1, window.top, window.bottom);
+    }
+    axis_steps(x0, x1, window.left, window.right)
+}
+
+fn larger(a: u32, b: u32) -> u32
+    ensures { λ r. ⌜ r ≡ max a b ⌝ }
+{
+    if a < b { b } else { a }
+}
+
+fn smaller(a: u32, b: u32) -> u32
+    ensures { λ r. ⌜ r ≡ min a b ⌝ }
+{
+    if b < a { b } else { a }
+}
+
+// The first step of a line of these lengths that has made so many moves along the minor axis, or one past its last.
+fn step_with(major: u32, minor: u32, moved: u32) -> u32
+    requires { ⌜ (major ≤ 262144) × (minor ≤ major) ⌝ }
+    ensures { λ r. ⌜ (r ≤ major + 1) × ((k : ℕ) → k ≤ major → leb r k ≡ leb moved (moves major minor k)) ⌝ }
+{
+    if minor < moved {
+        return major + 1;
+    }
+    line::first_with(major, minor, moved)
+}
+
+// The steps of a line of these lengths that `along` has, and at which `across` has the moves along the minor axis.
+fn common_steps(major: u32, minor: u32, along: Steps, across: Steps) -> Steps
+    requires { ⌜ (major ≤ 262144) × (minor ≤ major) × (along .from ≤ major + 1) × (along .past ≤ major + 1) ⌝ }
+    ensures { λ r. ⌜ Common major minor along across r ⌝ }
+{
+    let from = step_with(major, minor, across.from);
+    let past = step_with(major, minor, across.past);
+    Steps {
+        from: larger(along.from, from),
+        past: smaller(along.past, past),
+    }
+}
+
+// Inside the library: the steps of an accepted line that lead into the rectangle. A line is walked from the first of them to the last, however long it is, and no place
+// is asked for by itself.
+pub fn inner_steps(window: Window, start: Point, end: Point) -> Steps
+    requires { ⌜ ((window .left ≤ window .right) × (window .right ≤ 2048) × (window .top ≤ window .bottom) × (window .bottom ≤ 2048)) × (Bounded start × Bounded end) ⌝ }
+    ensures { λ r. ⌜ InnerSteps window start end r ⌝ }
+{
+    let x0 = start.0;
+    let y0 = start.1;
+    let x1 = end.0;
+    let y1 = end.1;
+    let wide = line::distance(x0, x1) as u32;
+    let high = line::distance(y0, y1) as u32;
+    let columns = axis_steps(x0, x1, window.left, window.right);
+    let rows = axis_steps(y0, y1, window.top, window.bottom);
+    if wide <= high {
+        return common_steps(high, wide, rows, columns);
+    }
+    common_steps(wide, high, columns, rows)
+}

@@ -16,11 +16,11 @@ use crate::{
 const LIBGD: &str = "libgd";
 const CAIRO: &str = "cairo";
 
-/// A library with frames of one depth.
+/// A library with frames of one depth. It may draw into the bytes of our frame, which are zero and outlive it.
 struct Peer {
     name: &'static str,
     depth: u32,
-    new: fn() -> Box<dyn Side>,
+    new: fn(&mut [u8]) -> Box<dyn Side>,
 }
 
 /// What is drawn beside which of them.
@@ -47,17 +47,17 @@ pub fn versions() -> [(&'static str, Option<String>); 2] {
 fn at_hand() -> Vec<Peer> {
     vec![
         #[cfg(libgd)]
-        Peer { name: LIBGD, depth: 8, new: || Box::new(gd::Image::palette()) },
+        Peer { name: LIBGD, depth: 8, new: |_| Box::new(gd::Image::palette()) },
         #[cfg(libgd)]
-        Peer { name: LIBGD, depth: 32, new: || Box::new(gd::Image::true_colour()) },
+        Peer { name: LIBGD, depth: 32, new: |_| Box::new(gd::Image::true_colour()) },
         #[cfg(libcairo)]
-        Peer { name: CAIRO, depth: 1, new: || Box::new(cairo::Surface::new(cairo::Format::A1)) },
+        Peer { name: CAIRO, depth: 1, new: |bytes| Box::new(cairo::Surface::over(bytes, cairo::Format::A1)) },
         #[cfg(libcairo)]
-        Peer { name: CAIRO, depth: 8, new: || Box::new(cairo::Surface::new(cairo::Format::A8)) },
+        Peer { name: CAIRO, depth: 8, new: |bytes| Box::new(cairo::Surface::over(bytes, cairo::Format::A8)) },
         #[cfg(libcairo)]
-        Peer { name: CAIRO, depth: 16, new: || Box::new(cairo::Surface::new(cairo::Format::Rgb16)) },
+        Peer { name: CAIRO, depth: 16, new: |bytes| Box::new(cairo::Surface::over(bytes, cairo::Format::Rgb16)) },
         #[cfg(libcairo)]
-        Peer { name: CAIRO, depth: 32, new: || Box::new(cairo::Surface::new(cairo::Format::Argb32)) },
+        Peer { name: CAIRO, depth: 32, new: |bytes| Box::new(cairo::Surface::over(bytes, cairo::Format::Argb32)) },
     ]
 }
 
@@ -97,13 +97,14 @@ fn contests() -> Vec<Contest> {
 
 fn race<'a>(contest: &Contest, peer: &Peer) -> Race<'a> {
     let name = format!("{}, depth {}", contest.name, peer.depth);
-    let sides: [Box<dyn Side>; 2] = [Box::new(Ours::new(peer.depth)), (peer.new)()];
-    let [ours, other] = sides.map(|mut side| {
-        side.draw(&contest.shapes);
-        side
-    });
-    about_as_many(&format!("{name}, {}", peer.name), ours.painted(), other.painted());
-    let [ours, other] = [ours, other].map(|side| drawing(side, contest.shapes.clone()));
+    let mut ours = Ours::having_drawn(peer.depth, &contest.shapes);
+    let painted = ours.painted();
+    ours.frame.bytes.fill(0);
+    let mut other = (peer.new)(&mut ours.frame.bytes);
+    other.draw(&contest.shapes);
+    about_as_many(&format!("{name}, {}", peer.name), painted, other.painted());
+    let sides: [Box<dyn Side>; 2] = [Box::new(ours), other];
+    let [ours, other] = sides.map(|side| drawing(side, contest.shapes.clone()));
     Race { name, against: peer.name, goal: Some(1.0), ours, other }
 }
 

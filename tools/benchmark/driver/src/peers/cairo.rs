@@ -25,7 +25,7 @@ struct CairoContext {
 #[rustfmt::skip]
 extern "C" {
     fn cairo_version_string() -> *const c_char;
-    fn cairo_image_surface_create(format: c_int, width: c_int, height: c_int) -> *mut CairoSurface;
+    fn cairo_image_surface_create_for_data(data: *mut u8, format: c_int, width: c_int, height: c_int, stride: c_int) -> *mut CairoSurface;
     fn cairo_image_surface_get_data(surface: *mut CairoSurface) -> *const u8;
     fn cairo_image_surface_get_stride(surface: *mut CairoSurface) -> c_int;
     fn cairo_surface_flush(surface: *mut CairoSurface);
@@ -82,9 +82,13 @@ pub struct Surface {
 }
 
 impl Surface {
-    pub fn new(format: Format) -> Self {
+    /// Draws into bytes that it is lent and that must outlive it, those of our own frame: the two take turns on one memory, whose pages favour neither.
+    pub fn over(bytes: &mut [u8], format: Format) -> Self {
+        let stride = SIDE * format.depth() as usize / 8;
+        assert_eq!(bytes.len(), stride * SIDE, "the surface needs other bytes");
         unsafe {
-            let surface = cairo_image_surface_create(format as c_int, SIDE as c_int, SIDE as c_int);
+            let (side, stride) = (SIDE as c_int, stride as c_int);
+            let surface = cairo_image_surface_create_for_data(bytes.as_mut_ptr(), format as c_int, side, side, stride);
             let context = cairo_create(surface);
             cairo_set_antialias(context, ANTIALIAS_NONE);
             cairo_set_operator(context, OPERATOR_SOURCE);

@@ -1,4 +1,5 @@
 pub mod Figures
+pub mod Lines
 pub mod Level
 pub mod Rows
 pub mod Fill

@@ -1,6 +1,6 @@
 -- Laws of the steps at which a line has made so many moves along its minor axis: M is the major and n the minor length, v the moves, k the step. From the first on it
 -- has made v moves or more, up to the last v or fewer. Assumes nothing.
-use mathlib.Core.Path.{_≡_, refl, sym, ap, _∙_}
+use mathlib.Core.Path.{_≡_, sym, ap, _∙_}
 use mathlib.Core.Logic.{_↔_, _⊎_, inl, inr, ⊎-elim}
 use Prim.Native.Nat.{ℕ, zero, suc, _+_, _*_, _-_, _≤_, _<_}
 use native.Mathlib.Nat.{le-div-iff-mul-le, mul-le-mul-left}
@@ -10,7 +10,7 @@ use borrow.Author.Tests.{le-leb, lt-leb}
 use Rattle.whole.proofs.Tests.{lt-or-ge}
 use Rattle.line.specs.Line.{moves}
 use Rattle.line.specs.Reach.{reach, reachFrom}
-use Rattle.line.proofs.Moves.{moves-none, moves-quotient}
+use Rattle.line.proofs.Moves.{moves-quotient}
 
 pub reaches : (M n v k : ℕ) → 0 < n → (k ≤ reach M n v) ↔ (2 * n * k ≤ 2 * M * v + M)
 unfolding reach

@@ -10,7 +10,7 @@ ghost use Rattle.geometry.specs.Bound.{Coord, Bounded};
 ghost use Rattle.geometry.specs.Answer.{verdict};
 ghost use Rattle.line.specs.Line.{toward, moves, major, minor, points, pointAt, onLine, hasPoint};
 ghost use Rattle.line.specs.Reach.{reach, reachFrom};
-ghost use Rattle.line.specs.Walk.{CourseOf, SomeCourse, Reachable, Near, standing, isDue, Stands, Moving, Walking, DueAt, WalkerAt};
+ghost use Rattle.line.specs.Walk.{CourseOf, SomeCourse, Reachable, Near, standing, isDue, Stands, Moving, Walking, WalkerAt};
 ghost use Rattle.line.specs.Answer.{endTests, stepTests, lengthAnswer, stepAnswer};
 use geometry::Point;
 use geometry::Verdict;

@@ -1,7 +1,7 @@
 -- An edge's points on one of its rows, as offsets along x from its start: the edge is w wide and h high, the row v below the start. They are the
 -- numbers from a first to a last, each by one division; on a row of an edge that is not level, what comes before the first lies before the ideal
 -- line, and what comes past the last lies past it. Assumes nothing.
-use mathlib.Core.Path.{_≡_, refl, sym, ap, subst}
+use mathlib.Core.Path.{_≡_, refl, sym, subst}
 use mathlib.Core.Bool.{Bool, true, false, cond}
 use mathlib.Core.Logic.{_↔_}
 use Prim.Native.Nat.{ℕ, zero, suc, _+_, _*_, _-_, _≤_, _<_, min}

@@ -8,10 +8,9 @@ use lib.ListN.{length}
 use mir.Val.{boolByte}
 use borrow.Author.Needs.{needs}
 use Rattle.geometry.specs.declared.Point.{Point}
-use Rattle.line.specs.Line.{points, pointAt}
+use Rattle.line.specs.Line.{pointAt}
 use Rattle.line.specs.Walk.{WalkerAt}
 use Rattle.line.proofs.Apart.{steps-apart}
-use Rattle.line.proofs.Lengths.{points-most}
 use Rattle.layout.specs.Count.{oneIf}
 use Rattle.layout.proofs.Counts.{one-small}
 use Rattle.framebuffer.specs.declared.Steps.{Steps}
@@ -20,8 +19,9 @@ use Rattle.framebuffer.specs.Window.{inWindow}
 use Rattle.framebuffer.proofs.Windows.{within-small}
 use Rattle.clips.specs.Steps.{InnerSteps}
 use Rattle.drawing.specs.Earlier.{earlierFigure}
-use Rattle.drawing.proofs.Figures.{line-walked, new-one, Along, along-start, along-inside, along-skip, along-end}
-use Rattle.clips.proofs.Steps.{inner-in, out-before, out-after, out-none}
+use Rattle.drawing.proofs.Figures.{new-one, Along, along-inside}
+use Rattle.drawing.proofs.Lines.{line-begun, edge-ended, edge-none, few-inner}
+use Rattle.clips.proofs.Steps.{inner-in}
 use Rattle.drawing.proofs.draw_edge.Statement.{statement}
 use Rattle.drawing.proofs.draw_edge.Tie as tie
 
@@ -42,9 +42,6 @@ module _ (c : tie.After-inner-steps Inv-loop μ-loop) where
   abbrev entry : tie.Start Inv-loop μ-loop
   entry = c .before .before
 
-  abbrev path : ℕ → Point
-  path = pointAt (entry .args .start) (entry .args .end)
-
   abbrev steps : Steps
   steps = c .inner-steps .result
 
@@ -52,19 +49,10 @@ module _ (c : tie.After-inner-steps Inv-loop μ-loop) where
   inner = c .inner-steps .ensures
 
   few-steps : steps .past ≤ 262144
-  few-steps = omega (arith, inner .most, points-most (entry .pre .2 .0) (entry .pre .2 .1))
-
-  begun : Along (entry .args .brush) (earlierFigure (entry .args .earlier)) path (entry .args .buf .now) 0 0 (entry .args .buf .now)
-  begun = along-start (entry .pre .0) (earlierFigure (entry .args .earlier)) path (entry .args .buf .now)
+  few-steps = few-inner (entry .pre .0) inner (entry .args .buf .now) (entry .pre .2 .0) (entry .pre .2 .1)
 
 returns : tie.Need-returns Inv-loop μ-loop
-returns c =
-    let l = c .before in
-    let s = entry l in
-    let a = s .args in
-    along-end (s .pre .0) (earlierFigure (a .earlier)) (path l) (a .buf .now)
-    (along-skip (s .pre .0) (earlierFigure (a .earlier)) (path l) (a .buf .now) (begun l) (points (a .start) (a .end)) (omega arith) (λ i h few. out-none (inner l) (c .if1 .taken) i few))
-    refl (line-walked (a .start) (a .end))
+returns c = let l = c .before in edge-none (entry l .pre .0) (inner l) (entry l .args .buf .now) (earlierFigure (entry l .args .earlier)) (c .if1 .taken)
 
 at-requires : tie.Need-at-requires Inv-loop μ-loop
 at-requires c κs = (entry (c .before) .pre .2, omega (arith, inner (c .before) .most, c .if1 .left))
@@ -78,13 +66,11 @@ module _ (c : tie.At-loop Inv-loop μ-loop) where
   l = c .before .before .before
 
   head : WalkerAt (entry l .args .start) (entry l .args .end) (c .loop .k) (c .loop .walker)
-      × Along (entry l .args .brush) (earlierFigure (entry l .args .earlier)) (path l) (entry l .args .buf .now) (c .loop .k) (c .loop .seen) (c .loop .buf)
+      × Along (entry l .args .brush) (earlierFigure (entry l .args .earlier)) (pointAt (entry l .args .start) (entry l .args .end)) (entry l .args .buf .now) (c .loop .k) (c .loop .seen) (c .loop .buf)
   head =
       let s = entry l in
       let a = s .args in
-      c .loop .inv .4 (a .start) (a .end) (inner l) (s .pre .0) (c .before .at .ensures)
-      (along-skip (s .pre .0) (earlierFigure (a .earlier)) (path l) (a .buf .now) (begun l) (steps l .from) (omega arith)
-      (λ i h before. out-before (inner l) i (omega (arith, inner l .most, c .before .before .if1 .left)) before))
+      c .loop .inv .4 (a .start) (a .end) (inner l) (s .pre .0) (c .before .at .ensures) (line-begun (s .pre .0) (inner l) (a .buf .now) (earlierFigure (a .earlier)))
 
 step-requires : tie.Need-step-requires Inv-loop μ-loop
 step-requires c κs =
@@ -153,11 +139,9 @@ returns-2 c =
     let h = c .before in
     let s = entry (l h) in
     let a = s .args in
-    let all : steps (l h) .past ≤ h .loop .k = omega arith in
-    along-end (s .pre .0) (earlierFigure (a .earlier)) (path (l h)) (a .buf .now)
-    (along-skip (s .pre .0) (earlierFigure (a .earlier)) (path (l h)) (a .buf .now) (head h .1) (points (a .start) (a .end)) (omega (arith, inner (l h) .most, h .loop .inv .2))
-    (λ i k few. out-after (inner (l h)) i few (omega arith)))
-    refl (line-walked (a .start) (a .end))
+    let all : h .loop .k ≡ steps (l h) .past = omega (arith, h .loop .inv .2) in
+    edge-ended (s .pre .0) (inner (l h)) (a .buf .now) (earlierFigure (a .earlier))
+    (subst (λ (n : ℕ). Along (a .brush) (earlierFigure (a .earlier)) (pointAt (a .start) (a .end)) (a .buf .now) n (h .loop .seen) (h .loop .buf)) all (head h .1))
 
 pub draw-edge-spec : {M : Type 1} → statement M
 draw-edge-spec =

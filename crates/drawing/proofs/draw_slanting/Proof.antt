@@ -6,17 +6,17 @@ use native.Mathlib.Omega.{arith}
 use lib.ListN.{length}
 use borrow.Author.Needs.{needs}
 use Rattle.geometry.specs.declared.Point.{Point}
-use Rattle.line.specs.Line.{points, pointAt}
+use Rattle.line.specs.Line.{pointAt}
 use Rattle.line.specs.Walk.{WalkerAt}
 use Rattle.line.proofs.Apart.{steps-apart}
-use Rattle.line.proofs.Lengths.{points-most}
 use Rattle.framebuffer.specs.declared.Steps.{Steps}
 use Rattle.framebuffer.specs.Judged.{Ready}
 use Rattle.framebuffer.specs.Window.{inWindow}
 use Rattle.framebuffer.proofs.Windows.{within-small}
 use Rattle.clips.specs.Steps.{InnerSteps}
-use Rattle.drawing.proofs.Figures.{line-walked, Along, along-start, along-inside, along-skip, along-count, none, along-all}
-use Rattle.clips.proofs.Steps.{inner-in, out-before, out-after, out-none}
+use Rattle.drawing.proofs.Figures.{Along, along-inside, along-count, none}
+use Rattle.drawing.proofs.Lines.{line-begun, line-ended, line-none, few-inner}
+use Rattle.clips.proofs.Steps.{inner-in}
 use Rattle.drawing.proofs.draw_slanting.Statement.{statement}
 use Rattle.drawing.proofs.draw_slanting.Tie as tie
 
@@ -37,9 +37,6 @@ module _ (c : tie.After-inner-steps Inv-loop μ-loop) where
   abbrev entry : tie.Start Inv-loop μ-loop
   entry = c .before .before
 
-  abbrev path : ℕ → Point
-  path = pointAt (entry .args .start) (entry .args .end)
-
   abbrev steps : Steps
   steps = c .inner-steps .result
 
@@ -47,19 +44,10 @@ module _ (c : tie.After-inner-steps Inv-loop μ-loop) where
   inner = c .inner-steps .ensures
 
   few-steps : steps .past ≤ 262144
-  few-steps = omega (arith, inner .most, points-most (entry .pre .1 .0) (entry .pre .1 .1))
-
-  begun : Along (entry .args .brush) none path (entry .args .buf .now) 0 0 (entry .args .buf .now)
-  begun = along-start (entry .pre .0) none path (entry .args .buf .now)
+  few-steps = few-inner (entry .pre .0) inner (entry .args .buf .now) (entry .pre .1 .0) (entry .pre .1 .1)
 
 returns : tie.Need-returns Inv-loop μ-loop
-returns c =
-    let l = c .before in
-    let s = entry l in
-    let a = s .args in
-    along-all (s .pre .0) (path l) (a .buf .now)
-    (along-skip (s .pre .0) none (path l) (a .buf .now) (begun l) (points (a .start) (a .end)) (omega arith) (λ i h few. out-none (inner l) (c .if1 .taken) i few))
-    (line-walked (a .start) (a .end))
+returns c = let l = c .before in line-none (entry l .pre .0) (inner l) (entry l .args .buf .now) (c .if1 .taken)
 
 at-requires : tie.Need-at-requires Inv-loop μ-loop
 at-requires c κs = (entry (c .before) .pre .1, omega (arith, inner (c .before) .most, c .if1 .left))
@@ -76,13 +64,11 @@ module _ (c : tie.At-loop Inv-loop μ-loop) where
   l = c .before .before .before
 
   head : WalkerAt (entry l .args .start) (entry l .args .end) (c .loop .k) (c .loop .walker)
-      × Along (entry l .args .brush) none (path l) (entry l .args .buf .now) (c .loop .k) (c .loop .k - steps l .from) (c .loop .buf)
+      × Along (entry l .args .brush) none (pointAt (entry l .args .start) (entry l .args .end)) (entry l .args .buf .now) (c .loop .k) (c .loop .k - steps l .from) (c .loop .buf)
   head =
       let s = entry l in
       let a = s .args in
-      c .loop .inv .3 (a .start) (a .end) (inner l) (s .pre .0) (c .before .at .ensures)
-      (along-skip (s .pre .0) none (path l) (a .buf .now) (begun l) (steps l .from) (omega arith)
-      (λ i h before. out-before (inner l) i (omega (arith, inner l .most, c .before .before .if1 .left)) before))
+      c .loop .inv .3 (a .start) (a .end) (inner l) (s .pre .0) (c .before .at .ensures) (line-begun (s .pre .0) (inner l) (a .buf .now) none)
 
 step-requires : tie.Need-step-requires Inv-loop μ-loop
 step-requires c κs =
@@ -140,11 +126,8 @@ returns-2 c =
     let s = entry (l h) in
     let a = s .args in
     let all : h .loop .k ≡ steps (l h) .past = omega (arith, h .loop .inv .2) in
-    along-all (s .pre .0) (path (l h)) (a .buf .now)
-    (along-skip (s .pre .0) none (path (l h)) (a .buf .now)
-    (subst (λ (n : ℕ). Along (a .brush) none (path (l h)) (a .buf .now) n (n - steps (l h) .from) (h .loop .buf)) all (head h .1))
-    (points (a .start) (a .end)) (inner (l h) .most) (λ i k few. out-after (inner (l h)) i few k))
-    (line-walked (a .start) (a .end))
+    line-ended (s .pre .0) (inner (l h)) (a .buf .now)
+    (subst (λ (n : ℕ). Along (a .brush) none (pointAt (a .start) (a .end)) (a .buf .now) n (n - steps (l h) .from) (h .loop .buf)) all (head h .1))
 
 pub draw-slanting-spec : {M : Type 1} → statement M
 draw-slanting-spec =

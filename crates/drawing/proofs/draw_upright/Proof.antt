@@ -12,16 +12,17 @@ use Rattle.whole.proofs.Machine.{Has, fits, back, same-bits, plus, times}
 use Rattle.geometry.specs.declared.Point.{Point}
 use Rattle.geometry.specs.Bound.{Bounded}
 use Rattle.geometry.proofs.Bound.{coord, coord-size}
-use Rattle.line.specs.Line.{toward, major, points, pointAt}
+use Rattle.line.specs.Line.{toward, major, pointAt}
 use Rattle.line.proofs.Apart.{steps-apart}
-use Rattle.line.proofs.Lengths.{points-most, toward-size}
+use Rattle.line.proofs.Lengths.{toward-size}
 use Rattle.framebuffer.specs.declared.Steps.{Steps}
 use Rattle.framebuffer.specs.Judged.{Ready}
 use Rattle.framebuffer.specs.Window.{inWindow}
 use Rattle.framebuffer.proofs.Windows.{within-small}
 use Rattle.clips.specs.Steps.{InnerSteps}
-use Rattle.drawing.proofs.Figures.{line-walked, Along, along-start, along-inside, along-skip, along-count, none, along-all}
-use Rattle.clips.proofs.Steps.{inner-in, out-before, out-after, out-none}
+use Rattle.drawing.proofs.Figures.{Along, along-inside, along-count, none}
+use Rattle.drawing.proofs.Lines.{line-begun, line-ended, line-none, few-inner}
+use Rattle.clips.proofs.Steps.{inner-in}
 use Rattle.drawing.proofs.Level.{upright-at}
 use Rattle.drawing.proofs.draw_upright.Statement.{statement}
 use Rattle.drawing.proofs.draw_upright.Tie as tie
@@ -60,9 +61,6 @@ module _ (c : tie.After-inner-steps Inv-loop μ-loop) where
   abbrev entry : tie.Start Inv-loop μ-loop
   entry = c .before .before
 
-  abbrev path : ℕ → Point
-  path = pointAt (entry .args .start) (entry .args .end)
-
   abbrev steps : Steps
   steps = c .inner-steps .result
 
@@ -70,19 +68,10 @@ module _ (c : tie.After-inner-steps Inv-loop μ-loop) where
   inner = c .inner-steps .ensures
 
   few-steps : steps .past ≤ 262144
-  few-steps = omega (arith, inner .most, points-most (entry .pre .1 .0) (entry .pre .1 .1))
-
-  begun : Along (entry .args .brush) none path (entry .args .buf .now) 0 0 (entry .args .buf .now)
-  begun = along-start (entry .pre .0) none path (entry .args .buf .now)
+  few-steps = few-inner (entry .pre .0) inner (entry .args .buf .now) (entry .pre .1 .0) (entry .pre .1 .1)
 
 returns : tie.Need-returns Inv-loop μ-loop
-returns c =
-    let l = c .before in
-    let s = entry l in
-    let a = s .args in
-    along-all (s .pre .0) (path l) (a .buf .now)
-    (along-skip (s .pre .0) none (path l) (a .buf .now) (begun l) (points (a .start) (a .end)) (omega arith) (λ i h few. out-none (inner l) (c .if1 .taken) i few))
-    (line-walked (a .start) (a .end))
+returns c = let l = c .before in line-none (entry l .pre .0) (inner l) (entry l .args .buf .now) (c .if1 .taken)
 
 direction-requires : tie.Need-direction-requires Inv-loop μ-loop
 direction-requires c κs = search needs
@@ -176,14 +165,9 @@ returns-2 c =
     let s = entry (l d) in
     let a = s .args in
     let all : h .loop .k ≡ steps (l d) .past = omega (arith, h .loop .inv .2) in
-    let from =
-    along-skip (s .pre .0) none (path (l d)) (a .buf .now) (begun (l d)) (steps (l d) .from) (omega arith)
-    (λ i h before. out-before (inner (l d)) i (omega (arith, inner (l d) .first)) before) in
-    along-all (s .pre .0) (path (l d)) (a .buf .now)
-    (along-skip (s .pre .0) none (path (l d)) (a .buf .now)
-    (subst (λ (n : ℕ). Along (a .brush) none (path (l d)) (a .buf .now) n (n - steps (l d) .from) (h .loop .buf)) all (h .loop .inv .3 (a .start) (a .end) (inner (l d)) (it d) (s .pre .0) from))
-    (points (a .start) (a .end)) (inner (l d) .most) (λ i k few. out-after (inner (l d)) i few k))
-    (line-walked (a .start) (a .end))
+    line-ended (s .pre .0) (inner (l d)) (a .buf .now)
+    (subst (λ (n : ℕ). Along (a .brush) none (pointAt (a .start) (a .end)) (a .buf .now) n (n - steps (l d) .from) (h .loop .buf)) all
+    (h .loop .inv .3 (a .start) (a .end) (inner (l d)) (it d) (s .pre .0) (line-begun (s .pre .0) (inner (l d)) (a .buf .now) none)))
 
 pub draw-upright-spec : {M : Type 1} → statement M
 draw-upright-spec =

@@ -1,6 +1,5 @@
 -- `framebuffer::paint_by_depth` tells depths 1, 2 and 4 apart; no other is below 8. Assumes nothing.
 use mathlib.Core.Path.{sym}
-use native.Mathlib.Omega.{arith}
 use borrow.Author.Needs.{needs}
 use Rattle.packing.proofs.Masks.{else-four}
 use Rattle.framebuffer.proofs.paint_by_depth.Statement.{statement}

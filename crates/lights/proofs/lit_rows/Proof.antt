@@ -1,6 +1,6 @@
 -- `lights::lit_rows` has counted the rows above y after y turns. Assumes nothing.
 use mathlib.Core.Path.{_≡_, ap}
-use Prim.Native.Nat.{ℕ, _+_, _*_, _-_, _/_, _≤_}
+use Prim.Native.Nat.{ℕ, _+_, _*_, _-_, _≤_}
 use native.Mathlib.Omega.{arith}
 use lib.ListN.{length, length-take, length-drop}
 use borrow.Author.Needs.{needs}

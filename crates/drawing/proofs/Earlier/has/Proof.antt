@@ -1,6 +1,6 @@
 -- `drawing::Earlier::has` asks the edges one by one, as far as they are drawn. Assumes nothing.
 use mathlib.Core.Path.{_≡_, sym, _∙_}
-use mathlib.Core.Bool.{Bool, true, false, _&&_, _||_}
+use mathlib.Core.Bool.{Bool, _&&_, _||_}
 use borrow.Author.Tests.{not-true, not-false}
 use Rattle.drawing.specs.Figure.{lineFigure}
 use Rattle.drawing.proofs.Earlier.has.Statement.{statement}

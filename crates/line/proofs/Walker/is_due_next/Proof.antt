@@ -1,6 +1,5 @@
 -- `line::Walker::is_due_next` tests the error against the threshold less what a major move adds to it. Assumes nothing.
 use mathlib.Core.Path.{_∙_}
-use Prim.Native.Nat.{_+_, _*_, _≤_}
 use native.Mathlib.Omega.{arith}
 use lib.IntN.{_-ℤ_}
 use mir.Syntax.{w32}

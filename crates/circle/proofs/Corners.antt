@@ -1,4 +1,4 @@
--- A CIRCLE THAT CONTAINS THE CORNERS OF A FRAME CONTAINS THE FRAME: of three places in a row the middle one is nearer to the centre than one of the others. Assumes nothing.
+-- A CIRCLE THAT CONTAINS THE CORNERS OF A RECTANGLE CONTAINS THE RECTANGLE: of three places in a row the middle one is nearer to the centre than one of the others. Assumes nothing.
 use mathlib.Core.Path.{_≡_, sym, _∙_}
 use mathlib.Core.Bool.{true}
 use mathlib.Core.Logic.{_⊎_, inl, inr, ⊎-elim}
@@ -41,14 +41,14 @@ module _ (c : Point) (d : ℕ) where
       let far = ltb-true (squares c d q) (thresholdOf d) (sym (contained-is c d q) ∙ e) in
       contained-is c d p ∙ lt-ltb (squares c d p) (thresholdOf d) (omega (arith, mul-le-mul x x, mul-le-mul y y))
 
-  pub corners-all : (w h : ℕ) → corners c d w h ≡ true → (u v : ℕ) → u < w → v < h → contained c d (pos u, pos v) ≡ true
-  corners-all w h e u v hu hv =
-      let right = pos w -ℤ pos 1 in
-      let bottom = pos h -ℤ pos 1 in
-      let a = and-true (contained c d (pos 0, pos 0)) _ e in
-      let b = and-true (contained c d (right, pos 0)) _ (a .1) in
-      let g = and-true (contained c d (pos 0, bottom)) _ (b .1) in
-      let across = between-nearer (c .0) d (pos 0) (pos u) right (nat-le (omega arith)) (nat-le (omega (arith, less-nat (pos w) 1))) in
-      let down = between-nearer (c .1) d (pos 0) (pos v) bottom (nat-le (omega arith)) (nat-le (omega (arith, less-nat (pos h) 1))) in
-      ⊎-elim (λ x. ⊎-elim (contained-nearer (pos u, pos v) (pos 0, pos 0) (a .0) x) (contained-nearer (pos u, pos v) (pos 0, bottom) (g .0) x) down)
-      (λ x. ⊎-elim (contained-nearer (pos u, pos v) (right, pos 0) (b .0) x) (contained-nearer (pos u, pos v) (right, bottom) (g .1) x) down) across
+  pub corners-all : (l t r b : ℕ) → corners c d l t r b ≡ true → (u v : ℕ) → l ≤ u → u < r → t ≤ v → v < b → contained c d (pos u, pos v) ≡ true
+  corners-all l t r b e u v hl hr ht hb =
+      let right = pos r -ℤ pos 1 in
+      let bottom = pos b -ℤ pos 1 in
+      let a = and-true (contained c d (pos l, pos t)) _ e in
+      let h = and-true (contained c d (right, pos t)) _ (a .1) in
+      let g = and-true (contained c d (pos l, bottom)) _ (h .1) in
+      let across = between-nearer (c .0) d (pos l) (pos u) right (nat-le (omega arith)) (nat-le (omega (arith, less-nat (pos r) 1))) in
+      let down = between-nearer (c .1) d (pos t) (pos v) bottom (nat-le (omega arith)) (nat-le (omega (arith, less-nat (pos b) 1))) in
+      ⊎-elim (λ x. ⊎-elim (contained-nearer (pos u, pos v) (pos l, pos t) (a .0) x) (contained-nearer (pos u, pos v) (pos l, bottom) (g .0) x) down)
+      (λ x. ⊎-elim (contained-nearer (pos u, pos v) (right, pos t) (h .0) x) (contained-nearer (pos u, pos v) (right, bottom) (g .1) x) down) across

@@ -122,20 +122,30 @@ pub fn contains(topleft: Point, diameter: u32, p: Point) -> Verdict
     }
 }
 
-// Inside the library: whether an accepted circle contains the four corners of a frame, and with them every pixel of it.
-pub fn accepted_covers(topleft: Point, diameter: u32, width: u32, height: u32) -> bool
-    requires { ⌜ Fits topleft diameter × (width ≤ 2048) × (height ≤ 2048) ⌝ }
-    ensures { λ r. ⌜ r ≡ corners topleft diameter width height ⌝ }
+// Inside the library: whether an accepted circle contains the four corners of a rectangle of a frame, from column `left` and row `top` to one before `past` and `end`, and with them
+// every pixel of it.
+pub fn accepted_covers(
+    topleft: Point,
+    diameter: u32,
+    left: u32,
+    top: u32,
+    past: u32,
+    end: u32,
+) -> bool
+    requires { ⌜ Fits topleft diameter × (left ≤ 2048) × (top ≤ 2048) × (past ≤ 2048) × (end ≤ 2048) ⌝ }
+    ensures { λ r. ⌜ r ≡ corners topleft diameter left top past end ⌝ }
 {
-    let right = width as i32 - 1;
-    let bottom = height as i32 - 1;
-    if !accepted_contains(topleft, diameter, Point(0, 0)) {
+    let first = left as i32;
+    let upper = top as i32;
+    let right = past as i32 - 1;
+    let bottom = end as i32 - 1;
+    if !accepted_contains(topleft, diameter, Point(first, upper)) {
         return false;
     }
-    if !accepted_contains(topleft, diameter, Point(right, 0)) {
+    if !accepted_contains(topleft, diameter, Point(right, upper)) {
         return false;
     }
-    if !accepted_contains(topleft, diameter, Point(0, bottom)) {
+    if !accepted_contains(topleft, diameter, Point(first, bottom)) {
         return false;
     }
     accepted_contains(topleft, diameter, Point(right, bottom))

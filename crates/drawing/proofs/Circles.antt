@@ -23,7 +23,7 @@ use Rattle.framebuffer.specs.Interval.{Held}
 use Rattle.framebuffer.specs.Window.{inWindow, heldBy}
 use Rattle.framebuffer.proofs.Interval.{isStep, held-exactly, step-before, step-after}
 use Rattle.drawing.specs.Figure.{circleFigure}
-use Rattle.drawing.proofs.Rows.{span-off}
+use Rattle.framebuffer.proofs.Rows.{span-off}
 
 module _ (c : Point) (d : ℕ) where
   circle-above : (u v : ℕ) → pos v <ℤ c .1 → circleFigure c d (pos u) (pos v) ≡ false

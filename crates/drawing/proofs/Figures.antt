@@ -4,7 +4,6 @@ use mathlib.Core.Bool.{Bool, true, false, not, _&&_, _||_}
 use mathlib.Core.List.{List}
 use mathlib.Core.Logic.{⊎-elim}
 use Prim.Native.Nat.{ℕ, zero, suc, _+_, _*_, _≤_, _<_}
-use native.Mathlib.Nat.{mul-le-mul}
 use native.Mathlib.Numerals.{add-one}
 use native.Mathlib.Omega.{arith}
 use lib.IntN.{ℤ, pos}
@@ -21,21 +20,16 @@ use Rattle.layout.specs.Figure.{single}
 use Rattle.layout.proofs.Counts.{one-small}
 use Rattle.layout.proofs.Placing.{Placing, Everywhere}
 use Rattle.layout.proofs.Painted.{painted-cong, painted-none, painted-painted}
-use Rattle.layout.proofs.Pixels.{pixels-cong, pixels-none, pixels-le, pixels-add, marked-then}
+use Rattle.layout.proofs.Pixels.{pixels-cong, pixels-none, pixels-add}
 use Rattle.framebuffer.specs.declared.Brush.{Brush}
 use Rattle.framebuffer.specs.declared.Window.{Window}
 use Rattle.framebuffer.specs.Description.{raster}
 use Rattle.framebuffer.specs.Judged.{Ready, brushed}
 use Rattle.framebuffer.specs.Window.{inWindow, heldBy}
-use Rattle.framebuffer.proofs.Refusals.{sound}
+use Rattle.framebuffer.proofs.Rows.{within-both, brush-sound}
 use Rattle.framebuffer.proofs.Windows.{point-count}
 use Rattle.drawing.specs.Earlier.{newIn}
 use Rattle.drawing.specs.Figure.{lineFigure, connectedFigure}
-
--- the rectangle is asked once for both
-pub within-both : (p a b : Bool) → (p && a) || (p && b) ≡ p && (a || b)
-within-both true a b = refl
-within-both false a b = refl
 
 within-none : (p : Bool) → (p && false) ≡ false
 within-none true = refl
@@ -59,17 +53,6 @@ or-true false = refl
 pub or-false : (a : Bool) → a || false ≡ a
 or-false true = refl
 or-false false = refl
-
--- a brush that may paint has a sound layout, and few pixels
-pub brush-sound : {q : Brush} {len : ℕ} → Ready q len → Placing (raster (q .frame))
-brush-sound {q} R = sound (q .frame) (R .drawable .accepted .described)
-
-pub few-pixels : {q : Brush} {len : ℕ} → Ready q len → (s : ℤ → ℤ → Bool) {n : ℕ} → n ≡ pixelsIn (raster (q .frame)) s → n ≤ 4194304
-few-pixels {q} R s e =
-    let D = R .drawable .accepted .described in
-    let m : q .frame .height * q .frame .width ≤ 2048 * 2048 = mul-le-mul (D .height) (D .width) in
-    let h = pixels-le (raster (q .frame)) s in
-    omega arith
 
 -- the points of the steps below k of a walk
 abbrev pub walked : (ℕ → Point) → ℕ → ℤ → ℤ → Bool
@@ -125,16 +108,6 @@ module _ (q : Brush) (P : Placing (raster (q .frame))) (b : List ℕ) where
   brushed-then s t =
       painted-painted (raster (q .frame)) P (q .colour) b (heldBy (q .window) t) (heldBy (q .window) s)
       ∙ painted-cong (raster (q .frame)) P (q .colour) b _ _ (λ x y w h. within-both (inWindow (q .window) (pos x) (pos y)) (s (pos x) (pos y)) (t (pos x) (pos y)))
-
-  -- and the pixels add up, where no pixel of the frame is in both
-  pub brushed-more : (s t u : ℤ → ℤ → Bool) {m n : ℕ} {now next : List ℕ} → (m, now) ≡ brushed q s b → (n, next) ≡ brushed q t now
-      → Everywhere (raster (q .frame)) (λ x y. heldBy (q .window) s (pos x) (pos y) && heldBy (q .window) t (pos x) (pos y) ≡ false)
-      → Everywhere (raster (q .frame)) (λ x y. heldBy (q .window) s (pos x) (pos y) || heldBy (q .window) t (pos x) (pos y) ≡ heldBy (q .window) u (pos x) (pos y))
-      → (m + n, next) ≡ brushed q u b
-  brushed-more s t u {m} e f apart joined =
-      ap (λ (r : ℕ × List ℕ). (m + r .0, r .1)) f
-      ∙ ap (λ (r : ℕ × List ℕ). (r .0 + brushed q t b .0, brushed q t (r .1) .1)) e
-      ∙ marked-then (raster (q .frame)) P (q .colour) b (heldBy (q .window) s) (heldBy (q .window) t) (heldBy (q .window) u) apart joined
 
   -- ---- a walk, point by point
   walked-start : (path : ℕ → Point) → brushed q (walked path 0) b .1 ≡ b

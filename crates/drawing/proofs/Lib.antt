@@ -1,7 +1,6 @@
 pub mod Figures
 pub mod Lines
 pub mod Level
-pub mod Rows
 pub mod Fill
 pub mod Circles
 pub mod Edge

@@ -26,13 +26,13 @@ use Rattle.framebuffer.specs.declared.Frame.{Frame}
 use Rattle.framebuffer.specs.declared.Window.{Window}
 use Rattle.framebuffer.specs.Description.{raster, drawTests}
 use Rattle.framebuffer.specs.Drawing.{Drawing, outcome}
-use Rattle.framebuffer.specs.Judged.{wholeBrush}
 use Rattle.framebuffer.specs.Window.{inWindow, heldBy}
-use Rattle.framebuffer.proofs.Calls.{ready-own, refused-outcome, accepted-outcome}
+use Rattle.framebuffer.proofs.Calls.{drawable-own, refused-outcome, accepted-outcome}
+use Rattle.framebuffer.proofs.Refusals.{sound}
+use Rattle.framebuffer.proofs.Rows.{within-both}
 use Rattle.drawing.specs.Drawing.{triangleDrawing, outlineDrawing}
 use Rattle.drawing.specs.Figure.{lineFigure, edgeFigure, sortedFigure, outlineFigure, triangleFigure}
 use Rattle.drawing.proofs.Edge.{edge-line, edge-swap}
-use Rattle.drawing.proofs.Figures.{within-both, brush-sound}
 
 -- ---- THE OUTLINE IS THREE EDGES, between the vertices as they are given
 abbrev threeEdges : Point → Point → Point → ℤ → ℤ → Bool
@@ -110,7 +110,7 @@ module _ (f : Frame) (q : Window) (colour : ℕ) (own : Tests) (b : List ℕ) wh
 
       by : (n : ℕ) → n ≡ first (drawTests f (length b) colour ++ own) → left t (left s b) ≡ left s b
       by zero e =
-          let P = brush-sound (ready-own f (length b) colour own {q = wholeBrush f colour} refl e refl) in
+          let P = sound f (drawable-own f (length b) colour own e refl .accepted .described) in
           let under : left s b ≡ painted (raster f) (heldBy q s) colour b = sym (ap (λ (o : Drawn × List ℕ). o .1) (accepted-outcome f q (drawing s) b e refl refl)) in
           let len : length (left s b) ≡ length b = ap length under ∙ painted-length (raster f) P (heldBy q s) colour b in
           let again : 0 ≡ first (drawTests f (length (left s b)) colour ++ own) = e ∙ sym (ap (λ (n : ℕ). first (drawTests f n colour ++ own)) len) in

@@ -2,19 +2,17 @@
 // contains; its answer says how many these are. Calls on a frame that was judged already have `_on` in their name.
 ghost use mathlib.Core.Path.{_≡_};
 ghost use mathlib.Core.Bool.{true};
-ghost use mathlib.Core.List.{_++_};
-ghost use Prim.Native.Nat.{ℕ, _-_, _≤_};
+ghost use Prim.Native.Nat.{_-_, _≤_};
 ghost use lib.ListN.{length};
 ghost use lib.Signed.{_≤ℤ_};
-ghost use Rattle.refusals.specs.First.{first};
 ghost use Rattle.geometry.specs.Bound.{Bounded};
 ghost use Rattle.line.specs.Answer.{endTests};
 ghost use Rattle.triangle.specs.Answer.{vertexTests};
 ghost use Rattle.circle.specs.Refusal.{Fits, circleTests};
-ghost use Rattle.framebuffer.specs.Description.{drawTests};
+ghost use Rattle.framebuffer.specs.Canvas.{numberOn, onCanvas};
 ghost use Rattle.framebuffer.specs.Drawing.{outcome};
 ghost use Rattle.framebuffer.specs.Interval.{Held};
-ghost use Rattle.framebuffer.specs.Judged.{Over, OverSome, Ready, brushed};
+ghost use Rattle.framebuffer.specs.Judged.{Judged, JudgedSome, Ready, brushed};
 ghost use Rattle.framebuffer.specs.Window.{wholeWindow};
 ghost use Rattle.drawing.specs.Earlier.{Ends, earlierFigure, newIn};
 ghost use Rattle.drawing.specs.Figure.{lineFigure, connectedFigure, outlineFigure, triangleFigure, circleFigure};
@@ -145,8 +143,8 @@ fn draw_alone(buf: &mut [u8], brush: Brush, start: Point, end: Point) -> u32
 
 // The number that drawing a line answers, connected or not.
 fn line_number(canvas: Canvas, start: Point, end: Point, colour: u32) -> u32
-    requires { ⌜ OverSome canvas ⌝ }
-    ensures { λ r. ⌜ ((len : ℕ) → Over canvas len → r ≡ first (drawTests (canvas .frame) len colour ++ endTests start end)) ⌝ }
+    requires { ⌜ JudgedSome canvas ⌝ }
+    ensures { λ r. ⌜ r ≡ numberOn canvas colour (endTests start end) ⌝ }
 {
     let number = framebuffer::colour_refusal(canvas, colour);
     if number != 0 {
@@ -155,19 +153,18 @@ fn line_number(canvas: Canvas, start: Point, end: Point, colour: u32) -> u32
     line::refusal(start, end)
 }
 
-// `draw_line` on a frame that was judged over the buffer.
-fn line_on(buf: &mut [u8], canvas: Canvas, start: Point, end: Point, colour: u32) -> Drawn
-    requires { ⌜ Over canvas (length (now buf)) ⌝ }
-    ensures { λ r. ⌜ (r, now (buf .exit)) ≡ outcome (canvas .frame) (wholeWindow (canvas .frame)) (lineDrawing start end colour) (now (buf .entry)) ⌝ }
+// Inside the library: `draw_line` on a canvas.
+pub fn line_on(buf: &mut [u8], canvas: Canvas, start: Point, end: Point, colour: u32) -> Drawn
+    requires { ⌜ Judged canvas (length (now buf)) ⌝ }
+    ensures { λ r. ⌜ (r, now (buf .exit)) ≡ onCanvas canvas (lineDrawing start end colour) (now (buf .entry)) ⌝ }
 {
     let number = line_number(canvas, start, end, colour);
     if number != 0 {
         return Drawn { number, count: 0 };
     }
-    let frame = canvas.frame;
     Drawn {
         number: 0,
-        count: draw_alone(buf, frame.brush(colour), start, end),
+        count: draw_alone(buf, canvas.brush(colour), start, end),
     }
 }
 
@@ -212,19 +209,24 @@ fn draw_connected(buf: &mut [u8], brush: Brush, start: Point, end: Point) -> u32
     seen
 }
 
-// `draw_connected_line` on a frame that was judged over the buffer.
-fn connected_line_on(buf: &mut [u8], canvas: Canvas, start: Point, end: Point, colour: u32) -> Drawn
-    requires { ⌜ Over canvas (length (now buf)) ⌝ }
-    ensures { λ r. ⌜ (r, now (buf .exit)) ≡ outcome (canvas .frame) (wholeWindow (canvas .frame)) (connectedDrawing start end colour) (now (buf .entry)) ⌝ }
+// Inside the library: `draw_connected_line` on a canvas.
+pub fn connected_line_on(
+    buf: &mut [u8],
+    canvas: Canvas,
+    start: Point,
+    end: Point,
+    colour: u32,
+) -> Drawn
+    requires { ⌜ Judged canvas (length (now buf)) ⌝ }
+    ensures { λ r. ⌜ (r, now (buf .exit)) ≡ onCanvas canvas (connectedDrawing start end colour) (now (buf .entry)) ⌝ }
 {
     let number = line_number(canvas, start, end, colour);
     if number != 0 {
         return Drawn { number, count: 0 };
     }
-    let frame = canvas.frame;
     Drawn {
         number: 0,
-        count: draw_connected(buf, frame.brush(colour), start, end),
+        count: draw_connected(buf, canvas.brush(colour), start, end),
     }
 }
 
@@ -243,8 +245,8 @@ pub fn draw_connected_line(
 
 // The number that drawing a triangle or its outline answers.
 fn triangle_number(canvas: Canvas, v1: Point, v2: Point, v3: Point, colour: u32) -> u32
-    requires { ⌜ OverSome canvas ⌝ }
-    ensures { λ r. ⌜ ((len : ℕ) → Over canvas len → r ≡ first (drawTests (canvas .frame) len colour ++ vertexTests v1 v2 v3)) ⌝ }
+    requires { ⌜ JudgedSome canvas ⌝ }
+    ensures { λ r. ⌜ r ≡ numberOn canvas colour (vertexTests v1 v2 v3) ⌝ }
 {
     let number = framebuffer::colour_refusal(canvas, colour);
     if number != 0 {
@@ -310,19 +312,25 @@ fn draw_edges(buf: &mut [u8], brush: Brush, v1: Point, v2: Point, v3: Point) -> 
     of_first + of_second + draw_edge(buf, brush, both, p1, p3)
 }
 
-// `draw_outline` on a frame that was judged over the buffer.
-fn outline_on(buf: &mut [u8], canvas: Canvas, v1: Point, v2: Point, v3: Point, colour: u32) -> Drawn
-    requires { ⌜ Over canvas (length (now buf)) ⌝ }
-    ensures { λ r. ⌜ (r, now (buf .exit)) ≡ outcome (canvas .frame) (wholeWindow (canvas .frame)) (outlineDrawing v1 v2 v3 colour) (now (buf .entry)) ⌝ }
+// Inside the library: `draw_outline` on a canvas.
+pub fn outline_on(
+    buf: &mut [u8],
+    canvas: Canvas,
+    v1: Point,
+    v2: Point,
+    v3: Point,
+    colour: u32,
+) -> Drawn
+    requires { ⌜ Judged canvas (length (now buf)) ⌝ }
+    ensures { λ r. ⌜ (r, now (buf .exit)) ≡ onCanvas canvas (outlineDrawing v1 v2 v3 colour) (now (buf .entry)) ⌝ }
 {
     let number = triangle_number(canvas, v1, v2, v3, colour);
     if number != 0 {
         return Drawn { number, count: 0 };
     }
-    let frame = canvas.frame;
     Drawn {
         number: 0,
-        count: draw_edges(buf, frame.brush(colour), v1, v2, v3),
+        count: draw_edges(buf, canvas.brush(colour), v1, v2, v3),
     }
 }
 
@@ -372,8 +380,8 @@ fn fill_circle(buf: &mut [u8], brush: Brush, topleft: Point, diameter: u32) -> u
 
 // The number that drawing a circle answers.
 fn circle_number(canvas: Canvas, topleft: Point, diameter: u32, colour: u32) -> u32
-    requires { ⌜ OverSome canvas ⌝ }
-    ensures { λ r. ⌜ ((len : ℕ) → Over canvas len → r ≡ first (drawTests (canvas .frame) len colour ++ circleTests topleft diameter)) ⌝ }
+    requires { ⌜ JudgedSome canvas ⌝ }
+    ensures { λ r. ⌜ r ≡ numberOn canvas colour (circleTests topleft diameter) ⌝ }
 {
     let number = framebuffer::colour_refusal(canvas, colour);
     if number != 0 {
@@ -382,7 +390,7 @@ fn circle_number(canvas: Canvas, topleft: Point, diameter: u32, colour: u32) -> 
     circle::refusal(topleft, diameter)
 }
 
-// Inside the library: `draw_circle` on a frame that was judged over the buffer. A circle that contains the whole frame fills it.
+// Inside the library: `draw_circle` on a canvas. A circle that contains the whole rectangle fills it.
 pub fn circle_on(
     buf: &mut [u8],
     canvas: Canvas,
@@ -390,18 +398,25 @@ pub fn circle_on(
     diameter: u32,
     colour: u32,
 ) -> Drawn
-    requires { ⌜ Over canvas (length (now buf)) ⌝ }
-    ensures { λ r. ⌜ (r, now (buf .exit)) ≡ outcome (canvas .frame) (wholeWindow (canvas .frame)) (circleDrawing topleft diameter colour) (now (buf .entry)) ⌝ }
+    requires { ⌜ Judged canvas (length (now buf)) ⌝ }
+    ensures { λ r. ⌜ (r, now (buf .exit)) ≡ onCanvas canvas (circleDrawing topleft diameter colour) (now (buf .entry)) ⌝ }
 {
     let number = circle_number(canvas, topleft, diameter, colour);
     if number != 0 {
         return Drawn { number, count: 0 };
     }
-    let frame = canvas.frame;
-    if !circle::accepted_covers(topleft, diameter, frame.width, frame.height) {
+    let window = canvas.window;
+    if !circle::accepted_covers(
+        topleft,
+        diameter,
+        window.left,
+        window.top,
+        window.right,
+        window.bottom,
+    ) {
         return Drawn {
             number: 0,
-            count: fill_circle(buf, frame.brush(colour), topleft, diameter),
+            count: fill_circle(buf, canvas.brush(colour), topleft, diameter),
         };
     }
     framebuffer::fill_on(buf, canvas, colour)
@@ -443,8 +458,8 @@ fn fill_triangle(buf: &mut [u8], brush: Brush, v1: Point, v2: Point, v3: Point) 
     seen
 }
 
-// `draw_triangle` on a frame that was judged over the buffer.
-fn triangle_on(
+// Inside the library: `draw_triangle` on a canvas.
+pub fn triangle_on(
     buf: &mut [u8],
     canvas: Canvas,
     v1: Point,
@@ -452,17 +467,16 @@ fn triangle_on(
     v3: Point,
     colour: u32,
 ) -> Drawn
-    requires { ⌜ Over canvas (length (now buf)) ⌝ }
-    ensures { λ r. ⌜ (r, now (buf .exit)) ≡ outcome (canvas .frame) (wholeWindow (canvas .frame)) (triangleDrawing v1 v2 v3 colour) (now (buf .entry)) ⌝ }
+    requires { ⌜ Judged canvas (length (now buf)) ⌝ }
+    ensures { λ r. ⌜ (r, now (buf .exit)) ≡ onCanvas canvas (triangleDrawing v1 v2 v3 colour) (now (buf .entry)) ⌝ }
 {
     let number = triangle_number(canvas, v1, v2, v3, colour);
     if number != 0 {
         return Drawn { number, count: 0 };
     }
-    let frame = canvas.frame;
     Drawn {
         number: 0,
-        count: fill_triangle(buf, frame.brush(colour), v1, v2, v3),
+        count: fill_triangle(buf, canvas.brush(colour), v1, v2, v3),
     }
 }
 

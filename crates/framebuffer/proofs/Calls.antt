@@ -1,7 +1,7 @@
 -- Laws of a call that draws: its number, test by test, what is known where that is 0, and its outcome, accepted and refused. Assumes nothing.
 use mathlib.Core.Path.{_≡_, refl, sym, ap, subst, _∙_}
 use mathlib.Core.Bool.{Bool, true, false, cond, _&&_}
-use mathlib.Core.List.{List, [], _++_, append-nil}
+use mathlib.Core.List.{List, [], _∷_, _++_, append-nil, append-assoc}
 use Prim.Native.Nat.{ℕ, _*_, _^_, _≤_, _<_}
 use native.Mathlib.Nat.{mul-le-mul}
 use lib.Dec.{eqb}
@@ -10,10 +10,11 @@ use lib.ListN.{length}
 use lib.Signed.{mag}
 use mir.Syntax.{w32}
 use mir.Val.{toZ, ofZ, hbits}
-use borrow.Author.Tests.{ne-eqb}
+use borrow.Author.Tests.{eq-eqb, ne-eqb, eqb-true, eqb-false, leb-false}
+use Rattle.whole.proofs.Tests.{and-true}
 use Rattle.whole.proofs.Machine.{field-back}
 use Rattle.refusals.specs.First.{Tests, first}
-use Rattle.refusals.proofs.First.{refused, passed, both-pass}
+use Rattle.refusals.proofs.First.{first-append, refused, passed, both-pass, goes-on, fails-alone}
 use Rattle.geometry.specs.declared.Point.{Point}
 use Rattle.layout.specs.Figure.{single, everywhere}
 use Rattle.layout.specs.Layout.{painted}
@@ -25,12 +26,14 @@ use Rattle.framebuffer.specs.declared.Window.{Window}
 use Rattle.framebuffer.specs.declared.Brush.{Brush}
 use Rattle.framebuffer.specs.declared.Drawn.{Drawn}
 use Rattle.framebuffer.specs.declared.Placed.{Placed}
-use Rattle.framebuffer.specs.Answer.{drawn, wasInside}
-use Rattle.framebuffer.specs.Description.{described, raster, drawTests}
+use Rattle.framebuffer.specs.declared.Read.{Read}
+use Rattle.framebuffer.specs.Answer.{drawn, wasInside, read}
+use Rattle.framebuffer.specs.Description.{described, raster, noColour, isOutside, frameTests, drawTests, readTests, colourAt}
 use Rattle.framebuffer.specs.Drawing.{Drawing, pixelDrawing, fillDrawing, callTests, outcome, pixelOutcome}
-use Rattle.framebuffer.specs.Judged.{Drawable, overBytes, Within, Ready, wholeBrush, brushed}
+use Rattle.framebuffer.specs.Judged.{Drawable, overBytes, Judged, Within, Ready, brushOf, brushed}
+use Rattle.framebuffer.specs.Canvas.{behind, numberOn, onCanvas, pixelOn, readOn, hasAll}
 use Rattle.framebuffer.specs.Window.{inWindow, heldBy, wholeWindow}
-use Rattle.framebuffer.proofs.Refusals.{sound, draw-numbered, is-drawable, refused-drawn, refused-placed}
+use Rattle.framebuffer.proofs.Refusals.{sound, frame-numbered, draw-numbered, is-accepted, is-drawable, refused-drawn, refused-placed}
 use Rattle.framebuffer.proofs.Windows.{whole-within, marked-whole}
 
 -- ---- the number: the frame's and the colour's, else the call's own
@@ -55,13 +58,6 @@ module _ (f : Frame) (len colour : ℕ) where
   pub own-passed : (own : Tests) {r : ℕ} → r ≡ first (drawTests f len colour ++ own) → r ≡ 0 → first own ≡ 0
   own-passed own e z = both-pass (drawTests f len colour) own (draw-numbered f len colour) (sym e ∙ z) .1
 
-  -- the brush for the whole frame may paint
-  ready : Drawable f len colour → {q : Brush} → q ≡ wholeBrush f colour → Ready q len
-  ready D p = subst (λ (q : Brush). Ready q len) (sym p) (record { drawable = D; within = whole-within f })
-
-  pub ready-own : (own : Tests) {r : ℕ} {q : Brush} → q ≡ wholeBrush f colour → r ≡ first (drawTests f len colour ++ own) → r ≡ 0 → Ready q len
-  ready-own own p e z = ready (drawable-own own e z) p
-
 -- ---- the outcome
 module _ (f : Frame) (q : Window) (d : Drawing) (b : List ℕ) {r : ℕ} (e : r ≡ first (callTests f (length b) d)) where
   abbrev made : ℕ × List ℕ
@@ -81,16 +77,6 @@ module _ (f : Frame) (q : Window) (d : Drawing) (b : List ℕ) {r : ℕ} (e : r 
   pub accepted-outcome : {m : ℕ} {after : List ℕ} → r ≡ 0 → (m, after) ≡ made → _≡_ {A = Drawn × List ℕ} (record { number = 0; count = m }, after) (outcome f q d b)
   unfolding of-number
   accepted-outcome z h = ap (λ (p : ℕ × List ℕ). (record { number = 0; count = p .0 }, p .1)) h ∙ ap of-number (sym z) ∙ sym outcome-is
-
--- by the brush for the whole frame
-pub brushed-outcome : (f : Frame) (d : Drawing) (b : List ℕ) {r m : ℕ} {q : Brush} {after : List ℕ} → r ≡ first (callTests f (length b) d) → r ≡ 0
-    → q ≡ wholeBrush f (d .colour) → (m, after) ≡ brushed q (d .figure) b → _≡_ {A = Drawn × List ℕ} (record { number = 0; count = m }, after) (outcome f (wholeWindow f) d b)
-brushed-outcome f d b e z p h = accepted-outcome f (wholeWindow f) d b e z (h ∙ ap (λ (q : Brush). brushed q (d .figure) b) p)
-
--- on a frame that was judged: the same
-pub judged-outcome : (f : Frame) (d : Drawing) (b : List ℕ) {c : Canvas} {o : Drawn × List ℕ} → c ≡ overBytes f (length b) → o ≡ outcome (c .frame) (wholeWindow (c .frame)) d b
-    → o ≡ outcome f (wholeWindow f) d b
-judged-outcome f d b e h = h ∙ ap (λ (c : Canvas). outcome (c .frame) (wholeWindow (c .frame)) d b) e
 
 -- within the rectangle of the whole frame
 pub within-whole : {f : Frame} {q : Window} → q ≡ wholeWindow f → Within q f
@@ -127,29 +113,168 @@ pub pixel-apart : (f : Frame) (p : Point) (colour : ℕ) (b : List ℕ) {d : ℕ
 pixel-apart f p colour b e h k said =
     said ∙ (λ i. pixelOutcome (described (f .width) (f .height) (sym e i) (f .big) (f .distance)) (wholeWindow f) (field-back w32 (p .0) h i, field-back w32 (p .1) k i) colour b)
 
--- the whole frame painted; the count fits
-pub whole-fits : (f : Frame) (len colour : ℕ) {r : ℕ} → r ≡ first (drawTests f len colour) → r ≡ 0 → f .height * f .width ≤ 4194304
-whole-fits f len colour e z = let D = drawable f len colour e z .accepted .described in mul-le-mul (D .height) (D .width)
+-- ---- on a canvas
+-- its number, or further tests
+pub behind-0 : (n : ℕ) (ts : Tests) {r : ℕ} → n ≡ 0 → r ≡ first ts → r ≡ behind n ts
+behind-0 n ts z e = e ∙ sym (ap (λ (t : Bool). cond t (first ts) n) (eq-eqb n 0 z))
 
-pub filled-outcome : (f : Frame) (colour : ℕ) (b : List ℕ) {r m : ℕ} {after : List ℕ} → r ≡ first (drawTests f (length b) colour) → r ≡ 0 → m ≡ f .height * f .width
-    → after ≡ painted (raster f) everywhere colour b → _≡_ {A = Drawn × List ℕ} (record { number = 0; count = m }, after) (outcome f (wholeWindow f) (fillDrawing colour) b)
-filled-outcome f colour b e z n h =
-    accepted-outcome f (wholeWindow f) (fillDrawing colour) b (number-alone f (length b) colour e) z
-    ((λ i. ((n ∙ sym (pixels-everywhere (raster f))) i, h i))
-    ∙ sym (marked-whole f (drawable f (length b) colour e z .accepted .described) colour b everywhere))
+pub behind-n : (n : ℕ) (ts : Tests) → (n ≡ 0 → ⊥) → n ≡ behind n ts
+behind-n n ts h = sym (ap (λ (t : Bool). cond t (first ts) n) (ne-eqb n 0 h))
 
--- a call whose figure has every pixel of the frame is a fill
-pub everywhere-outcome : (f : Frame) (d : Drawing) (b : List ℕ) {r : ℕ} → r ≡ first (callTests f (length b) d) → r ≡ 0
-    → ((u v : ℕ) → u < f .width → v < f .height → d .figure (pos u) (pos v) ≡ true) → outcome f (wholeWindow f) (fillDrawing (d .colour)) b ≡ outcome f (wholeWindow f) d b
-unfolding outcome
-everywhere-outcome f d b e z all =
-    let passed = both-pass (drawTests f (length b) (d .colour)) (d .own) (draw-numbered f (length b) (d .colour)) (sym e ∙ z) .0 in
-    let number = sym (number-alone f (length b) (d .colour) refl) ∙ passed ∙ sym z ∙ e in
-    let placing = sound f (drawable-own f (length b) (d .colour) (d .own) e z .accepted .described) in
+pub behind-passed : (n : ℕ) (ts : Tests) {r : ℕ} → r ≡ behind n ts → r ≡ 0 → (n ≡ 0) × (first ts ≡ 0)
+behind-passed n ts e z = by (eqb n 0) refl (sym e ∙ z)
+  where
+    by : (t : Bool) → eqb n 0 ≡ t → cond t (first ts) n ≡ 0 → (n ≡ 0) × (first ts ≡ 0)
+    by true h k = (eqb-true n 0 h, k)
+    by false h k = absurd (eqb-false n 0 h k)
+
+module _ (c : Canvas) (colour : ℕ) where
+  abbrev t4 : Tests
+  t4 = (4, noColour (c .frame) colour) ∷ []
+
+  -- the number of a call, test by test
+  pub first-on : (own : Tests) {r : ℕ} → r ≡ numberOn c colour [] → (r ≡ 0 → ⊥) → r ≡ numberOn c colour own
+  first-on own e h = go (eqb (c .number) 0) (noColour (c .frame) colour) e h
+    where
+      go : (s t : Bool) {r : ℕ} → r ≡ cond s (cond t 4 0) (c .number) → (r ≡ 0 → ⊥) → r ≡ cond s (cond t 4 (first own)) (c .number)
+      go true true e h = e
+      go true false e h = absurd (h e)
+      go false t e h = e
+
+  pub own-on : (own : Tests) {r z : ℕ} → z ≡ numberOn c colour [] → z ≡ 0 → r ≡ first own → r ≡ numberOn c colour own
+  own-on own e z h =
+      let p = behind-passed (c .number) t4 e z in
+      behind-0 (c .number) ((4, noColour (c .frame) colour) ∷ own) (p .0) (goes-on 4 (noColour (c .frame) colour) own (fails-alone 3 _ (p .1)) h)
+
+  -- where it is 0
+  pub passed-on : (own : Tests) {r : ℕ} → r ≡ numberOn c colour own → r ≡ 0 → first own ≡ 0
+  passed-on own e z = both-pass t4 own refl (behind-passed (c .number) ((4, noColour (c .frame) colour) ∷ own) e z .1) .1
+
+  pub drawable-on : (own : Tests) {len r : ℕ} → Judged c len → r ≡ numberOn c colour own → r ≡ 0 → Drawable (c .frame) len colour
+  drawable-on own J e z =
+      let p = behind-passed (c .number) ((4, noColour (c .frame) colour) ∷ own) e z in
+      record { accepted = J .accepted (p .0); below = leb-false _ _ (fails-alone 3 _ (both-pass t4 own refl (p .1) .0)) }
+
+  -- the canvas's brush may paint
+  pub ready-on : (own : Tests) {len r : ℕ} {q : Brush} → Judged c len → q ≡ brushOf c colour → r ≡ numberOn c colour own → r ≡ 0 → Ready q len
+  ready-on own {len} J p e z =
+      subst (λ (q : Brush). Ready q len) (sym p)
+      (record { drawable = drawable-on own J e z; within = J .within (behind-passed (c .number) ((4, noColour (c .frame) colour) ∷ own) e z .0) })
+
+-- what a call answers and leaves
+module _ (c : Canvas) (d : Drawing) (b : List ℕ) {r : ℕ} (e : r ≡ numberOn c (d .colour) (d .own)) where
+  abbrev made-on : ℕ × List ℕ
+  made-on = marked (raster (c .frame)) (heldBy (c .window) (d .figure)) (d .colour) b
+
+  numbered-on : (n : ℕ) → (Drawn × List ℕ)
+  numbered-on n = (drawn n (made-on .0), cond (eqb n 0) (made-on .1) b)
+
+  on-is : onCanvas c d b ≡ numbered-on r
+  unfolding onCanvas numbered-on
+  on-is = ap numbered-on (sym e)
+
+  pub refused-on : (r ≡ 0 → ⊥) → _≡_ {A = Drawn × List ℕ} (record { number = r; count = 0 }, b) (onCanvas c d b)
+  unfolding numbered-on
+  refused-on n = (λ i. (refused-drawn r (made-on .0) n i, cond (sym (ne-eqb r 0 n) i) (made-on .1) b)) ∙ sym on-is
+
+  pub accepted-on : {m : ℕ} {after : List ℕ} → r ≡ 0 → (m, after) ≡ made-on → _≡_ {A = Drawn × List ℕ} (record { number = 0; count = m }, after) (onCanvas c d b)
+  unfolding numbered-on
+  accepted-on z h = ap (λ (p : ℕ × List ℕ). (record { number = 0; count = p .0 }, p .1)) h ∙ ap numbered-on (sym z) ∙ sym on-is
+
+-- by the canvas's brush
+pub brushed-on : (c : Canvas) (d : Drawing) (b : List ℕ) {r m : ℕ} {q : Brush} {after : List ℕ} → r ≡ numberOn c (d .colour) (d .own) → r ≡ 0
+    → q ≡ brushOf c (d .colour) → (m, after) ≡ brushed q (d .figure) b → _≡_ {A = Drawn × List ℕ} (record { number = 0; count = m }, after) (onCanvas c d b)
+brushed-on c d b e z p h = accepted-on c d b e z (h ∙ ap (λ (q : Brush). brushed q (d .figure) b) p)
+
+-- a pixel set
+module _ (c : Canvas) (p : Point) (colour : ℕ) (b : List ℕ) {r : ℕ} (e : r ≡ numberOn c colour []) where
+  pub refused-placed-on : (r ≡ 0 → ⊥) → _≡_ {A = Placed × List ℕ} (record { number = r; inside = false }, b) (pixelOn c p colour b)
+  unfolding pixelOn
+  refused-placed-on n =
+      let t = inWindow (c .window) (p .0) (p .1) in
+      let d = pixelDrawing p colour in
+      (λ i. (refused-placed r t n i, refused-on c d b e n i .1)) ∙ ap (λ (k : ℕ). (wasInside k t, onCanvas c d b .1)) e
+
+  pub placed-on : {q : Brush} {t : Bool} {after : List ℕ} → r ≡ 0 → q ≡ brushOf c colour → t ≡ inWindow (q .window) (p .0) (p .1) → after ≡ brushed q (single (p .0) (p .1)) b .1
+      → _≡_ {A = Placed × List ℕ} (record { number = 0; inside = t }, after) (pixelOn c p colour b)
+  unfolding pixelOn
+  placed-on {q} z w i h =
+      let d = pixelDrawing p colour in
+      let bytes = h ∙ ap (λ (q : Brush). brushed q (d .figure) b .1) w in
+      let a = accepted-on c d b e z (λ j. (pixelsIn (raster (c .frame)) (heldBy (c .window) (d .figure)), bytes j)) in
+      (λ j. (record { number = 0; inside = (i ∙ ap (λ (q : Brush). inWindow (q .window) (p .0) (p .1)) w) j }, a j .1))
+      ∙ ap (λ (k : ℕ). (wasInside k (inWindow (c .window) (p .0) (p .1)), onCanvas c d b .1)) (sym z ∙ e)
+
+-- the whole frame painted
+all-window : (c : Canvas) → hasAll c ≡ true → c .window ≡ wholeWindow (c .frame)
+all-window c h =
+    let p = and-true (eqb (c .window .left) 0 && eqb (c .window .top) 0) _ h in
+    let q = and-true (eqb (c .window .left) 0) _ (p .0) in
+    let s = and-true (eqb (c .window .right) (c .frame .width)) _ (p .1) in
+    let l : c .window .left ≡ 0 = eqb-true (c .window .left) 0 (q .0) in
+    let t : c .window .top ≡ 0 = eqb-true (c .window .top) 0 (q .1) in
+    let r : c .window .right ≡ c .frame .width = eqb-true (c .window .right) (c .frame .width) (s .0) in
+    let b : c .window .bottom ≡ c .frame .height = eqb-true (c .window .bottom) (c .frame .height) (s .1) in
+    λ i. record { left = l i; top = t i; right = r i; bottom = b i }
+
+pub whole-fits : {f : Frame} {len colour : ℕ} → Drawable f len colour → f .height * f .width ≤ 4194304
+whole-fits D = mul-le-mul (D .accepted .described .height) (D .accepted .described .width)
+
+pub filled-on : (c : Canvas) (colour : ℕ) (b : List ℕ) {r m : ℕ} {after : List ℕ} → r ≡ numberOn c colour [] → r ≡ 0 → Judged c (length b) → hasAll c ≡ true
+    → m ≡ c .frame .height * c .frame .width → after ≡ painted (raster (c .frame)) everywhere colour b
+    → _≡_ {A = Drawn × List ℕ} (record { number = 0; count = m }, after) (onCanvas c (fillDrawing colour) b)
+filled-on c colour b e z J all n h =
+    accepted-on c (fillDrawing colour) b e z
+    ((λ i. ((n ∙ sym (pixels-everywhere (raster (c .frame)))) i, h i))
+    ∙ sym (marked-whole (c .frame) (drawable-on c colour [] J e z .accepted .described) colour b everywhere)
+    ∙ ap (λ (q : Window). marked (raster (c .frame)) (heldBy q everywhere) colour b) (sym (all-window c all)))
+
+-- a call whose figure has every pixel of the rectangle is a fill
+has-all : (p s : Bool) → (p ≡ true → s ≡ true) → (p && true) ≡ (p && s)
+has-all true s h = sym (h refl)
+has-all false s h = refl
+
+pub everywhere-on : (c : Canvas) (d : Drawing) (b : List ℕ) {r : ℕ} → r ≡ numberOn c (d .colour) (d .own) → r ≡ 0 → Judged c (length b)
+    → ((u v : ℕ) → inWindow (c .window) (pos u) (pos v) ≡ true → d .figure (pos u) (pos v) ≡ true) → onCanvas c (fillDrawing (d .colour)) b ≡ onCanvas c d b
+unfolding onCanvas
+everywhere-on c d b e z J all =
+    let p = behind-passed (c .number) ((4, noColour (c .frame) (d .colour)) ∷ d .own) e z in
+    let number = sym (behind-0 (c .number) ((4, noColour (c .frame) (d .colour)) ∷ []) (p .0) (sym (both-pass ((4, noColour (c .frame) (d .colour)) ∷ []) (d .own) refl (p .1) .0))) ∙ sym z ∙ e in
+    let placing = sound (c .frame) (J .accepted (p .0) .described) in
     let made =
-    marked-cong (raster f) placing (d .colour) b (heldBy (wholeWindow f) everywhere) (heldBy (wholeWindow f) (d .figure))
-    (λ u v hu hv. ap (λ (t : Bool). inWindow (wholeWindow f) (pos u) (pos v) && t) (sym (all u v hu hv))) in
+    marked-cong (raster (c .frame)) placing (d .colour) b (heldBy (c .window) everywhere) (heldBy (c .window) (d .figure))
+    (λ u v hu hv. has-all (inWindow (c .window) (pos u) (pos v)) (d .figure (pos u) (pos v)) (all u v)) in
     λ i. (drawn (number i) (made i .0), cond (eqb (number i) 0) (made i .1) b)
 
+-- ---- on the canvas of the whole frame
+pub is-judged : (f : Frame) (len : ℕ) {c : Canvas} → c ≡ overBytes f len → Judged c len
+is-judged f len e = subst (λ (c : Canvas). Judged c len) (sym e) (record { accepted = is-accepted f len; within = λ z. whole-within f })
+
+-- the same tests, in one list
+whole-number : (f : Frame) (len : ℕ) (d : Drawing) → numberOn (overBytes f len) (d .colour) (d .own) ≡ first (callTests f len d)
+unfolding drawTests
+whole-number f len d =
+    sym (first-append (frameTests f len) ((4, noColour f (d .colour)) ∷ d .own) (frame-numbered f len))
+    ∙ ap first (sym (append-assoc (frameTests f len) ((4, noColour f (d .colour)) ∷ []) (d .own)))
+
+pub draw-number : (f : Frame) (len colour : ℕ) {c : Canvas} {r : ℕ} → c ≡ overBytes f len → r ≡ numberOn c colour [] → r ≡ first (drawTests f len colour)
+unfolding drawTests
+draw-number f len colour e h =
+    h ∙ ap (λ (c : Canvas). numberOn c colour []) e ∙ sym (first-append (frameTests f len) ((4, noColour f colour) ∷ []) (frame-numbered f len))
+
+-- a call answers and leaves its outcome
+pub judged-outcome : (f : Frame) (d : Drawing) (b : List ℕ) {c : Canvas} {o : Drawn × List ℕ} → c ≡ overBytes f (length b) → o ≡ onCanvas c d b → o ≡ outcome f (wholeWindow f) d b
+unfolding onCanvas outcome
+judged-outcome f d b e h =
+    let m = marked (raster f) (heldBy (wholeWindow f) (d .figure)) (d .colour) b in
+    h ∙ ap (λ (c : Canvas). onCanvas c d b) e ∙ ap (λ (n : ℕ). (drawn n (m .0), cond (eqb n 0) (m .1) b)) (whole-number f (length b) d)
+
+pub judged-read : (f : Frame) (p : Point) (b : List ℕ) {c : Canvas} {r : Read} → c ≡ overBytes f (length b) → r ≡ readOn c p b
+    → r ≡ read (first (readTests f (length b) p)) (colourAt f p b)
+unfolding readOn readTests
+judged-read f p b e h =
+    h ∙ ap (λ (c : Canvas). readOn c p b) e
+    ∙ ap (λ (n : ℕ). read n (colourAt f p b)) (sym (first-append (frameTests f (length b)) ((8, isOutside f p) ∷ []) (frame-numbered f (length b))))
+
 -- what answers the needs of a call
-pub ruleset calls = (number-first, number-own, ready-own, own-passed, refused-outcome, brushed-outcome)
+pub ruleset calls = (first-on, own-on, ready-on, passed-on, refused-on, brushed-on)

@@ -5,3 +5,4 @@ pub mod Clips
 pub mod Calls
 pub mod Determined
 pub mod Interval
+pub mod Rows

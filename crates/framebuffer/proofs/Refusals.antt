@@ -32,9 +32,9 @@ pub draw-numbered : (f : Frame) (len colour : ℕ) → numbered (drawTests f len
 unfolding descriptionTests frameTests drawTests
 draw-numbered f len colour = refl
 
--- ---- a frame that was judged has the number of its tests
+-- ---- a frame that was judged over len bytes
 pub judged : (f : Frame) (len : ℕ) {c : Canvas} → c ≡ overBytes f len → Over c len
-judged f len e = ap (λ (c : Canvas). c .number) e ∙ sym (ap (λ (c : Canvas). first (frameTests (c .frame) len)) e)
+judged f len e = e ∙ ap (λ (g : Frame). overBytes g len) (sym (ap (λ (c : Canvas). c .frame) e))
 
 -- ---- a depth that is none of the seven
 pub no-depth : (f : Frame) (len colour : ℕ) → goodDepth (f .depth) ≡ false → 1 ≡ first (drawTests f len colour)

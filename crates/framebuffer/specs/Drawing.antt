@@ -34,12 +34,12 @@ fillDrawing colour = record { figure = everywhere; colour = colour; own = [] }
 abbrev pub callTests : Frame → ℕ → Drawing → Tests
 callTests f len d = drawTests f len (d .colour) ++ d .own
 
--- the answer, and the bytes: with a refusal those before it, else every pixel of the rectangle that the figure contains gets the colour, and is counted
+-- the answer, and the bytes, by a number: with a refusal those before it, else every pixel of the rectangle that the figure contains gets the colour, and is counted
+abbrev pub madeOf : ℕ → Frame → Window → Drawing → List ℕ → Drawn × List ℕ
+madeOf n f q d b = let m = marked (raster f) (heldBy q (d .figure)) (d .colour) b in (drawn n (m .0), cond (eqb n 0) (m .1) b)
+
 unfoldable pub outcome : Frame → Window → Drawing → List ℕ → Drawn × List ℕ
-outcome f q d b =
-    let n = first (callTests f (length b) d) in
-    let m = marked (raster f) (heldBy q (d .figure)) (d .colour) b in
-    (drawn n (m .0), cond (eqb n 0) (m .1) b)
+outcome f q d b = madeOf (first (callTests f (length b) d)) f q d b
 
 -- of setting a pixel: whether the rectangle holds it, in the place of a count
 unfoldable pub pixelOutcome : Frame → Window → Point → ℕ → List ℕ → Placed × List ℕ

@@ -32,17 +32,13 @@ pub record Drawable (f : Frame) (len colour : ℕ) : Type 0 where
   pub accepted : Accepted f len
   pub below : colour < 2 ^ (f .depth)
 
--- a frame with its number over len bytes
+-- the whole frame with its number over len bytes
 abbrev pub overBytes : Frame → ℕ → Canvas
-overBytes f len = record { frame = f; number = first (frameTests f len) }
+overBytes f len = record { frame = f; window = wholeWindow f; number = first (frameTests f len) }
 
--- the number is that over a buffer of len bytes; over some buffer
+-- a canvas is that over a buffer of len bytes
 abbrev pub Over : Canvas → ℕ → Type 0
-Over c len = c .number ≡ first (frameTests (c .frame) len)
-
-pub record OverSome (c : Canvas) : Type 0 where
-  pub len : ℕ
-  pub over : Over c len
+Over c len = c ≡ overBytes (c .frame) len
 
 -- a rectangle that ends within the frame
 pub record Within (q : Window) (f : Frame) : Type 0 where
@@ -51,14 +47,22 @@ pub record Within (q : Window) (f : Frame) : Type 0 where
   pub right : q .right ≤ f .width
   pub bottom : q .bottom ≤ f .height
 
+-- a canvas that was judged over a buffer of len bytes: where its number is 0 the frame is accepted, and the rectangle lies within it; over some buffer
+pub record Judged (c : Canvas) (len : ℕ) : Type 0 where
+  pub accepted : c .number ≡ 0 → Accepted (c .frame) len
+  pub within : c .number ≡ 0 → Within (c .window) (c .frame)
+
+abbrev pub JudgedSome : Canvas → Type 0
+JudgedSome c = c .number ≡ 0 → Described (c .frame)
+
 -- a brush that may paint on a buffer of len bytes
 pub record Ready (q : Brush) (len : ℕ) : Type 0 where
   pub drawable : Drawable (q .frame) len (q .colour)
   pub within : Within (q .window) (q .frame)
 
--- the brush for the whole frame
-abbrev pub wholeBrush : Frame → ℕ → Brush
-wholeBrush f colour = record { frame = f; window = wholeWindow f; colour = colour }
+-- the brush for the rectangle of a canvas
+abbrev pub brushOf : Canvas → ℕ → Brush
+brushOf c colour = record { frame = c .frame; window = c .window; colour = colour }
 
 -- what it makes of a figure, as far as its rectangle holds it: how many pixels that has, and a buffer with them in the colour
 abbrev pub brushed : Brush → (ℤ → ℤ → Bool) → List ℕ → ℕ × List ℕ

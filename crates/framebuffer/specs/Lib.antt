@@ -4,3 +4,4 @@ pub mod Description
 pub mod Judged
 pub mod Interval
 pub mod Drawing
+pub mod Canvas

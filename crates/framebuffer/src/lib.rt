@@ -2,6 +2,7 @@
 // put_point, set_point, paint_span, paint_more and read_point, which do not judge the frame again.
 ghost use mathlib.Core.Path.{_≡_};
 ghost use mathlib.Core.Bool.{true};
+ghost use mathlib.Core.List.{[]};
 ghost use Prim.Native.Nat.{ℕ, _+_, _*_, _/_, _≤_, _<_};
 ghost use lib.IntN.{pos};
 ghost use lib.ListN.{length};
@@ -14,9 +15,10 @@ ghost use Rattle.layout.specs.Packed.{goodDepth};
 ghost use Rattle.framebuffer.specs.Answer.{sized, read};
 ghost use Rattle.framebuffer.specs.Window.{inWindow, heldBy, wholeWindow, clipped};
 ghost use Rattle.framebuffer.specs.Description.{described, packedDistance, packed, raster, noDistance, size, descriptionTests, frameTests, drawTests, readTests, colourAt};
-ghost use Rattle.framebuffer.specs.Judged.{Described, Accepted, Drawable, overBytes, Over, OverSome, Within, Ready, wholeBrush, brushed, onTop};
+ghost use Rattle.framebuffer.specs.Judged.{Described, Accepted, Drawable, overBytes, Judged, JudgedSome, Within, Ready, brushOf, brushed, onTop};
 ghost use Rattle.framebuffer.specs.Drawing.{fillDrawing, outcome, pixelOutcome};
 ghost use Rattle.framebuffer.specs.Interval.{Held};
+ghost use Rattle.framebuffer.specs.Canvas.{numberOn, onCanvas, pixelOn, readOn, hasAll};
 
 // A frame as its owner describes it; `distance` is the number of bytes from a row to the next. It is made by Frame::new and Frame::packed and by nothing
 // else outside this crate.
@@ -28,9 +30,10 @@ pub struct Frame {
     pub distance: u32,
 }
 
-// Inside the library: a frame with its number over a buffer, 1, 2, 14 or 3, or 0. Calls on one frame and one buffer need not judge it each.
+// Inside the library: a frame and a rectangle of it that calls stay within, with their number over a buffer, or 0. Calls on one of them and one buffer need not judge it each.
 pub struct Canvas {
     pub frame: Frame,
+    pub window: Window,
     pub number: u32,
 }
 
@@ -126,14 +129,17 @@ impl Frame {
             bottom: self.height,
         }
     }
+}
 
-    // Inside the library: the brush for the whole frame.
+impl Canvas {
+    // Inside the library: the brush for the rectangle.
     pub fn brush(self, colour: u32) -> Brush
-        ensures { λ r. ⌜ r ≡ wholeBrush self colour ⌝ }
+        ensures { λ r. ⌜ r ≡ brushOf self colour ⌝ }
     {
-        let window = self.window();
+        let frame = self.frame;
+        let window = self.window;
         Brush {
-            frame: self,
+            frame,
             window,
             colour,
         }
@@ -216,22 +222,24 @@ pub fn frame_refusal(frame: Frame, len: usize) -> u32
 }
 
 impl Frame {
-    // Inside the library: the frame, judged over a buffer of `len` bytes.
+    // Inside the library: the whole frame, judged over a buffer of `len` bytes.
     pub fn over(self, len: usize) -> Canvas
         ensures { λ r. ⌜ r ≡ overBytes self len ⌝ }
     {
         let number = frame_refusal(self, len);
+        let window = self.window();
         Canvas {
             frame: self,
+            window,
             number,
         }
     }
 }
 
-// Inside the library: the refusal, one of these or 4, of a call that draws in a colour on a judged frame, or 0. Its own tests come after.
+// Inside the library: the number of a canvas, or 4, of a call that draws in a colour on it, or 0. Its own tests come after.
 pub fn colour_refusal(canvas: Canvas, colour: u32) -> u32
-    requires { ⌜ OverSome canvas ⌝ }
-    ensures { λ r. ⌜ ((len : ℕ) → Over canvas len → r ≡ first (drawTests (canvas .frame) len colour)) ⌝ }
+    requires { ⌜ JudgedSome canvas ⌝ }
+    ensures { λ r. ⌜ r ≡ numberOn canvas colour [] ⌝ }
 {
     let number = canvas.number;
     if number != 0 {
@@ -298,8 +306,8 @@ fn is_between(x: i32, low: u32, high: u32) -> bool
 }
 
 impl Window {
-    // Whether the rectangle of a frame holds a place.
-    fn holds(self, x: i32, y: i32) -> bool
+    // Inside the library: whether the rectangle of a frame holds a place.
+    pub fn holds(self, x: i32, y: i32) -> bool
         requires { ⌜ (self .left ≤ self .right) × (self .right ≤ 2048) × (self .top ≤ self .bottom) × (self .bottom ≤ 2048) ⌝ }
         ensures { λ r. ⌜ r ≡ inWindow self x y ⌝ }
     {
@@ -395,17 +403,38 @@ pub fn set_pixel(buf: &mut [u8], frame: Frame, p: geometry::Point, colour: u32) 
     }
 }
 
-// The colour of the pixel at a place.
-pub fn pixel(buf: &[u8], frame: Frame, p: geometry::Point) -> Read
-    ensures { λ r. ⌜ r ≡ read (first (readTests frame (length (now (buf .entry))) p)) (colourAt frame p (now (buf .entry))) ⌝ }
+// Inside the library: the same on a canvas.
+pub fn set_pixel_on(buf: &mut [u8], canvas: Canvas, p: geometry::Point, colour: u32) -> Placed
+    requires { ⌜ Judged canvas (length (now buf)) ⌝ }
+    ensures { λ r. ⌜ (r, now (buf .exit)) ≡ pixelOn canvas p colour (now (buf .entry)) ⌝ }
 {
-    let number = frame_refusal(frame, buf.len());
+    let number = colour_refusal(canvas, colour);
+    if number != 0 {
+        return Placed {
+            number,
+            inside: false,
+        };
+    }
+    Placed {
+        number: 0,
+        inside: put_point(buf, canvas.brush(colour), p),
+    }
+}
+
+// Inside the library: `pixel` on a canvas.
+pub fn pixel_on(buf: &[u8], canvas: Canvas, p: geometry::Point) -> Read
+    requires { ⌜ Judged canvas (length (now buf)) ⌝ }
+    ensures { λ r. ⌜ r ≡ readOn canvas p (now (buf .entry)) ⌝ }
+{
+    let number = canvas.number;
     if number != 0 {
         return Read { number, colour: 0 };
     }
+    let frame = canvas.frame;
+    let window = canvas.window;
     let x = p.0;
     let y = p.1;
-    if !frame.window().holds(x, y) {
+    if !window.holds(x, y) {
         return Read {
             number: 8,
             colour: 0,
@@ -415,6 +444,13 @@ pub fn pixel(buf: &[u8], frame: Frame, p: geometry::Point) -> Read
         number: 0,
         colour: read_point(buf, frame, x as u32, y as u32),
     }
+}
+
+// The colour of the pixel at a place.
+pub fn pixel(buf: &[u8], frame: Frame, p: geometry::Point) -> Read
+    ensures { λ r. ⌜ r ≡ read (first (readTests frame (length (now (buf .entry))) p)) (colourAt frame p (now (buf .entry))) ⌝ }
+{
+    pixel_on(buf, frame.over(buf.len()), p)
 }
 
 // ---- what a rectangle holds
@@ -596,14 +632,50 @@ fn fill_frame(buf: &mut [u8], frame: Frame, colour: u32)
     }
 }
 
-// Inside the library: `fill` on a frame that was judged over the buffer.
+// ---- a rectangle
+
+// The rows of a rectangle of an accepted frame, and how many pixels these have.
+fn fill_rows(buf: &mut [u8], brush: Brush) -> u32
+    requires { ⌜ Ready brush (length (now buf)) ⌝ }
+    ensures { λ r. ⌜ (r, now (buf .exit)) ≡ brushed brush everywhere (now (buf .entry)) ⌝ }
+{
+    let frame = brush.frame;
+    let window = brush.window;
+    let width = frame.width as i32;
+    let bottom = window.bottom;
+    let mut seen = 0u32;
+    let mut y = window.top;
+    while y < bottom {
+        seen = paint_more(buf, brush, y as i32, 0, width, seen);
+        y += 1;
+    }
+    seen
+}
+
+// Whether a canvas has the whole frame.
+fn is_whole(canvas: Canvas) -> bool
+    ensures { λ r. ⌜ r ≡ hasAll canvas ⌝ }
+{
+    let frame = canvas.frame;
+    let window = canvas.window;
+    ((window.left == 0) & (window.top == 0))
+        & ((window.right == frame.width) & (window.bottom == frame.height))
+}
+
+// Inside the library: `fill` on a canvas. The whole frame is filled as one run where it has no padding.
 pub fn fill_on(buf: &mut [u8], canvas: Canvas, colour: u32) -> Drawn
-    requires { ⌜ Over canvas (length (now buf)) ⌝ }
-    ensures { λ r. ⌜ (r, now (buf .exit)) ≡ outcome (canvas .frame) (wholeWindow (canvas .frame)) (fillDrawing colour) (now (buf .entry)) ⌝ }
+    requires { ⌜ Judged canvas (length (now buf)) ⌝ }
+    ensures { λ r. ⌜ (r, now (buf .exit)) ≡ onCanvas canvas (fillDrawing colour) (now (buf .entry)) ⌝ }
 {
     let number = colour_refusal(canvas, colour);
     if number != 0 {
         return Drawn { number, count: 0 };
+    }
+    if !is_whole(canvas) {
+        return Drawn {
+            number: 0,
+            count: fill_rows(buf, canvas.brush(colour)),
+        };
     }
     let frame = canvas.frame;
     fill_frame(buf, frame, colour);

@@ -8,13 +8,13 @@ colour-refusal-requires : tie.Need-colour-refusal-requires
 colour-refusal-requires c κs = search needs
 
 returns : tie.Need-returns
-returns c = λ len over. let n = c .before .colour-refusal .ensures len over in search calls
+returns c = let n = c .before .colour-refusal .ensures in search calls
 
 refusal-requires : tie.Need-refusal-requires
 refusal-requires c κs = search needs
 
 returns-2 : tie.Need-returns-2
-returns-2 c = λ len over. let n = c .before .before .colour-refusal .ensures len over in search calls
+returns-2 c = let n = c .before .before .colour-refusal .ensures in search calls
 
 pub circle-number-spec : {M : Type 1} → statement M
 circle-number-spec = tie.close (tie.spec colour-refusal-requires returns refusal-requires returns-2)

@@ -1,50 +1,50 @@
--- `drawing::circle_on` answers its number, and where that is 0 fills the rows within the frame, or all of it where the circle contains its corners. Assumes nothing.
-use mathlib.Core.Path.{_≡_, sym, _∙_}
-use mathlib.Core.List.{_++_}
+-- `drawing::circle_on` answers its number, and where that is 0 fills the rows within the rectangle, or all of it where the circle contains its corners. Assumes nothing.
+use mathlib.Core.Path.{_≡_, refl, sym, _∙_}
+use mathlib.Core.Bool.{true}
+use Prim.Native.Nat.{ℕ}
 use native.Mathlib.Omega.{arith}
-use lib.ListN.{length}
+use lib.IntN.{pos}
 use borrow.Author.Needs.{needs}
 use borrow.Author.Tests.{not-false}
-use Rattle.refusals.specs.First.{first}
 use Rattle.circle.specs.Refusal.{circleTests}
 use Rattle.circle.proofs.Corners.{corners-all}
 use Rattle.circle.proofs.Refusals.{is-accepted}
-use Rattle.framebuffer.specs.Description.{drawTests}
-use Rattle.framebuffer.proofs.Calls.{calls, drawable-own, everywhere-outcome}
+use Rattle.framebuffer.proofs.Calls.{calls, ready-on, everywhere-on}
+use Rattle.framebuffer.specs.Judged.{brushOf}
+use Rattle.framebuffer.specs.Window.{inWindow}
+use Rattle.framebuffer.proofs.Windows.{window-in, within-small}
 use Rattle.drawing.specs.Drawing.{circleDrawing}
+use Rattle.drawing.specs.Figure.{circleFigure}
 use Rattle.drawing.proofs.circle_on.Statement.{statement}
 use Rattle.drawing.proofs.circle_on.Tie as tie
 
 circle-number-requires : tie.Need-circle-number-requires
-circle-number-requires c κs = let s = c .before in record { len = length (s .args .buf .now); over = s .pre }
-
--- its number is that of the frame, the colour and its own tests
-number : (c : tie.After-circle-number) → (let a = c .before .before .args in c .circle-number .result ≡ first (drawTests (a .canvas .frame) (length (a .buf .now)) (a .colour) ++ (circleTests (a .topleft) (a .diameter))))
-number c = let s = c .before .before in c .circle-number .ensures (length (s .args .buf .now)) (s .pre)
+circle-number-requires c κs = λ z. c .before .pre .accepted z .described
 
 -- refused
 returns : tie.Need-returns
-returns c = let n = number (c .before) in search calls
+returns c = let n = c .before .circle-number .ensures in search calls
 
 -- accepted: the tests of the frame, the colour and the circle are passed
 accepted-covers-requires : tie.Need-accepted-covers-requires
 accepted-covers-requires c κs =
-    let a = c .before .before .before .before .args in
-    let n = number (c .before .before) in
-    let f = drawable-own (a .canvas .frame) (length (a .buf .now)) (a .colour) (circleTests (a .topleft) (a .diameter)) n (omega arith) .accepted .described in
-    (is-accepted _ _ (search calls), f .width, f .height)
+    let s = c .before .before .before .before in
+    let n = c .before .before .circle-number .ensures in
+    let R = ready-on (s .args .canvas) (s .args .colour) (circleTests (s .args .topleft) (s .args .diameter)) {q = brushOf (s .args .canvas) (s .args .colour)} (s .pre) refl n (omega arith) in
+    let w = within-small (R .within) (R .drawable .accepted .described) in
+    (is-accepted _ _ (search calls), omega (arith, w .0, w .1), omega (arith, w .2, w .3), w .1, w .3)
 
 brush-requires : tie.Need-brush-requires
 brush-requires c κs = search needs
 
 fill-circle-requires : tie.Need-fill-circle-requires
-fill-circle-requires c κs = let n = number (c .before .before .before .before .before .before) in (search calls, is-accepted _ _ (search calls))
+fill-circle-requires c κs = let n = c .before .before .before .before .before .before .circle-number .ensures in (search calls, is-accepted _ _ (search calls))
 
 same-length : tie.Need-same-length
 same-length c = search needs
 
 returns-2 : tie.Need-returns-2
-returns-2 c = let n = number (c .before .before .before .before .before .before .before .before .before) in search calls
+returns-2 c = let n = c .before .before .before .before .before .before .before .before .before .circle-number .ensures in search calls
 
 -- it contains the whole frame
 fill-on-requires : tie.Need-fill-on-requires
@@ -59,9 +59,11 @@ returns-3 c =
     let asked = filled .before .before in
     let judged = asked .before .before .before .before in
     let a = judged .before .before .args in
-    let all =
-    corners-all (a .topleft) (a .diameter) (a .canvas .frame .width) (a .canvas .frame .height) (sym (asked .before .accepted-covers .ensures) ∙ not-false _ (asked .if2 .left)) in
-    filled .fill-on .ensures ∙ everywhere-outcome (a .canvas .frame) (circleDrawing (a .topleft) (a .diameter) (a .colour)) (a .buf .now) (number judged) (omega arith) all
+    let q = a .canvas .window in
+    let e = sym (asked .before .accepted-covers .ensures) ∙ not-false _ (asked .if2 .left) in
+    let all : (u v : ℕ) → inWindow q (pos u) (pos v) ≡ true → circleFigure (a .topleft) (a .diameter) (pos u) (pos v) ≡ true =
+    λ u v h. let p = window-in q u v h in corners-all (a .topleft) (a .diameter) (q .left) (q .top) (q .right) (q .bottom) e u v (p .0 .0) (p .0 .1) (p .1 .0) (p .1 .1) in
+    filled .fill-on .ensures ∙ everywhere-on (a .canvas) (circleDrawing (a .topleft) (a .diameter) (a .colour)) (a .buf .now) (judged .circle-number .ensures) (omega arith) (judged .before .before .pre) all
 
 pub circle-on-spec : {M : Type 1} → statement M
 circle-on-spec =

@@ -14,8 +14,9 @@ use Rattle.triangle.proofs.Order.{All}
 use Rattle.triangle.proofs.Triangle.{upper}
 use Rattle.triangle.proofs.Refusals.{sorted-bounded}
 use Rattle.framebuffer.specs.Judged.{Ready, brushed}
+use Rattle.framebuffer.proofs.Rows.{brush-sound, few-pixels}
 use Rattle.drawing.specs.Figure.{lineFigure, sortedFigure, outlineFigure}
-use Rattle.drawing.proofs.Figures.{brush-sound, few-pixels, after-earlier}
+use Rattle.drawing.proofs.Figures.{after-earlier}
 use Rattle.drawing.proofs.Outline.{outline-flat}
 use Rattle.drawing.proofs.draw_edges.Statement.{statement}
 use Rattle.drawing.proofs.draw_edges.Tie as tie

@@ -17,9 +17,10 @@ use Rattle.triangle.specs.declared.Columns.{Columns}
 use Rattle.triangle.specs.Row.{hull, lineColumns}
 use Rattle.layout.specs.Figure.{spanFigure}
 use Rattle.framebuffer.specs.Judged.{Ready, brushed}
+use Rattle.framebuffer.proofs.Rows.{brush-sound}
 use Rattle.drawing.specs.Earlier.{newIn}
 use Rattle.drawing.specs.Figure.{lineFigure}
-use Rattle.drawing.proofs.Figures.{brush-sound, after-part}
+use Rattle.drawing.proofs.Figures.{after-part}
 use Rattle.drawing.proofs.Level.{level-line, level-both}
 use Rattle.drawing.proofs.draw_level_after.Statement.{statement}
 use Rattle.drawing.proofs.draw_level_after.Tie as tie

@@ -18,9 +18,8 @@ use Rattle.circle.proofs.Worked.{after-fits, after-is}
 use Rattle.layout.specs.Figure.{spanFigure}
 use Rattle.framebuffer.specs.Judged.{Ready, brushed, onTop}
 use Rattle.drawing.specs.Figure.{circleFigure}
-use Rattle.drawing.proofs.Figures.{brush-sound, few-pixels}
 use Rattle.drawing.proofs.Circles.{circle-columns, box-row, none-before, none-after}
-use Rattle.drawing.proofs.Rows.{above, rows-start, rows-turn, rows-end}
+use Rattle.framebuffer.proofs.Rows.{brush-sound, few-pixels, above, rows-start, rows-turn, rows-end}
 use Rattle.drawing.proofs.fill_circle_rows.Statement.{statement}
 use Rattle.drawing.proofs.fill_circle_rows.Tie as tie
 

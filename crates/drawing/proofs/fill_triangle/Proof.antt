@@ -25,9 +25,8 @@ use Rattle.layout.specs.Figure.{spanFigure}
 use Rattle.framebuffer.specs.Window.{inWindow}
 use Rattle.framebuffer.specs.Judged.{Ready, brushed, onTop}
 use Rattle.drawing.specs.Figure.{triangleFigure}
-use Rattle.drawing.proofs.Figures.{brush-sound, few-pixels}
 use Rattle.drawing.proofs.Fill.{solid, none-above, none-below, row-columns, past-fits, row-fits, nearer, still-below}
-use Rattle.drawing.proofs.Rows.{above, span-off, rows-start, rows-turn, rows-end}
+use Rattle.framebuffer.proofs.Rows.{brush-sound, few-pixels, above, span-off, rows-start, rows-turn, rows-end}
 use Rattle.drawing.proofs.fill_triangle.Statement.{statement}
 use Rattle.drawing.proofs.fill_triangle.Tie as tie
 

@@ -1,24 +1,24 @@
--- `framebuffer::colour_refusal` hands the frame's number on, and then asks the colour, which is judged by a depth of at most 32. Assumes nothing.
-use mathlib.Core.List.{[]}
-use mathlib.Core.Path.{refl, sym, _∙_}
+-- `framebuffer::colour_refusal` hands the canvas's number on, and then asks the colour, which is judged by a depth of at most 32. Assumes nothing.
+use mathlib.Core.List.{[], _∷_}
+use mathlib.Core.Path.{refl}
 use Prim.Native.Nat.{_≤_}
 use native.Mathlib.Omega.{arith}
 use borrow.Author.Needs.{needs}
 use borrow.Author.Tests.{le-leb, lt-leb}
 use Rattle.layout.proofs.Places.{depth-le}
-use Rattle.refusals.proofs.First.{refused, passed, stops, goes-on}
-use Rattle.framebuffer.specs.Description.{frameTests, drawTests}
-use Rattle.framebuffer.proofs.Refusals.{frame-numbered, is-accepted, one-shifted}
+use Rattle.refusals.proofs.First.{stops, goes-on}
+use Rattle.framebuffer.specs.Description.{noColour}
+use Rattle.framebuffer.proofs.Refusals.{one-shifted}
+use Rattle.framebuffer.proofs.Calls.{behind-0, behind-n}
 use Rattle.framebuffer.proofs.colour_refusal.Statement.{statement}
 use Rattle.framebuffer.proofs.colour_refusal.Tie as tie
 
 returns : tie.Need-returns
-unfolding drawTests
-returns c = λ len over. refused (frameTests _ len) _ over (c .if1 .taken)
+returns c = let a = c .before .args in behind-n (a .canvas .number) ((4, noColour (a .canvas .frame) (a .colour)) ∷ []) (c .if1 .taken)
 
 -- the frame is accepted, so that its depth is small
 small : (c : tie.Else1) → c .before .args .canvas .frame .depth ≤ 32
-small c = let s = c .before in depth-le _ (is-accepted (s .args .canvas .frame) (s .pre .len) (sym (s .pre .over) ∙ c .if1 .left) .described .depth)
+small c = depth-le _ (c .before .pre (c .if1 .left) .depth)
 
 cast-if2 : tie.Need-cast-if2
 cast-if2 c = search needs
@@ -27,16 +27,16 @@ shl-if2 : tie.Need-shl-if2
 shl-if2 c = omega (arith, small (c .before .before))
 
 returns-2 : tie.Need-returns-2
-unfolding drawTests
 returns-2 c =
     let b = c .before .before .before in
-    λ len over. passed (frameTests _ len) _ (frame-numbered _ len) over (b .if1 .left) (stops 4 _ [] (le-leb _ _ (rw (one-shifted _ (small b)) at (c .if2 .taken))))
+    let a = b .before .args in
+    behind-0 (a .canvas .number) ((4, noColour (a .canvas .frame) (a .colour)) ∷ []) (b .if1 .left) (stops 4 _ [] (le-leb _ _ (rw (one-shifted _ (small b)) at (c .if2 .taken))))
 
 returns-3 : tie.Need-returns-3
-unfolding drawTests
 returns-3 c =
     let b = c .before .before .before in
-    λ len over. passed (frameTests _ len) _ (frame-numbered _ len) over (b .if1 .left) (goes-on 4 _ [] (lt-leb _ _ (rw (one-shifted _ (small b)) at (c .if2 .left))) refl)
+    let a = b .before .args in
+    behind-0 (a .canvas .number) ((4, noColour (a .canvas .frame) (a .colour)) ∷ []) (b .if1 .left) (goes-on 4 _ [] (lt-leb _ _ (rw (one-shifted _ (small b)) at (c .if2 .left))) refl)
 
 pub colour-refusal-spec : {M : Type 1} → statement M
 colour-refusal-spec = tie.close (tie.spec returns cast-if2 shl-if2 returns-2 returns-3)

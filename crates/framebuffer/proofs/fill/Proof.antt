@@ -2,8 +2,7 @@
 use borrow.Author.Needs.{needs}
 use lib.ListN.{length}
 use Rattle.framebuffer.specs.Drawing.{fillDrawing}
-use Rattle.framebuffer.proofs.Refusals.{judged}
-use Rattle.framebuffer.proofs.Calls.{judged-outcome}
+use Rattle.framebuffer.proofs.Calls.{is-judged, judged-outcome}
 use Rattle.framebuffer.proofs.fill.Statement.{statement}
 use Rattle.framebuffer.proofs.fill.Tie as tie
 
@@ -11,7 +10,7 @@ over-requires : tie.Need-over-requires
 over-requires c κs = search needs
 
 fill-on-requires : tie.Need-fill-on-requires
-fill-on-requires c κs = let a = c .before .before .before .args in judged (a .frame) (length (a .buf .now)) (c .over .ensures)
+fill-on-requires c κs = let a = c .before .before .before .args in is-judged (a .frame) (length (a .buf .now)) (c .over .ensures)
 
 same-length : tie.Need-same-length
 same-length c = search needs

@@ -1,46 +1,86 @@
--- `framebuffer::fill_on` answers its number, and where that is 0 fills the frame. Assumes nothing.
-use mathlib.Core.Path.{_≡_, refl}
+-- `framebuffer::fill_on` answers its number, and where that is 0 fills the rectangle, the whole frame at once. Assumes nothing.
+use mathlib.Core.Path.{refl, sym, _∙_}
+use mathlib.Core.List.{[]}
 use native.Mathlib.Omega.{arith}
-use lib.ListN.{length}
 use borrow.Author.Needs.{needs}
-use Rattle.refusals.specs.First.{first}
-use Rattle.framebuffer.specs.Description.{drawTests}
-use Rattle.framebuffer.proofs.Calls.{drawable, number-alone, refused-outcome, whole-fits, filled-outcome}
+use borrow.Author.Tests.{not-false}
+use Rattle.framebuffer.specs.Drawing.{fillDrawing}
+use Rattle.framebuffer.proofs.Calls.{drawable-on, ready-on, refused-on, brushed-on, whole-fits, filled-on}
 use Rattle.framebuffer.proofs.fill_on.Statement.{statement}
 use Rattle.framebuffer.proofs.fill_on.Tie as tie
 
 colour-refusal-requires : tie.Need-colour-refusal-requires
-colour-refusal-requires c κs = let s = c .before in record { len = length (s .args .buf .now); over = s .pre }
-
--- its number is that of the frame and the colour
-number : (c : tie.After-colour-refusal) → (let a = c .before .before .args in c .colour-refusal .result ≡ first (drawTests (a .canvas .frame) (length (a .buf .now)) (a .colour)))
-number c = let s = c .before .before in c .colour-refusal .ensures (length (s .args .buf .now)) (s .pre)
+colour-refusal-requires c κs = λ z. c .before .pre .accepted z .described
 
 -- refused
 returns : tie.Need-returns
-returns c = let n = number (c .before) in search (number-alone, refused-outcome)
+returns c =
+    let n = c .before in
+    let a = n .before .before .args in
+    refused-on (a .canvas) (fillDrawing (a .colour)) (a .buf .now) (n .colour-refusal .ensures) (c .if1 .taken)
 
-fill-frame-requires : tie.Need-fill-frame-requires
-fill-frame-requires c κs =
-    let a = c .before .before .before .before .before .args in
-    drawable (a .canvas .frame) (length (a .buf .now)) (a .colour) (number (c .before .before .before)) (omega arith)
+is-whole-requires : tie.Need-is-whole-requires
+is-whole-requires c κs = search needs
 
-mul-t10 : tie.Need-mul-t10
-mul-t10 c =
-    let colour = c .before .before .before .before .before .before .before in
-    let a = colour .before .before .args in
-    omega (arith, whole-fits (a .canvas .frame) (length (a .buf .now)) (a .colour) (number colour) (omega arith))
+-- accepted: a part of the frame
+brush-requires : tie.Need-brush-requires
+brush-requires c κs = search needs
+
+fill-rows-requires : tie.Need-fill-rows-requires
+fill-rows-requires c κs =
+    let go = c .before .before .before .before in
+    let n = go .before in
+    let s = n .before .before in
+    ready-on (s .args .canvas) (s .args .colour) [] (s .pre) (c .brush .ensures) (n .colour-refusal .ensures) (go .if1 .left)
 
 same-length : tie.Need-same-length
 same-length c = search needs
 
--- accepted
 returns-2 : tie.Need-returns-2
 returns-2 c =
+    let fill = c .before .before in
+    let go = fill .before .before .before .before .before in
+    let n = go .before in
+    let a = n .before .before .args in
+    brushed-on (a .canvas) (fillDrawing (a .colour)) (a .buf .now) (n .colour-refusal .ensures) (go .if1 .left) (fill .before .brush .ensures) (fill .fill-rows .ensures)
+
+-- all of it
+fill-frame-requires : tie.Need-fill-frame-requires
+fill-frame-requires c κs =
+    let go = c .before .before .before .before in
+    let n = go .before in
+    let s = n .before .before in
+    drawable-on (s .args .canvas) (s .args .colour) [] (s .pre) (n .colour-refusal .ensures) (go .if1 .left)
+
+mul-t15 : tie.Need-mul-t15
+mul-t15 c = omega (arith, whole-fits (fill-frame-requires (c .before .before .before .before) (c .before .before .before .before .before .before .before .before .before .before .before .κs)))
+
+same-length-2 : tie.Need-same-length-2
+same-length-2 c = search needs
+
+returns-3 : tie.Need-returns-3
+returns-3 c =
     let fill = c .before .before .before in
-    let colour = fill .before .before .before .before in
-    let a = colour .before .before .args in
-    filled-outcome (a .canvas .frame) (a .colour) (a .buf .now) (number colour) (omega arith) refl (fill .fill-frame .ensures)
+    let whole = fill .before .before .before in
+    let go = whole .before .before in
+    let n = go .before in
+    let s = n .before .before in
+    let a = s .args in
+    filled-on (a .canvas) (a .colour) (a .buf .now) (n .colour-refusal .ensures) (go .if1 .left) (s .pre) (sym (whole .before .is-whole .ensures) ∙ not-false _ (whole .if2 .left)) refl
+    (fill .fill-frame .ensures)
 
 pub fill-on-spec : {M : Type 1} → statement M
-fill-on-spec = tie.close (tie.spec colour-refusal-requires returns fill-frame-requires mul-t10 same-length returns-2)
+fill-on-spec =
+    tie.close
+    (tie.spec
+    colour-refusal-requires
+    returns
+    is-whole-requires
+    brush-requires
+    fill-rows-requires
+    same-length
+    returns-2
+    fill-frame-requires
+    mul-t15
+    same-length-2
+    returns-3)

@@ -1,12 +1,14 @@
 -- `charts::day::draw_sample` draws the disc of a sample that is on the picture. Assumes nothing.
 use mathlib.Core.Path.{sym, ap, _∙_}
 use lib.IntN.{pos, _-ℤ_}
+use lib.ListN.{length}
 use borrow.Author.Needs.{needs}
 use mir.Syntax.{w32}
 use Rattle.whole.proofs.Machine.{field-back, fits, read, lit, back, minus}
 use Rattle.geometry.specs.declared.Point.{Point}
 use Rattle.framebuffer.specs.Drawing.{outcome}
 use Rattle.framebuffer.specs.Window.{wholeWindow}
+use Rattle.framebuffer.proofs.Calls.{is-judged, judged-outcome}
 use Rattle.drawing.specs.Drawing.{circleDrawing}
 use Rattle.charts.specs.Picture.{spot}
 use Rattle.charts.proofs.Drawn.{bytes-of, shown, hidden}
@@ -34,7 +36,9 @@ sub-t13 c =
     fits (minus (read (at .spot .result .1) (spot-near _ _ _ (at .spot .ensures) .1) tt) (lit 1 tt) tt)
 
 circle-on-requires : tie.Need-circle-on-requires
-circle-on-requires c κs = search needs
+circle-on-requires c κs =
+    let s = c .before .before .before .before .before .before .before .before .before .before .before .before in
+    is-judged (s .args .canvas .frame) (length (s .args .pane .now)) (s .pre .0)
 
 same-length : tie.Need-same-length
 same-length c = search needs
@@ -51,7 +55,7 @@ returns c =
     ∙ (λ i. spot (a .e) (field-back w32 (a .p .x) (told .struct-told .given .1 .0 .1) i) (field-back w32 (a .p .y) (told .struct-told .given .1 .1 .0 .1) i)) in
     let x = back (minus (read (at .spot .result .0) (spot-near _ _ _ (at .spot .ensures) .0) tt) (lit 1 tt) tt) .is ∙ ap (λ (p : Point). p .0 -ℤ pos 1) place in
     let y = back (minus (read (at .spot .result .1) (spot-near _ _ _ (at .spot .ensures) .1) tt) (lit 1 tt) tt) .is ∙ ap (λ (p : Point). p .1 -ℤ pos 1) place in
-    bytes-of (drawn .circle-on .ensures)
+    bytes-of (judged-outcome (a .canvas .frame) _ (a .pane .now) (asked .before .before .pre .0) (drawn .circle-on .ensures))
     ∙ (λ i. outcome (a .canvas .frame) (wholeWindow (a .canvas .frame)) (circleDrawing (x i, y i) 3 (colour .disc-colour .ensures i)) (a .pane .now) .1)
     ∙ shown (a .canvas .frame) (a .e) (a .v) (a .p) (a .pane .now) (sym (asked .is-shown .ensures) ∙ told .before .if1 .taken)
 

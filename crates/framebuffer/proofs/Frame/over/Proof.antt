@@ -1,6 +1,4 @@
--- `framebuffer::Frame::over` asks the frame's number once. Assumes nothing.
-use mathlib.Core.Path.{ap}
-use Prim.Native.Nat.{ℕ}
+-- `framebuffer::Frame::over` asks the frame's number once, and takes the rectangle of the whole frame. Assumes nothing.
 use borrow.Author.Needs.{needs}
 use Rattle.framebuffer.specs.declared.Canvas.{Canvas}
 use Rattle.framebuffer.proofs.Frame.over.Statement.{statement}
@@ -9,8 +7,11 @@ use Rattle.framebuffer.proofs.Frame.over.Tie as tie
 frame-refusal-requires : tie.Need-frame-refusal-requires
 frame-refusal-requires c κs = search needs
 
+window-requires : tie.Need-window-requires
+window-requires c κs = search needs
+
 returns : tie.Need-returns
-returns c = ap {B = Canvas} (λ (n : ℕ). record { frame = c .before .args .self; number = n }) (c .frame-refusal .ensures)
+returns c = λ i. record { frame = c .before .before .args .self; window = c .window .ensures i; number = c .before .frame-refusal .ensures i }
 
 pub over-spec : {M : Type 1} → statement M
-over-spec = tie.close (tie.spec frame-refusal-requires returns)
+over-spec = tie.close (tie.spec frame-refusal-requires window-requires returns)

@@ -1,22 +1,56 @@
--- Laws of painting a figure row by row, from the top down: what is painted is the figure above the next row. Assumes nothing.
+-- Laws of painting by a brush: one figure after another, and a figure row by row, from the top down: what is painted is the figure above the next row. Assumes nothing.
 use mathlib.Core.Path.{_≡_, refl, sym, ap, _∙_}
 use mathlib.Core.Bool.{Bool, true, false, _&&_, _||_}
 use mathlib.Core.List.{List}
-use Prim.Native.Nat.{ℕ, _+_, _<_}
+use Prim.Native.Nat.{ℕ, _+_, _*_, _≤_, _<_}
+use native.Mathlib.Nat.{mul-le-mul}
+use native.Mathlib.Omega.{arith}
 use lib.IntN.{ℤ, pos, _+ℤ_}
 use lib.Signed.{leZ, ltZ, _≤ℤ_, _<ℤ_}
 use Rattle.whole.specs.Equal.{eqZ}
 use Rattle.whole.proofs.Decides.{decides-lt, decides-eq, decides-yes, decides-no}
 use Rattle.whole.proofs.Order.{le-lt-more, more-lt-le, le-of, lt-le, lt-apart, le-antisym}
+use Rattle.whole.proofs.Difference.{le-nat, lt-nat}
 use Rattle.whole.proofs.Machine.{lt-yes, lt-no}
-use Rattle.layout.specs.Figure.{spanFigure}
-use Rattle.layout.proofs.Placing.{Placing}
-use Rattle.layout.proofs.Pixels.{marked-cong, marked-none}
+use Rattle.whole.proofs.Tests.{and-true, fails}
+use Rattle.layout.specs.Figure.{spanFigure, everywhere}
+use Rattle.layout.specs.Count.{pixelsIn}
+use Rattle.layout.proofs.Placing.{Placing, Everywhere}
+use Rattle.layout.proofs.Pixels.{pixels-le, marked-cong, marked-none, marked-then}
 use Rattle.framebuffer.specs.declared.Brush.{Brush}
+use Rattle.framebuffer.specs.declared.Window.{Window}
 use Rattle.framebuffer.specs.Description.{raster}
-use Rattle.framebuffer.specs.Judged.{brushed, onTop}
+use Rattle.framebuffer.specs.Judged.{Ready, brushed, onTop}
 use Rattle.framebuffer.specs.Window.{inWindow, heldBy}
-use Rattle.drawing.proofs.Figures.{within-both, brushed-more}
+use Rattle.framebuffer.proofs.Refusals.{sound}
+use Rattle.framebuffer.proofs.Windows.{window-in}
+
+-- the rectangle is asked once for both
+pub within-both : (p a b : Bool) → (p && a) || (p && b) ≡ p && (a || b)
+within-both true a b = refl
+within-both false a b = refl
+
+-- a brush that may paint has a sound layout, and few pixels
+pub brush-sound : {q : Brush} {len : ℕ} → Ready q len → Placing (raster (q .frame))
+brush-sound {q} R = sound (q .frame) (R .drawable .accepted .described)
+
+pub few-pixels : {q : Brush} {len : ℕ} → Ready q len → (s : ℤ → ℤ → Bool) {n : ℕ} → n ≡ pixelsIn (raster (q .frame)) s → n ≤ 4194304
+few-pixels {q} R s e =
+    let D = R .drawable .accepted .described in
+    let m : q .frame .height * q .frame .width ≤ 2048 * 2048 = mul-le-mul (D .height) (D .width) in
+    let h = pixels-le (raster (q .frame)) s in
+    omega arith
+
+module _ (q : Brush) (P : Placing (raster (q .frame))) (b : List ℕ) where
+  -- and the pixels add up, where no pixel of the frame is in both
+  pub brushed-more : (s t u : ℤ → ℤ → Bool) {m n : ℕ} {now next : List ℕ} → (m, now) ≡ brushed q s b → (n, next) ≡ brushed q t now
+      → Everywhere (raster (q .frame)) (λ x y. heldBy (q .window) s (pos x) (pos y) && heldBy (q .window) t (pos x) (pos y) ≡ false)
+      → Everywhere (raster (q .frame)) (λ x y. heldBy (q .window) s (pos x) (pos y) || heldBy (q .window) t (pos x) (pos y) ≡ heldBy (q .window) u (pos x) (pos y))
+      → (m + n, next) ≡ brushed q u b
+  brushed-more s t u {m} e f apart joined =
+      ap (λ (r : ℕ × List ℕ). (m + r .0, r .1)) f
+      ∙ ap (λ (r : ℕ × List ℕ). (r .0 + brushed q t b .0, brushed q t (r .1) .1)) e
+      ∙ marked-then (raster (q .frame)) P (q .colour) b (heldBy (q .window) s) (heldBy (q .window) t) (heldBy (q .window) u) apart joined
 
 -- the figure's rows above y
 abbrev pub above : (ℤ → ℤ → Bool) → ℤ → ℤ → ℤ → Bool
@@ -93,3 +127,10 @@ module _ (q : Brush) (P : Placing (raster (q .frame))) (b : List ℕ) (figure : 
       by : (p l f : Bool) → (l ≡ false → (p && f) ≡ false) → (p && (l && f)) ≡ (p && f)
       by p true f h = refl
       by p false f h = span-off p false refl ∙ sym (h refl)
+
+-- ---- a rectangle itself: it has no row above its top, nor one at its bottom or below
+pub above-top : (q : Window) (u v : ℕ) → pos v <ℤ pos (q .top) → heldBy q everywhere (pos u) (pos v) ≡ false
+above-top q u v l = fails _ (λ e. let p = window-in q u v (and-true (inWindow q (pos u) (pos v)) true e .0) .1 .0 in omega (arith, lt-nat l))
+
+pub below-bottom : (q : Window) (y u v : ℕ) → q .bottom ≤ y → pos y ≤ℤ pos v → heldBy q everywhere (pos u) (pos v) ≡ false
+below-bottom q y u v h l = fails _ (λ e. let p = window-in q u v (and-true (inWindow q (pos u) (pos v)) true e .0) .1 .1 in omega (arith, le-nat l))

@@ -1,0 +1,38 @@
+-- What a call on a canvas answers and leaves, whichever rectangle the canvas has and whatever it was judged by.
+use mathlib.Core.Bool.{Bool, cond, not, _&&_}
+use mathlib.Core.List.{List, [], _∷_}
+use Prim.Native.Nat.{ℕ}
+use lib.Dec.{eqb}
+use Rattle.refusals.specs.First.{Tests, first}
+use Rattle.geometry.specs.declared.Point.{Point}
+use Rattle.framebuffer.specs.declared.Canvas.{Canvas}
+use Rattle.framebuffer.specs.declared.Drawn.{Drawn}
+use Rattle.framebuffer.specs.declared.Placed.{Placed}
+use Rattle.framebuffer.specs.declared.Read.{Read}
+use Rattle.framebuffer.specs.Answer.{wasInside, read}
+use Rattle.framebuffer.specs.Description.{noColour, colourAt}
+use Rattle.framebuffer.specs.Drawing.{Drawing, pixelDrawing, madeOf}
+use Rattle.framebuffer.specs.Window.{inWindow}
+
+-- a number, or where that is 0 the first of further tests
+abbrev pub behind : ℕ → Tests → ℕ
+behind n ts = cond (eqb n 0) (first ts) n
+
+-- of a call that draws: the canvas's, the colour's, and those of its own
+abbrev pub numberOn : Canvas → ℕ → Tests → ℕ
+numberOn c colour own = behind (c .number) ((4, noColour (c .frame) colour) ∷ own)
+
+unfoldable pub onCanvas : Canvas → Drawing → List ℕ → Drawn × List ℕ
+onCanvas c d b = madeOf (numberOn c (d .colour) (d .own)) (c .frame) (c .window) d b
+
+-- of setting a pixel: whether the rectangle holds it, in the place of a count
+unfoldable pub pixelOn : Canvas → Point → ℕ → List ℕ → Placed × List ℕ
+pixelOn c p colour b = (wasInside (numberOn c colour []) (inWindow (c .window) (p .0) (p .1)), onCanvas c (pixelDrawing p colour) b .1)
+
+-- of reading: 8 where the rectangle does not hold the pixel
+unfoldable pub readOn : Canvas → Point → List ℕ → Read
+readOn c p b = read (behind (c .number) ((8, not (inWindow (c .window) (p .0) (p .1))) ∷ [])) (colourAt (c .frame) p b)
+
+-- whether the rectangle is that of the whole frame
+abbrev pub hasAll : Canvas → Bool
+hasAll c = (eqb (c .window .left) 0 && eqb (c .window .top) 0) && (eqb (c .window .right) (c .frame .width) && eqb (c .window .bottom) (c .frame .height))

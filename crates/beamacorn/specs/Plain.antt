@@ -14,7 +14,6 @@ use Rattle.framebuffer.specs.declared.Read.{Read}
 use Rattle.framebuffer.specs.Answer.{read}
 use Rattle.framebuffer.specs.Description.{described, raster, readTests, colourAt}
 use Rattle.framebuffer.specs.Drawing.{Drawing, outcome, pixelOutcome}
-use Rattle.framebuffer.specs.Window.{wholeWindow}
 use Rattle.layout.specs.Count.{litIn}
 use Rattle.lights.specs.declared.Lights.{Lights}
 use Rattle.lights.specs.Answer.{litTests, lights}
@@ -26,11 +25,11 @@ frameOf width height depth order distance = described width height depth (not (e
 
 -- what a call that draws on the whole of that frame answers and leaves
 abbrev pub outcomeOn : ℕ → ℕ → ℕ → ℕ → ℕ → Drawing → List ℕ → Drawn × List ℕ
-outcomeOn width height depth order distance d b = let f = frameOf width height depth order distance in outcome f (wholeWindow f) d b
+outcomeOn width height depth order distance d b = let f = frameOf width height depth order distance in outcome f d b
 
 -- what setting a pixel of it answers and leaves
 abbrev pub placedOn : ℕ → ℕ → ℕ → ℕ → ℕ → Point → ℕ → List ℕ → Placed × List ℕ
-placedOn width height depth order distance p colour b = let f = frameOf width height depth order distance in pixelOutcome f (wholeWindow f) p colour b
+placedOn width height depth order distance p colour b = let f = frameOf width height depth order distance in pixelOutcome f p colour b
 
 -- what counting its lit pixels answers
 abbrev pub litOn : ℕ → ℕ → ℕ → ℕ → ℕ → List ℕ → Lights

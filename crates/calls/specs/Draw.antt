@@ -6,7 +6,6 @@ use Rattle.framebuffer.specs.declared.Drawn.{Drawn}
 use Rattle.framebuffer.specs.declared.Frame.{Frame}
 use Rattle.framebuffer.specs.declared.Placed.{Placed}
 use Rattle.framebuffer.specs.Drawing.{Drawing, fillDrawing, outcome, pixelOutcome}
-use Rattle.framebuffer.specs.Window.{wholeWindow}
 use Rattle.drawing.specs.Drawing.{lineDrawing, triangleDrawing, outlineDrawing, circleDrawing, connectedDrawing}
 use Rattle.text.specs.Fields.{nextU32}
 use Rattle.protocol.specs.declared.reply.Reply.{Reply}
@@ -28,14 +27,14 @@ placedSaid c = (verdictReply (record { number = c .0 .number; yes = c .0 .inside
 
 unfoldable pub pixelCall : List ℕ → ℕ → Frame → List ℕ → Reply × List ℕ
 pixelCall said at f b =
-    ofTwo (λ p c. callIfLast said (c .next) (placedSaid (pixelOutcome f (wholeWindow f) (p .point) (c .value) b)) b) (nextPoint said at) (λ p. nextU32 said (p .next))
+    ofTwo (λ p c. callIfLast said (c .next) (placedSaid (pixelOutcome f (p .point) (c .value) b)) b) (nextPoint said at) (λ p. nextU32 said (p .next))
 
 -- ---- a drawing on the whole frame: number, how many pixels of it the figure contains (02, T-02)
 abbrev pub drawnSaid : Drawn × List ℕ → Reply × List ℕ
 drawnSaid c = (One (c .0 .number) (Natural (c .0 .count)), c .1)
 
 abbrev pub called : List ℕ → ℕ → Frame → Drawing → List ℕ → Reply × List ℕ
-called said next f d b = callIfLast said next (drawnSaid (outcome f (wholeWindow f) d b)) b
+called said next f d b = callIfLast said next (drawnSaid (outcome f d b)) b
 
 -- `fill C`
 unfoldable pub fillCall : List ℕ → ℕ → Frame → List ℕ → Reply × List ℕ

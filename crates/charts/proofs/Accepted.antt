@@ -1,6 +1,6 @@
 -- No call of a chart is refused, on a frame's bytes of the size that it takes: no place is out of the range of coordinates, and every colour is one of the depth.
 -- Assumes nothing.
-use mathlib.Core.Path.{_≡_, refl, sym}
+use mathlib.Core.Path.{_≡_, refl}
 use mathlib.Core.Bool.{Bool, true, false, cond}
 use mathlib.Core.List.{List, [], _∷_, _++_}
 use Prim.Native.Nat.{ℕ, _+_, _-_, _≤_, suc}
@@ -17,10 +17,10 @@ use Rattle.line.specs.Answer.{endTests}
 use Rattle.triangle.specs.Answer.{vertexTests}
 use Rattle.circle.specs.Refusal.{circleTests}
 use Rattle.layout.specs.Packed.{rowBytes}
-use Rattle.framebuffer.specs.Description.{packedDistance, size, descriptionTests, frameTests, drawTests}
+use Rattle.framebuffer.specs.Description.{packedDistance, size, noColour, descriptionTests, frameTests}
 use Rattle.framebuffer.specs.Drawing.{Drawing, callTests}
 use Rattle.drawing.specs.Drawing.{circleDrawing}
-use Rattle.framebuffer.proofs.Calls.{number-own}
+use Rattle.framebuffer.proofs.Calls.{none-holds}
 use Rattle.text.specs.declared.Place.{Place}
 use Rattle.text.specs.declared.Vertices.{Vertices}
 use Rattle.text.specs.Fields.{fields, lines, readPlace}
@@ -63,8 +63,9 @@ spot-within e x y =
 
 -- ---- a call
 module _ (d : Drawing) where
-  accepted : first (drawTests picture 691200 (d .colour)) ≡ 0 → first (d .own) ≡ 0 → first (callTests picture 691200 d) ≡ 0
-  accepted h k = sym (number-own picture 691200 (d .colour) (d .own) (sym h) refl (sym k))
+  accepted : noColour picture (d .colour) ≡ false → first (d .own) ≡ 0 → first (callTests picture 691200 d) ≡ 0
+  unfolding frameTests descriptionTests size packedDistance rowBytes
+  accepted h k = none-holds picture 691200 d refl h k
 
 three-within : (p q r : Point) → inBounds p ≡ true → inBounds q ≡ true → inBounds r ≡ true → first (vertexTests p q r) ≡ 0
 unfolding vertexTests
@@ -78,14 +79,13 @@ disc-within e p =
     let y : natAbs (spot e (p .x) (p .y) .1 -ℤ pos 1) ≤ 130500 = omega (arith, add-size (spot e (p .x) (p .y) .1) (negℤ (pos 1)), n .1) in
     rw (near-coord (discCorner e p .0) x, near-coord (discCorner e p .1) y, near-edge (discCorner e p .0) x, near-edge (discCorner e p .1) y)
 
-either : (t : Bool) → first (drawTests picture 691200 (cond t outside inside)) ≡ 0
-unfolding drawTests frameTests descriptionTests size packedDistance rowBytes
+either : (t : Bool) → noColour picture (cond t outside inside) ≡ false
 either true = refl
 either false = refl
 
 -- ---- the day
 under-done : (e : Extent) (v : Vertices) → Done (under e v)
-unfolding under drawTests frameTests descriptionTests size packedDistance rowBytes vertexTests endTests
+unfolding under frameTests descriptionTests size packedDistance rowBytes vertexTests endTests
 under-done e v =
     one refl
     (one (accepted (wedgeDrawing e v) refl (three-within (onPicture e (corner1 v)) (onPicture e (corner2 v)) (onPicture e (corner3 v))

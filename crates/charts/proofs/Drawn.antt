@@ -6,7 +6,6 @@ use Prim.Native.Nat.{ℕ}
 use Rattle.framebuffer.specs.declared.Frame.{Frame}
 use Rattle.framebuffer.specs.declared.Drawn.{Drawn}
 use Rattle.framebuffer.specs.Drawing.{Drawing, outcome}
-use Rattle.framebuffer.specs.Window.{wholeWindow}
 use Rattle.drawing.specs.Drawing.{circleDrawing}
 use Rattle.text.specs.declared.Place.{Place}
 use Rattle.text.specs.declared.Vertices.{Vertices}
@@ -22,7 +21,7 @@ bytes-of e = ap (λ (q : Drawn × List ℕ). q .1) e
 module _ (f : Frame) where
   pub leaves-append : (ds es : List Drawing) (b : List ℕ) → leaves f (ds ++ es) b ≡ leaves f es (leaves f ds b)
   leaves-append [] es b = refl
-  leaves-append (d ∷ ds) es b = leaves-append ds es (outcome f (wholeWindow f) d b .1)
+  leaves-append (d ∷ ds) es b = leaves-append ds es (outcome f d b .1)
 
   -- a line's disc
   abbrev pub sampled : Extent → Vertices → List ℕ → List ℕ → List ℕ
@@ -35,7 +34,7 @@ module _ (f : Frame) where
 
   -- a sample's disc, where it is on the picture and where not
   module _ (e : Extent) (v : Vertices) (p : Place) (b : List ℕ) where
-    pub shown : isShown p ≡ true → outcome f (wholeWindow f) (circleDrawing (discCorner e p) 3 (discColour v p)) b .1 ≡ leaves f (disc e v p) b
+    pub shown : isShown p ≡ true → outcome f (circleDrawing (discCorner e p) 3 (discColour v p)) b .1 ≡ leaves f (disc e v p) b
     unfolding disc
     shown h = sym (ap (λ (t : Bool). leaves f (cond t (circleDrawing (discCorner e p) 3 (discColour v p) ∷ []) []) b) h)
 

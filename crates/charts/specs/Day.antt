@@ -9,7 +9,6 @@ use lib.Signed.{ltZ}
 use Rattle.geometry.specs.declared.Point.{Point}
 use Rattle.framebuffer.specs.declared.Frame.{Frame}
 use Rattle.framebuffer.specs.Drawing.{Drawing, fillDrawing, outcome}
-use Rattle.framebuffer.specs.Window.{wholeWindow}
 use Rattle.drawing.specs.Drawing.{lineDrawing, triangleDrawing, circleDrawing}
 use Rattle.text.specs.declared.Place.{Place}
 use Rattle.text.specs.declared.Vertices.{Vertices}
@@ -24,7 +23,7 @@ use Rattle.charts.specs.Picture.{picture, ground, filling, ink, inside, 
 -- ---- what calls leave of a frame's bytes, one after the other
 abbrev pub leaves : Frame → List Drawing → List ℕ → List ℕ
 leaves f [] b = b
-leaves f (d ∷ ds) b = leaves f ds (outcome f (wholeWindow f) d b .1)
+leaves f (d ∷ ds) b = leaves f ds (outcome f d b .1)
 
 -- ---- the calls
 -- a rectangle from one corner to another, as two triangles

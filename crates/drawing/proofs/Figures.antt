@@ -3,7 +3,7 @@ use mathlib.Core.Path.{_≡_, refl, sym, ap, ap₂, _∙_}
 use mathlib.Core.Bool.{Bool, true, false, not, _&&_, _||_}
 use mathlib.Core.List.{List}
 use mathlib.Core.Logic.{⊎-elim}
-use Prim.Native.Nat.{ℕ, zero, suc, _+_, _*_, _≤_, _<_}
+use Prim.Native.Nat.{ℕ, zero, suc, _+_, _≤_, _<_}
 use native.Mathlib.Numerals.{add-one}
 use native.Mathlib.Omega.{arith}
 use lib.IntN.{ℤ, pos}
@@ -18,13 +18,12 @@ use Rattle.connected.specs.Connected.{connectedAt, connectedPoints, hasConnecte
 use Rattle.layout.specs.Count.{oneIf, pixelsIn}
 use Rattle.layout.specs.Figure.{single}
 use Rattle.layout.proofs.Counts.{one-small}
-use Rattle.layout.proofs.Placing.{Placing, Everywhere}
+use Rattle.layout.proofs.Placing.{Placing}
 use Rattle.layout.proofs.Painted.{painted-cong, painted-none, painted-painted}
 use Rattle.layout.proofs.Pixels.{pixels-cong, pixels-none, pixels-add}
 use Rattle.framebuffer.specs.declared.Brush.{Brush}
 use Rattle.framebuffer.specs.declared.Window.{Window}
-use Rattle.framebuffer.specs.Description.{raster}
-use Rattle.framebuffer.specs.Judged.{Ready, brushed}
+use Rattle.framebuffer.specs.Judged.{Ready, ground, brushed}
 use Rattle.framebuffer.specs.Window.{inWindow, heldBy}
 use Rattle.framebuffer.proofs.Rows.{within-both, brush-sound}
 use Rattle.framebuffer.proofs.Windows.{point-count}
@@ -102,21 +101,21 @@ module _ (q : Window) (path : ℕ → Point) (x y : ℤ) where
       ⊎-elim (λ h. let z : j ≡ suc n = omega arith in ap (λ (k : ℕ). heldBy q (walked path k) x y) z)
       (λ h. walked-skip n j h (λ i a b. out i a (omega arith)) ∙ skip-one n (walked path n x y) (out n h (omega arith))) (lt-or-ge n j)
 
-module _ (q : Brush) (P : Placing (raster (q .frame))) (b : List ℕ) where
+module _ (q : Brush) (P : Placing (ground q)) (b : List ℕ) where
   -- one figure, then another
   pub brushed-then : (s t : ℤ → ℤ → Bool) → brushed q t (brushed q s b .1) .1 ≡ brushed q (λ x y. s x y || t x y) b .1
   brushed-then s t =
-      painted-painted (raster (q .frame)) P (q .colour) b (heldBy (q .window) t) (heldBy (q .window) s)
-      ∙ painted-cong (raster (q .frame)) P (q .colour) b _ _ (λ x y w h. within-both (inWindow (q .window) (pos x) (pos y)) (s (pos x) (pos y)) (t (pos x) (pos y)))
+      painted-painted (ground q) P (q .colour) b (heldBy (q .window) t) (heldBy (q .window) s)
+      ∙ painted-cong (ground q) P (q .colour) b _ _ (λ x y w h. within-both (inWindow (q .window) (pos x) (pos y)) (s (pos x) (pos y)) (t (pos x) (pos y)))
 
   -- ---- a walk, point by point
   walked-start : (path : ℕ → Point) → brushed q (walked path 0) b .1 ≡ b
-  walked-start path = painted-none (raster (q .frame)) P (q .colour) b _ (λ x y w h. within-none (inWindow (q .window) (pos x) (pos y)))
+  walked-start path = painted-none (ground q) P (q .colour) b _ (λ x y w h. within-none (inWindow (q .window) (pos x) (pos y)))
 
   walked-more : (path : ℕ → Point) (k : ℕ) → brushed q (single (path k .0) (path k .1)) (brushed q (walked path k) b .1) .1 ≡ brushed q (walked path (k + 1)) b .1
   walked-more path k =
-      painted-painted (raster (q .frame)) P (q .colour) b (heldBy (q .window) (single (path k .0) (path k .1))) (heldBy (q .window) (walked path k))
-      ∙ painted-cong (raster (q .frame)) P (q .colour) b _ _
+      painted-painted (ground q) P (q .colour) b (heldBy (q .window) (single (path k .0) (path k .1))) (heldBy (q .window) (walked path k))
+      ∙ painted-cong (ground q) P (q .colour) b _ _
       (λ x y w h. within-swap (inWindow (q .window) (pos x) (pos y)) (walked path k (pos x) (pos y)) (samePlace (pos x, pos y) (path k)))
       ∙ ap (λ (n : ℕ). brushed q (walked path n) b .1) (sym (add-one k))
 
@@ -127,10 +126,10 @@ none-earlier : (q : Brush) (figure : ℤ → ℤ → Bool) (b : List ℕ) {n : �
 none-earlier q figure b e f = λ i. ((e ∙ all) i, f i)
   where
     all : brushed q (newIn (λ x y. false) figure) b .0 ≡ brushed q figure b .0
-    all = pixels-cong (raster (q .frame)) _ _ (λ x y hx hy. ap (λ (t : Bool). inWindow (q .window) (pos x) (pos y) && t) (and-true (figure (pos x) (pos y))))
+    all = pixels-cong (ground q) _ _ (λ x y hx hy. ap (λ (t : Bool). inWindow (q .window) (pos x) (pos y) && t) (and-true (figure (pos x) (pos y))))
 
 -- a figure drawn after an earlier one, of which only what is new was counted: both together
-pub after-earlier : (q : Brush) → Placing (raster (q .frame)) → (s t before : ℤ → ℤ → Bool) (b : List ℕ) {m n : ℕ} {now next : List ℕ} → ((x y : ℤ) → before x y ≡ s x y)
+pub after-earlier : (q : Brush) → Placing (ground q) → (s t before : ℤ → ℤ → Bool) (b : List ℕ) {m n : ℕ} {now next : List ℕ} → ((x y : ℤ) → before x y ≡ s x y)
     → (m, now) ≡ brushed q s b → n ≡ brushed q (newIn before t) now .0 → next ≡ brushed q t now .1 → (m + n, next) ≡ brushed q (λ x y. s x y || t x y) b
 after-earlier q P s t before b {m} same e f g =
     (λ i. (m + f i, g i))
@@ -149,19 +148,19 @@ after-earlier q P s t before b {m} same e f g =
 
     together : brushed q s b .0 + brushed q (newIn before t) b .0 ≡ brushed q (λ x y. s x y || t x y) b .0
     together =
-        sym (pixels-add (raster (q .frame)) _ _ (λ x y hx hy.
+        sym (pixels-add (ground q) _ _ (λ x y hx hy.
         none (inWindow (q .window) (pos x) (pos y)) (s (pos x) (pos y)) (t (pos x) (pos y)) (before (pos x) (pos y)) (same (pos x) (pos y))))
-        ∙ pixels-cong (raster (q .frame)) _ _ (λ x y hx hy.
+        ∙ pixels-cong (ground q) _ _ (λ x y hx hy.
         all (inWindow (q .window) (pos x) (pos y)) (s (pos x) (pos y)) (t (pos x) (pos y)) (before (pos x) (pos y)) (same (pos x) (pos y)))
 
 -- a figure drawn after that part of it which an earlier one has: what is new is the rest
-pub after-part : (q : Brush) → Placing (raster (q .frame)) → (before t : ℤ → ℤ → Bool) (b : List ℕ) {old all : ℕ} {now next : List ℕ}
+pub after-part : (q : Brush) → Placing (ground q) → (before t : ℤ → ℤ → Bool) (b : List ℕ) {old all : ℕ} {now next : List ℕ}
     → (old, now) ≡ brushed q (λ x y. t x y && before x y) b → (all, next) ≡ brushed q t now
     → (old + brushed q (newIn before t) b .0 ≡ all) × (next ≡ brushed q t b .1)
 after-part q P before t b {old} {all} e f = (
   (λ i. e i .0 + brushed q (newIn before t) b .0) ∙ together ∙ sym (λ i. f i .0),
   (λ i. f i .1) ∙ (λ i. brushed q t (e i .1) .1) ∙ brushed-then q P b (λ x y. t x y && before x y) t
-      ∙ painted-cong (raster (q .frame)) P (q .colour) b _ _
+      ∙ painted-cong (ground q) P (q .colour) b _ _
       (λ x y hx hy. ap (λ (u : Bool). inWindow (q .window) (pos x) (pos y) && u) (whole (t (pos x) (pos y)) (before (pos x) (pos y)))),
 )
   where
@@ -183,8 +182,8 @@ after-part q P before t b {old} {all} e f = (
 
     together : brushed q (λ x y. t x y && before x y) b .0 + brushed q (newIn before t) b .0 ≡ brushed q t b .0
     together =
-        sym (pixels-add (raster (q .frame)) _ _ (λ x y hx hy. none (inWindow (q .window) (pos x) (pos y)) (t (pos x) (pos y)) (before (pos x) (pos y))))
-        ∙ pixels-cong (raster (q .frame)) _ _ (λ x y hx hy. all-of (inWindow (q .window) (pos x) (pos y)) (t (pos x) (pos y)) (before (pos x) (pos y)))
+        sym (pixels-add (ground q) _ _ (λ x y hx hy. none (inWindow (q .window) (pos x) (pos y)) (t (pos x) (pos y)) (before (pos x) (pos y))))
+        ∙ pixels-cong (ground q) _ _ (λ x y hx hy. all-of (inWindow (q .window) (pos x) (pos y)) (t (pos x) (pos y)) (before (pos x) (pos y)))
 
 -- along a walk
 module _ {q : Brush} {len : ℕ} (R : Ready q len) (before : ℤ → ℤ → Bool) (path : ℕ → Point) (b : List ℕ) where
@@ -192,7 +191,7 @@ module _ {q : Brush} {len : ℕ} (R : Ready q len) (before : ℤ → ℤ → Boo
   new k = heldBy (q .window) (newIn before (walked path k))
 
   new-start : 0 ≡ brushed q (newIn before (walked path 0)) b .0
-  new-start = sym (pixels-none (raster (q .frame)) _ (λ x y hx hy. within-none (inWindow (q .window) (pos x) (pos y))))
+  new-start = sym (pixels-none (ground q) _ (λ x y hx hy. within-none (inWindow (q .window) (pos x) (pos y))))
 
   -- a step more, to a place where none before it led: its point is one more pixel where the rectangle holds it and the earlier figure has it not
   new-more : (k : ℕ) → ((j : ℕ) → j < k → path k ≡ path j → ⊥)
@@ -225,21 +224,21 @@ module _ {q : Brush} {len : ℕ} (R : Ready q len) (before : ℤ → ℤ → Boo
       inside = inWindow (q .window) (path k .0) (path k .1)
 
       by : (t : Bool) → before (path k .0) (path k .1) ≡ t
-          → brushed q (newIn before (walked path k)) b .0 + oneIf (inside && not (before (path k .0) (path k .1))) ≡ pixelsIn (raster (q .frame)) (new (suc k))
+          → brushed q (newIn before (walked path k)) b .0 + oneIf (inside && not (before (path k .0) (path k .1))) ≡ pixelsIn (ground q) (new (suc k))
       by true e =
-          (λ i. pixelsIn (raster (q .frame)) (new k) + oneIf ((ap (λ (t : Bool). inside && not t) e ∙ within-none inside) i))
+          (λ i. pixelsIn (ground q) (new k) + oneIf ((ap (λ (t : Bool). inside && not t) e ∙ within-none inside) i))
           ∙ omega arith
-          ∙ pixels-cong (raster (q .frame)) (new k) (new (suc k)) (λ x y hx hy.
+          ∙ pixels-cong (ground q) (new k) (new (suc k)) (λ x y hx hy.
           gone (inWindow (q .window) (pos x) (pos y)) (samePlace (pos x, pos y) (path k)) (walked path k (pos x) (pos y)) (before (pos x) (pos y))
           (λ h. there (pos x) (pos y) before h ∙ e))
       by false e =
-          ap (λ (n : ℕ). pixelsIn (raster (q .frame)) (new k) + n)
+          ap (λ (n : ℕ). pixelsIn (ground q) (new k) + n)
           (ap (λ (t : Bool). oneIf (inside && not t)) e ∙ ap oneIf (and-true inside)
-          ∙ sym (point-count (q .frame) (R .drawable .accepted .described) (q .colour) b (q .window) (path k .0) (path k .1) (R .within)))
-          ∙ sym (pixels-add (raster (q .frame)) (new k) (heldBy (q .window) (single (path k .0) (path k .1))) (λ x y hx hy.
+          ∙ sym (point-count (q .window) (path k .0) (path k .1) (ground q) (R .within)))
+          ∙ sym (pixels-add (ground q) (new k) (heldBy (q .window) (single (path k .0) (path k .1))) (λ x y hx hy.
           alone (inWindow (q .window) (pos x) (pos y)) (samePlace (pos x, pos y) (path k)) (walked path k (pos x) (pos y)) (before (pos x) (pos y))
           (λ h. there (pos x) (pos y) (walked path k) h ∙ none-leads path (path k) k apart)))
-          ∙ pixels-cong (raster (q .frame)) _ (new (suc k)) (λ x y hx hy.
+          ∙ pixels-cong (ground q) _ (new (suc k)) (λ x y hx hy.
           came (inWindow (q .window) (pos x) (pos y)) (samePlace (pos x, pos y) (path k)) (walked path k (pos x) (pos y)) (before (pos x) (pos y))
           (λ h. there (pos x) (pos y) before h ∙ e))
 
@@ -281,9 +280,9 @@ module _ {q : Brush} {len : ℕ} (R : Ready q len) (before : ℤ → ℤ → Boo
       record {
         count =
             a .count
-            ∙ pixels-cong (raster (q .frame)) _ _ (λ x y hx hy.
+            ∙ pixels-cong (ground q) _ _ (λ x y hx hy.
             within-new (inWindow (q .window) (pos x) (pos y)) (walked path j (pos x) (pos y)) (walked path n (pos x) (pos y)) (not (before (pos x) (pos y))) (same x y));
-        bytes = a .bytes ∙ painted-cong (raster (q .frame)) (brush-sound R) (q .colour) b _ _ (λ x y hx hy. same x y);
+        bytes = a .bytes ∙ painted-cong (ground q) (brush-sound R) (q .colour) b _ _ (λ x y hx hy. same x y);
       }
     where
       within-new : (w s t u : Bool) → (w && s) ≡ (w && t) → (w && (s && u)) ≡ (w && (t && u))

@@ -1,8 +1,8 @@
 -- What is proved of an outline (02, T-04): any order of the vertices gives the same, it is contained in the filled triangle and changes no byte of one, and at
 -- zero area it is the line p1 to p3. The figures are over ℤ, so for vertices out of bounds too. Assumes nothing.
 use mathlib.Core.Path.{_≡_, refl, sym, ap, _∙_}
-use mathlib.Core.Bool.{Bool, true, false, _&&_, _||_, or-assoc, or-comm}
-use mathlib.Core.List.{List, _++_}
+use mathlib.Core.Bool.{Bool, true, false, _||_, or-assoc, or-comm}
+use mathlib.Core.List.{List}
 use Prim.Native.Nat.{ℕ, zero, suc}
 use native.Mathlib.Omega.{arith}
 use lib.IntN.{ℤ, pos}
@@ -23,13 +23,10 @@ use Rattle.layout.specs.Layout.{painted}
 use Rattle.layout.proofs.Painted.{painted-length, painted-painted, painted-cong}
 use Rattle.framebuffer.specs.declared.Drawn.{Drawn}
 use Rattle.framebuffer.specs.declared.Frame.{Frame}
-use Rattle.framebuffer.specs.declared.Window.{Window}
-use Rattle.framebuffer.specs.Description.{raster, drawTests}
-use Rattle.framebuffer.specs.Drawing.{Drawing, outcome}
-use Rattle.framebuffer.specs.Window.{inWindow, heldBy}
-use Rattle.framebuffer.proofs.Calls.{drawable-own, refused-outcome, accepted-outcome}
+use Rattle.framebuffer.specs.Description.{raster}
+use Rattle.framebuffer.specs.Drawing.{Drawing, callTests, outcome}
+use Rattle.framebuffer.proofs.Calls.{drawable, refused-outcome, accepted-outcome}
 use Rattle.framebuffer.proofs.Refusals.{sound}
-use Rattle.framebuffer.proofs.Rows.{within-both}
 use Rattle.drawing.specs.Drawing.{triangleDrawing, outlineDrawing}
 use Rattle.drawing.specs.Figure.{lineFigure, edgeFigure, sortedFigure, outlineFigure, triangleFigure}
 use Rattle.drawing.proofs.Edge.{edge-line, edge-swap}
@@ -65,9 +62,8 @@ module _ {a b c d e f : Point} (same : Same a b c d e f) where
   unfolding outlineFigure
   outline-any-order = ap sortedFigure (same .vertices)
 
-  pub outcome-any-order : (frame : Frame) (window : Window) (colour : ℕ) (buf : List ℕ)
-      → outcome frame window (outlineDrawing a b c colour) buf ≡ outcome frame window (outlineDrawing d e f colour) buf
-  outcome-any-order frame window colour buf = λ i. outcome frame window (record { figure = outline-any-order i; colour = colour; own = same .tests i }) buf
+  pub outcome-any-order : (frame : Frame) (colour : ℕ) (buf : List ℕ) → outcome frame (outlineDrawing a b c colour) buf ≡ outcome frame (outlineDrawing d e f colour) buf
+  outcome-any-order frame colour buf = λ i. outcome frame (record { figure = outline-any-order i; colour = colour; own = same .tests i }) buf
 
 module _ (v1 v2 v3 : Point) where
   -- the edges that containment asks for
@@ -97,38 +93,36 @@ module _ (v1 v2 v3 : Point) where
       by false false h = refl
 
 -- ---- a call after one whose figure contains its own, in the same colour and with the same tests: it changes no byte, accepted or refused
-module _ (f : Frame) (q : Window) (colour : ℕ) (own : Tests) (b : List ℕ) where
+module _ (f : Frame) (colour : ℕ) (own : Tests) (b : List ℕ) where
   abbrev drawing : (ℤ → ℤ → Bool) → Drawing
   drawing s = record { figure = s; colour = colour; own = own }
 
-  over-drawn : (s t : ℤ → ℤ → Bool) → ((x y : ℤ) → s x y || t x y ≡ s x y)
-      → outcome f q (drawing t) (outcome f q (drawing s) b .1) .1 ≡ outcome f q (drawing s) b .1
-  over-drawn s t part = by (first (drawTests f (length b) colour ++ own)) refl
+  over-drawn : (s t : ℤ → ℤ → Bool) → ((x y : ℤ) → s x y || t x y ≡ s x y) → outcome f (drawing t) (outcome f (drawing s) b .1) .1 ≡ outcome f (drawing s) b .1
+  over-drawn s t part = by (first (callTests f (length b) (drawing s))) refl
     where
       left : (ℤ → ℤ → Bool) → List ℕ → List ℕ
-      left u c = outcome f q (drawing u) c .1
+      left u c = outcome f (drawing u) c .1
 
-      by : (n : ℕ) → n ≡ first (drawTests f (length b) colour ++ own) → left t (left s b) ≡ left s b
+      by : (n : ℕ) → n ≡ first (callTests f (length b) (drawing s)) → left t (left s b) ≡ left s b
       by zero e =
-          let P = sound f (drawable-own f (length b) colour own e refl .accepted .described) in
-          let under : left s b ≡ painted (raster f) (heldBy q s) colour b = sym (ap (λ (o : Drawn × List ℕ). o .1) (accepted-outcome f q (drawing s) b e refl refl)) in
-          let len : length (left s b) ≡ length b = ap length under ∙ painted-length (raster f) P (heldBy q s) colour b in
-          let again : 0 ≡ first (drawTests f (length (left s b)) colour ++ own) = e ∙ sym (ap (λ (n : ℕ). first (drawTests f n colour ++ own)) len) in
-          sym (ap (λ (o : Drawn × List ℕ). o .1) (accepted-outcome f q (drawing t) (left s b) again refl refl))
-          ∙ ap (painted (raster f) (heldBy q t) colour) under
-          ∙ painted-painted (raster f) P colour b (heldBy q t) (heldBy q s)
-          ∙ painted-cong (raster f) P colour b _ _ (λ x y w h.
-          within-both (inWindow q (pos x) (pos y)) (s (pos x) (pos y)) (t (pos x) (pos y)) ∙ ap (λ (r : Bool). inWindow q (pos x) (pos y) && r) (part (pos x) (pos y)))
+          let P = sound f (drawable f (length b) (drawing s) e refl .accepted .described) in
+          let under : left s b ≡ painted (raster f) s colour b = sym (ap (λ (o : Drawn × List ℕ). o .1) (accepted-outcome f (drawing s) b e refl refl)) in
+          let len : length (left s b) ≡ length b = ap length under ∙ painted-length (raster f) P s colour b in
+          let again : 0 ≡ first (callTests f (length (left s b)) (drawing t)) = e ∙ sym (ap (λ (n : ℕ). first (callTests f n (drawing s))) len) in
+          sym (ap (λ (o : Drawn × List ℕ). o .1) (accepted-outcome f (drawing t) (left s b) again refl refl))
+          ∙ ap (painted (raster f) t colour) under
+          ∙ painted-painted (raster f) P colour b t s
+          ∙ painted-cong (raster f) P colour b _ _ (λ x y w h. part (pos x) (pos y))
           ∙ sym under
       by (suc n) e =
-          let kept : (u : ℤ → ℤ → Bool) → left u b ≡ b = λ u. sym (ap (λ (o : Drawn × List ℕ). o .1) (refused-outcome f q (drawing u) b e (λ z. omega arith))) in
+          let kept : (u : ℤ → ℤ → Bool) → left u b ≡ b = λ u. sym (ap (λ (o : Drawn × List ℕ). o .1) (refused-outcome f (drawing u) b e (λ z. omega arith))) in
           ap (left t) (kept s) ∙ kept t ∙ sym (kept s)
 
 -- OVER THE FILL in its colour, the outline changes no byte
-pub outline-over-fill : (f : Frame) (q : Window) (v1 v2 v3 : Point) (colour : ℕ) (b : List ℕ)
-    → outcome f q (outlineDrawing v1 v2 v3 colour) (outcome f q (triangleDrawing v1 v2 v3 colour) b .1) .1 ≡ outcome f q (triangleDrawing v1 v2 v3 colour) b .1
-outline-over-fill f q v1 v2 v3 colour b =
-    over-drawn f q colour (vertexTests v1 v2 v3) b (triangleFigure v1 v2 v3) (outlineFigure v1 v2 v3) (fill-or-outline v1 v2 v3)
+pub outline-over-fill : (f : Frame) (v1 v2 v3 : Point) (colour : ℕ) (b : List ℕ)
+    → outcome f (outlineDrawing v1 v2 v3 colour) (outcome f (triangleDrawing v1 v2 v3 colour) b .1) .1 ≡ outcome f (triangleDrawing v1 v2 v3 colour) b .1
+outline-over-fill f v1 v2 v3 colour b =
+    over-drawn f colour (vertexTests v1 v2 v3) b (triangleFigure v1 v2 v3) (outlineFigure v1 v2 v3) (fill-or-outline v1 v2 v3)
 
 -- ---- WORKED: of (2,1) (0,0) (2,0), 01's outline had (1,1), which the triangle does not contain; the outline has it no more
 abbrev pub asGiven : Point → Point → Point → ℤ → ℤ → Bool

@@ -13,7 +13,6 @@ ghost use Rattle.framebuffer.specs.Canvas.{numberOn, onCanvas};
 ghost use Rattle.framebuffer.specs.Drawing.{outcome};
 ghost use Rattle.framebuffer.specs.Interval.{Held};
 ghost use Rattle.framebuffer.specs.Judged.{Judged, JudgedSome, Ready, brushed};
-ghost use Rattle.framebuffer.specs.Window.{wholeWindow};
 ghost use Rattle.drawing.specs.Earlier.{Ends, earlierFigure, newIn};
 ghost use Rattle.drawing.specs.Figure.{lineFigure, connectedFigure, outlineFigure, triangleFigure, circleFigure};
 ghost use Rattle.drawing.specs.Drawing.{lineDrawing, connectedDrawing, outlineDrawing, triangleDrawing, circleDrawing};
@@ -170,7 +169,7 @@ pub fn line_on(buf: &mut [u8], canvas: Canvas, start: Point, end: Point, colour:
 
 // Draws the line from start to end.
 pub fn draw_line(buf: &mut [u8], frame: Frame, start: Point, end: Point, colour: u32) -> Drawn
-    ensures { λ r. ⌜ (r, now (buf .exit)) ≡ outcome frame (wholeWindow frame) (lineDrawing start end colour) (now (buf .entry)) ⌝ }
+    ensures { λ r. ⌜ (r, now (buf .exit)) ≡ outcome frame (lineDrawing start end colour) (now (buf .entry)) ⌝ }
 {
     line_on(buf, frame.over(buf.len()), start, end, colour)
 }
@@ -238,7 +237,7 @@ pub fn draw_connected_line(
     end: Point,
     colour: u32,
 ) -> Drawn
-    ensures { λ r. ⌜ (r, now (buf .exit)) ≡ outcome frame (wholeWindow frame) (connectedDrawing start end colour) (now (buf .entry)) ⌝ }
+    ensures { λ r. ⌜ (r, now (buf .exit)) ≡ outcome frame (connectedDrawing start end colour) (now (buf .entry)) ⌝ }
 {
     connected_line_on(buf, frame.over(buf.len()), start, end, colour)
 }
@@ -344,7 +343,7 @@ pub fn draw_outline(
     v3: Point,
     colour: u32,
 ) -> Drawn
-    ensures { λ r. ⌜ (r, now (buf .exit)) ≡ outcome frame (wholeWindow frame) (outlineDrawing v1 v2 v3 colour) (now (buf .entry)) ⌝ }
+    ensures { λ r. ⌜ (r, now (buf .exit)) ≡ outcome frame (outlineDrawing v1 v2 v3 colour) (now (buf .entry)) ⌝ }
 {
     outline_on(buf, frame.over(buf.len()), v1, v2, v3, colour)
 }
@@ -430,7 +429,7 @@ pub fn draw_circle(
     diameter: u32,
     colour: u32,
 ) -> Drawn
-    ensures { λ r. ⌜ (r, now (buf .exit)) ≡ outcome frame (wholeWindow frame) (circleDrawing topleft diameter colour) (now (buf .entry)) ⌝ }
+    ensures { λ r. ⌜ (r, now (buf .exit)) ≡ outcome frame (circleDrawing topleft diameter colour) (now (buf .entry)) ⌝ }
 {
     circle_on(buf, frame.over(buf.len()), topleft, diameter, colour)
 }
@@ -489,7 +488,7 @@ pub fn draw_triangle(
     v3: Point,
     colour: u32,
 ) -> Drawn
-    ensures { λ r. ⌜ (r, now (buf .exit)) ≡ outcome frame (wholeWindow frame) (triangleDrawing v1 v2 v3 colour) (now (buf .entry)) ⌝ }
+    ensures { λ r. ⌜ (r, now (buf .exit)) ≡ outcome frame (triangleDrawing v1 v2 v3 colour) (now (buf .entry)) ⌝ }
 {
     triangle_on(buf, frame.over(buf.len()), v1, v2, v3, colour)
 }

@@ -1,11 +1,12 @@
--- Laws of a call that draws: its number, test by test, what is known where that is 0, and its outcome, accepted and refused. Assumes nothing.
+-- Laws of a call that draws: its number, test by test, what is known where that is 0, and what it answers and leaves, accepted and refused. Assumes nothing.
 use mathlib.Core.Path.{_≡_, refl, sym, ap, subst, _∙_}
 use mathlib.Core.Bool.{Bool, true, false, cond, _&&_}
-use mathlib.Core.List.{List, [], _∷_, _++_, append-nil, append-assoc}
-use Prim.Native.Nat.{ℕ, _*_, _^_, _≤_, _<_}
+use mathlib.Core.List.{List, [], _∷_}
+use Prim.Native.Nat.{ℕ, zero, suc, _*_, _^_, _≤_, _<_}
 use native.Mathlib.Nat.{mul-le-mul}
+use native.Mathlib.Omega.{arith}
 use lib.Dec.{eqb}
-use lib.IntN.{pos}
+use lib.IntN.{ℤ, pos}
 use lib.ListN.{length}
 use lib.Signed.{mag}
 use mir.Syntax.{w32}
@@ -13,11 +14,11 @@ use mir.Val.{toZ, ofZ, hbits}
 use borrow.Author.Tests.{eq-eqb, ne-eqb, eqb-true, eqb-false, leb-false}
 use Rattle.whole.proofs.Tests.{and-true}
 use Rattle.whole.proofs.Machine.{field-back}
-use Rattle.refusals.specs.First.{Tests, first}
-use Rattle.refusals.proofs.First.{first-append, refused, passed, both-pass, goes-on, fails-alone}
+use Rattle.refusals.specs.First.{Tests, first, numbered}
+use Rattle.refusals.proofs.First.{first-append, passed, both-pass, goes-on, fails-alone}
 use Rattle.geometry.specs.declared.Point.{Point}
 use Rattle.layout.specs.Figure.{single, everywhere}
-use Rattle.layout.specs.Layout.{painted}
+use Rattle.layout.specs.Layout.{Layout, painted}
 use Rattle.layout.specs.Count.{pixelsIn, marked}
 use Rattle.layout.proofs.Pixels.{pixels-everywhere, marked-cong}
 use Rattle.framebuffer.specs.declared.Canvas.{Canvas}
@@ -27,91 +28,62 @@ use Rattle.framebuffer.specs.declared.Brush.{Brush}
 use Rattle.framebuffer.specs.declared.Drawn.{Drawn}
 use Rattle.framebuffer.specs.declared.Placed.{Placed}
 use Rattle.framebuffer.specs.declared.Read.{Read}
-use Rattle.framebuffer.specs.Answer.{drawn, wasInside, read}
-use Rattle.framebuffer.specs.Description.{described, raster, noColour, isOutside, frameTests, drawTests, readTests, colourAt}
-use Rattle.framebuffer.specs.Drawing.{Drawing, pixelDrawing, fillDrawing, callTests, outcome, pixelOutcome}
-use Rattle.framebuffer.specs.Judged.{Drawable, overBytes, Judged, Within, Ready, brushOf, brushed}
-use Rattle.framebuffer.specs.Canvas.{behind, numberOn, onCanvas, pixelOn, readOn, hasAll}
+use Rattle.framebuffer.specs.Answer.{wasInside, read}
+use Rattle.framebuffer.specs.Description.{described, raster, noColour, isOutside, frameTests, readTests, colourAt}
+use Rattle.framebuffer.specs.Drawing.{Drawing, pixelDrawing, fillDrawing, behindThose, callTests, madeOf, outcome, pixelOutcome}
+use Rattle.framebuffer.specs.Judged.{Drawable, overBytes, Judged, Ready, brushOf, brushed}
+use Rattle.framebuffer.specs.Canvas.{keeps, behind, numberOn, onCanvas, pixelOn, readOn, hasAll}
 use Rattle.framebuffer.specs.Window.{inWindow, heldBy, wholeWindow}
-use Rattle.framebuffer.proofs.Refusals.{sound, frame-numbered, draw-numbered, is-accepted, is-drawable, refused-drawn, refused-placed}
-use Rattle.framebuffer.proofs.Windows.{whole-within, marked-whole}
+use Rattle.framebuffer.proofs.Refusals.{sound, frame-numbered, is-accepted, refused-drawn, refused-placed}
+use Rattle.framebuffer.proofs.Windows.{all-within, marked-all}
 
--- ---- the number: the frame's and the colour's, else the call's own
-module _ (f : Frame) (len colour : ℕ) where
-  pub number-first : (own : Tests) {r : ℕ} → r ≡ first (drawTests f len colour) → (r ≡ 0 → ⊥) → r ≡ first (drawTests f len colour ++ own)
-  number-first own e n = refused (drawTests f len colour) own e n
+-- ---- what a number makes of a figure
+module _ (l : Layout) (colour : ℕ) (b : List ℕ) (s : ℤ → ℤ → Bool) where
+  refused-made : {r : ℕ} → (r ≡ 0 → ⊥) → _≡_ {A = Drawn × List ℕ} (record { number = r; count = 0 }, b) (madeOf r l s colour b)
+  refused-made {r} n = λ i. (refused-drawn r (marked l s colour b .0) n i, cond (sym (ne-eqb r 0 n) i) (marked l s colour b .1) b)
 
-  pub number-own : (own : Tests) {r z : ℕ} → z ≡ first (drawTests f len colour) → z ≡ 0 → r ≡ first own → r ≡ first (drawTests f len colour ++ own)
-  number-own own e z h = passed (drawTests f len colour) own (draw-numbered f len colour) e z h
+  accepted-made : {r m : ℕ} {after : List ℕ} → r ≡ 0 → (m, after) ≡ marked l s colour b → _≡_ {A = Drawn × List ℕ} (record { number = 0; count = m }, after) (madeOf r l s colour b)
+  accepted-made z h = ap (λ (p : ℕ × List ℕ). (record { number = 0; count = p .0 }, p .1)) h ∙ ap (λ (n : ℕ). madeOf n l s colour b) (sym z)
 
-  -- a call that has no tests of its own
-  pub number-alone : {r : ℕ} → r ≡ first (drawTests f len colour) → r ≡ first (drawTests f len colour ++ [])
-  number-alone e = e ∙ ap first (sym (append-nil (drawTests f len colour)))
+-- a figure that paints the same in its place
+same-made : (l : Layout) (colour : ℕ) (b : List ℕ) (s t : ℤ → ℤ → Bool) (r : ℕ) → (r ≡ 0 → marked l s colour b ≡ marked l t colour b)
+    → madeOf r l s colour b ≡ madeOf r l t colour b
+same-made l colour b s t zero h = ap (λ (p : ℕ × List ℕ). (record { number = 0; count = p .0 }, p .1)) (h refl)
+same-made l colour b s t (suc r) h = let n : suc r ≡ 0 → ⊥ = λ z. omega (arith, z) in sym (refused-made l colour b s n) ∙ refused-made l colour b t n
 
-  -- ---- where it is 0
-  pub drawable : {r : ℕ} → r ≡ first (drawTests f len colour) → r ≡ 0 → Drawable f len colour
-  drawable e z = is-drawable f len colour (sym e ∙ z)
+-- ---- on a frame
+module _ (f : Frame) (len : ℕ) (d : Drawing) where
+  abbrev t4 : Tests
+  t4 = (4, noColour f (d .colour)) ∷ []
 
-  pub drawable-own : (own : Tests) {r : ℕ} → r ≡ first (drawTests f len colour ++ own) → r ≡ 0 → Drawable f len colour
-  drawable-own own e z = is-drawable f len colour (both-pass (drawTests f len colour) own (draw-numbered f len colour) (sym e ∙ z) .0)
+  -- its number is 0 where no test holds
+  pub none-holds : first (frameTests f len) ≡ 0 → noColour f (d .colour) ≡ false → first (d .own) ≡ 0 → first (callTests f len d) ≡ 0
+  none-holds z c own =
+      sym (passed (frameTests f len) ((4, noColour f (d .colour)) ∷ d .own) (frame-numbered f len) (sym z) refl (goes-on 4 (noColour f (d .colour)) (d .own) c (sym own)))
 
-  pub own-passed : (own : Tests) {r : ℕ} → r ≡ first (drawTests f len colour ++ own) → r ≡ 0 → first own ≡ 0
-  own-passed own e z = both-pass (drawTests f len colour) own (draw-numbered f len colour) (sym e ∙ z) .1
+  -- and then the frame may be drawn on
+  pub drawable : {r : ℕ} → r ≡ first (callTests f len d) → r ≡ 0 → Drawable f len (d .colour)
+  drawable e z =
+      let p = both-pass (frameTests f len) ((4, noColour f (d .colour)) ∷ d .own) (frame-numbered f len) (sym e ∙ z) in
+      record { accepted = is-accepted f len (p .0); below = leb-false _ _ (fails-alone 3 _ (both-pass t4 (d .own) refl (p .1) .0)) }
 
--- ---- the outcome
-module _ (f : Frame) (q : Window) (d : Drawing) (b : List ℕ) {r : ℕ} (e : r ≡ first (callTests f (length b) d)) where
-  abbrev made : ℕ × List ℕ
-  made = marked (raster f) (heldBy q (d .figure)) (d .colour) b
+module _ (f : Frame) (d : Drawing) (b : List ℕ) {r : ℕ} (e : r ≡ first (callTests f (length b) d)) where
+  pub refused-outcome : (r ≡ 0 → ⊥) → _≡_ {A = Drawn × List ℕ} (record { number = r; count = 0 }, b) (outcome f d b)
+  unfolding outcome
+  refused-outcome n = refused-made (raster f) (d .colour) b (d .figure) n ∙ ap (λ (k : ℕ). madeOf k (raster f) (d .figure) (d .colour) b) e
 
-  of-number : (n : ℕ) → (Drawn × List ℕ)
-  of-number n = (drawn n (made .0), cond (eqb n 0) (made .1) b)
-
-  outcome-is : outcome f q d b ≡ of-number r
-  unfolding outcome of-number
-  outcome-is = ap of-number (sym e)
-
-  pub refused-outcome : (r ≡ 0 → ⊥) → _≡_ {A = Drawn × List ℕ} (record { number = r; count = 0 }, b) (outcome f q d b)
-  unfolding of-number
-  refused-outcome n = (λ i. (refused-drawn r (made .0) n i, cond (sym (ne-eqb r 0 n) i) (made .1) b)) ∙ sym outcome-is
-
-  pub accepted-outcome : {m : ℕ} {after : List ℕ} → r ≡ 0 → (m, after) ≡ made → _≡_ {A = Drawn × List ℕ} (record { number = 0; count = m }, after) (outcome f q d b)
-  unfolding of-number
-  accepted-outcome z h = ap (λ (p : ℕ × List ℕ). (record { number = 0; count = p .0 }, p .1)) h ∙ ap of-number (sym z) ∙ sym outcome-is
-
--- within the rectangle of the whole frame
-pub within-whole : {f : Frame} {q : Window} → q ≡ wholeWindow f → Within q f
-within-whole {f} p = subst (λ (q : Window). Within q f) (sym p) (whole-within f)
-
--- a pixel set
-module _ (f : Frame) (p : Point) (colour : ℕ) (b : List ℕ) {r : ℕ} (e : r ≡ first (drawTests f (length b) colour)) where
-  number-is : r ≡ first (callTests f (length b) (pixelDrawing p colour))
-  number-is = number-alone f (length b) colour e
-
-  pub refused-pixel : (r ≡ 0 → ⊥) → _≡_ {A = Placed × List ℕ} (record { number = r; inside = false }, b) (pixelOutcome f (wholeWindow f) p colour b)
-  unfolding pixelOutcome
-  refused-pixel n =
-      let t = inWindow (wholeWindow f) (p .0) (p .1) in
-      let d = pixelDrawing p colour in
-      (λ i. (refused-placed r t n i, refused-outcome f (wholeWindow f) d b number-is n i .1)) ∙ ap (λ (k : ℕ). (wasInside k t, outcome f (wholeWindow f) d b .1)) number-is
-
-  pub placed-pixel : {q : Window} {t : Bool} {after : List ℕ} → r ≡ 0 → q ≡ wholeWindow f → t ≡ inWindow q (p .0) (p .1)
-      → after ≡ painted (raster f) (heldBy q (single (p .0) (p .1))) colour b
-      → _≡_ {A = Placed × List ℕ} (record { number = 0; inside = t }, after) (pixelOutcome f (wholeWindow f) p colour b)
-  unfolding pixelOutcome
-  placed-pixel {q} z w i h =
-      let d = pixelDrawing p colour in
-      let bytes = h ∙ ap (λ (q : Window). painted (raster f) (heldBy q (d .figure)) colour b) w in
-      let a = accepted-outcome f (wholeWindow f) d b number-is z (λ j. (pixelsIn (raster f) (heldBy (wholeWindow f) (d .figure)), bytes j)) in
-      (λ j. (record { number = 0; inside = (i ∙ ap (λ (q : Window). inWindow q (p .0) (p .1)) w) j }, a j .1))
-      ∙ ap (λ (k : ℕ). (wasInside k (inWindow (wholeWindow f) (p .0) (p .1)), outcome f (wholeWindow f) d b .1)) (sym z ∙ number-is)
+  pub accepted-outcome : {m : ℕ} {after : List ℕ} → r ≡ 0 → (m, after) ≡ marked (raster f) (d .figure) (d .colour) b
+      → _≡_ {A = Drawn × List ℕ} (record { number = 0; count = m }, after) (outcome f d b)
+  unfolding outcome
+  accepted-outcome z h = accepted-made (raster f) (d .colour) b (d .figure) z h ∙ ap (λ (k : ℕ). madeOf k (raster f) (d .figure) (d .colour) b) e
 
 -- a pixel set, with the frame's depth and the place's coordinates handed on by themselves
 pub pixel-apart : (f : Frame) (p : Point) (colour : ℕ) (b : List ℕ) {d : ℕ} {r : Placed} {after : List ℕ} → f .depth ≡ d → mag (p .0) < 2 ^ hbits w32 → mag (p .1) < 2 ^ hbits w32
     → _≡_ {A = Placed × List ℕ} (r, after)
-    (pixelOutcome (described (f .width) (f .height) d (f .big) (f .distance)) (wholeWindow f) (toZ w32 (ofZ w32 (p .0)), toZ w32 (ofZ w32 (p .1))) colour b)
-    → _≡_ {A = Placed × List ℕ} (r, after) (pixelOutcome f (wholeWindow f) p colour b)
+    (pixelOutcome (described (f .width) (f .height) d (f .big) (f .distance)) (toZ w32 (ofZ w32 (p .0)), toZ w32 (ofZ w32 (p .1))) colour b)
+    → _≡_ {A = Placed × List ℕ} (r, after) (pixelOutcome f p colour b)
 pixel-apart f p colour b e h k said =
-    said ∙ (λ i. pixelOutcome (described (f .width) (f .height) (sym e i) (f .big) (f .distance)) (wholeWindow f) (field-back w32 (p .0) h i, field-back w32 (p .1) k i) colour b)
+    said ∙ (λ i. pixelOutcome (described (f .width) (f .height) (sym e i) (f .big) (f .distance)) (field-back w32 (p .0) h i, field-back w32 (p .1) k i) colour b)
 
 -- ---- on a canvas
 -- its number, or further tests
@@ -129,8 +101,8 @@ behind-passed n ts e z = by (eqb n 0) refl (sym e ∙ z)
     by false h k = absurd (eqb-false n 0 h k)
 
 module _ (c : Canvas) (colour : ℕ) where
-  abbrev t4 : Tests
-  t4 = (4, noColour (c .frame) colour) ∷ []
+  abbrev c4 : Tests
+  c4 = (4, noColour (c .frame) colour) ∷ []
 
   -- the number of a call, test by test
   pub first-on : (own : Tests) {r : ℕ} → r ≡ numberOn c colour [] → (r ≡ 0 → ⊥) → r ≡ numberOn c colour own
@@ -143,17 +115,17 @@ module _ (c : Canvas) (colour : ℕ) where
 
   pub own-on : (own : Tests) {r z : ℕ} → z ≡ numberOn c colour [] → z ≡ 0 → r ≡ first own → r ≡ numberOn c colour own
   own-on own e z h =
-      let p = behind-passed (c .number) t4 e z in
+      let p = behind-passed (c .number) c4 e z in
       behind-0 (c .number) ((4, noColour (c .frame) colour) ∷ own) (p .0) (goes-on 4 (noColour (c .frame) colour) own (fails-alone 3 _ (p .1)) h)
 
   -- where it is 0
   pub passed-on : (own : Tests) {r : ℕ} → r ≡ numberOn c colour own → r ≡ 0 → first own ≡ 0
-  passed-on own e z = both-pass t4 own refl (behind-passed (c .number) ((4, noColour (c .frame) colour) ∷ own) e z .1) .1
+  passed-on own e z = both-pass c4 own refl (behind-passed (c .number) ((4, noColour (c .frame) colour) ∷ own) e z .1) .1
 
   pub drawable-on : (own : Tests) {len r : ℕ} → Judged c len → r ≡ numberOn c colour own → r ≡ 0 → Drawable (c .frame) len colour
   drawable-on own J e z =
       let p = behind-passed (c .number) ((4, noColour (c .frame) colour) ∷ own) e z in
-      record { accepted = J .accepted (p .0); below = leb-false _ _ (fails-alone 3 _ (both-pass t4 own refl (p .1) .0)) }
+      record { accepted = J .accepted (p .0); below = leb-false _ _ (fails-alone 3 _ (both-pass c4 own refl (p .1) .0)) }
 
   -- the canvas's brush may paint
   pub ready-on : (own : Tests) {len r : ℕ} {q : Brush} → Judged c len → q ≡ brushOf c colour → r ≡ numberOn c colour own → r ≡ 0 → Ready q len
@@ -163,23 +135,14 @@ module _ (c : Canvas) (colour : ℕ) where
 
 -- what a call answers and leaves
 module _ (c : Canvas) (d : Drawing) (b : List ℕ) {r : ℕ} (e : r ≡ numberOn c (d .colour) (d .own)) where
-  abbrev made-on : ℕ × List ℕ
-  made-on = marked (raster (c .frame)) (heldBy (c .window) (d .figure)) (d .colour) b
-
-  numbered-on : (n : ℕ) → (Drawn × List ℕ)
-  numbered-on n = (drawn n (made-on .0), cond (eqb n 0) (made-on .1) b)
-
-  on-is : onCanvas c d b ≡ numbered-on r
-  unfolding onCanvas numbered-on
-  on-is = ap numbered-on (sym e)
-
   pub refused-on : (r ≡ 0 → ⊥) → _≡_ {A = Drawn × List ℕ} (record { number = r; count = 0 }, b) (onCanvas c d b)
-  unfolding numbered-on
-  refused-on n = (λ i. (refused-drawn r (made-on .0) n i, cond (sym (ne-eqb r 0 n) i) (made-on .1) b)) ∙ sym on-is
+  unfolding onCanvas
+  refused-on n = refused-made (keeps c) (d .colour) b (heldBy (c .window) (d .figure)) n ∙ ap (λ (k : ℕ). madeOf k (keeps c) (heldBy (c .window) (d .figure)) (d .colour) b) e
 
-  pub accepted-on : {m : ℕ} {after : List ℕ} → r ≡ 0 → (m, after) ≡ made-on → _≡_ {A = Drawn × List ℕ} (record { number = 0; count = m }, after) (onCanvas c d b)
-  unfolding numbered-on
-  accepted-on z h = ap (λ (p : ℕ × List ℕ). (record { number = 0; count = p .0 }, p .1)) h ∙ ap numbered-on (sym z) ∙ sym on-is
+  pub accepted-on : {m : ℕ} {after : List ℕ} → r ≡ 0 → (m, after) ≡ marked (keeps c) (heldBy (c .window) (d .figure)) (d .colour) b
+      → _≡_ {A = Drawn × List ℕ} (record { number = 0; count = m }, after) (onCanvas c d b)
+  unfolding onCanvas
+  accepted-on z h = accepted-made (keeps c) (d .colour) b (heldBy (c .window) (d .figure)) z h ∙ ap (λ (k : ℕ). madeOf k (keeps c) (heldBy (c .window) (d .figure)) (d .colour) b) e
 
 -- by the canvas's brush
 pub brushed-on : (c : Canvas) (d : Drawing) (b : List ℕ) {r m : ℕ} {q : Brush} {after : List ℕ} → r ≡ numberOn c (d .colour) (d .own) → r ≡ 0
@@ -201,7 +164,7 @@ module _ (c : Canvas) (p : Point) (colour : ℕ) (b : List ℕ) {r : ℕ} (e : r
   placed-on {q} z w i h =
       let d = pixelDrawing p colour in
       let bytes = h ∙ ap (λ (q : Brush). brushed q (d .figure) b .1) w in
-      let a = accepted-on c d b e z (λ j. (pixelsIn (raster (c .frame)) (heldBy (c .window) (d .figure)), bytes j)) in
+      let a = accepted-on c d b e z (λ j. (pixelsIn (keeps c) (heldBy (c .window) (d .figure)), bytes j)) in
       (λ j. (record { number = 0; inside = (i ∙ ap (λ (q : Brush). inWindow (q .window) (p .0) (p .1)) w) j }, a j .1))
       ∙ ap (λ (k : ℕ). (wasInside k (inWindow (c .window) (p .0) (p .1)), onCanvas c d b .1)) (sym z ∙ e)
 
@@ -221,13 +184,13 @@ pub whole-fits : {f : Frame} {len colour : ℕ} → Drawable f len colour → f 
 whole-fits D = mul-le-mul (D .accepted .described .height) (D .accepted .described .width)
 
 pub filled-on : (c : Canvas) (colour : ℕ) (b : List ℕ) {r m : ℕ} {after : List ℕ} → r ≡ numberOn c colour [] → r ≡ 0 → Judged c (length b) → hasAll c ≡ true
-    → m ≡ c .frame .height * c .frame .width → after ≡ painted (raster (c .frame)) everywhere colour b
+    → m ≡ c .frame .height * c .frame .width → after ≡ painted (keeps c) everywhere colour b
     → _≡_ {A = Drawn × List ℕ} (record { number = 0; count = m }, after) (onCanvas c (fillDrawing colour) b)
 filled-on c colour b e z J all n h =
     accepted-on c (fillDrawing colour) b e z
-    ((λ i. ((n ∙ sym (pixels-everywhere (raster (c .frame)))) i, h i))
-    ∙ sym (marked-whole (c .frame) (drawable-on c colour [] J e z .accepted .described) colour b everywhere)
-    ∙ ap (λ (q : Window). marked (raster (c .frame)) (heldBy q everywhere) colour b) (sym (all-window c all)))
+    ((λ i. ((n ∙ sym (pixels-everywhere (keeps c))) i, h i))
+    ∙ sym (marked-all (keeps c) (sound (c .frame) (drawable-on c colour [] J e z .accepted .described)) colour b everywhere)
+    ∙ ap (λ (q : Window). marked (keeps c) (heldBy q everywhere) colour b) (sym (all-window c all)))
 
 -- a call whose figure has every pixel of the rectangle is a fill
 has-all : (p s : Bool) → (p ≡ true → s ≡ true) → (p && true) ≡ (p && s)
@@ -239,35 +202,47 @@ pub everywhere-on : (c : Canvas) (d : Drawing) (b : List ℕ) {r : ℕ} → r �
 unfolding onCanvas
 everywhere-on c d b e z J all =
     let p = behind-passed (c .number) ((4, noColour (c .frame) (d .colour)) ∷ d .own) e z in
-    let number = sym (behind-0 (c .number) ((4, noColour (c .frame) (d .colour)) ∷ []) (p .0) (sym (both-pass ((4, noColour (c .frame) (d .colour)) ∷ []) (d .own) refl (p .1) .0))) ∙ sym z ∙ e in
-    let placing = sound (c .frame) (J .accepted (p .0) .described) in
-    let made =
-    marked-cong (raster (c .frame)) placing (d .colour) b (heldBy (c .window) everywhere) (heldBy (c .window) (d .figure))
-    (λ u v hu hv. has-all (inWindow (c .window) (pos u) (pos v)) (d .figure (pos u) (pos v)) (all u v)) in
-    λ i. (drawn (number i) (made i .0), cond (eqb (number i) 0) (made i .1) b)
+    let alone = behind-0 (c .number) ((4, noColour (c .frame) (d .colour)) ∷ []) (p .0) (sym (both-pass ((4, noColour (c .frame) (d .colour)) ∷ []) (d .own) refl (p .1) .0)) in
+    ap (λ (n : ℕ). madeOf n (keeps c) (heldBy (c .window) everywhere) (d .colour) b) (sym alone ∙ sym z ∙ e)
+    ∙ same-made (keeps c) (d .colour) b (heldBy (c .window) everywhere) (heldBy (c .window) (d .figure)) (numberOn c (d .colour) (d .own))
+    (λ y. marked-cong (keeps c) (sound (c .frame) (J .accepted (p .0) .described)) (d .colour) b (heldBy (c .window) everywhere) (heldBy (c .window) (d .figure))
+    (λ u v hu hv. has-all (inWindow (c .window) (pos u) (pos v)) (d .figure (pos u) (pos v)) (all u v)))
+
+-- ---- whoever judges a canvas: its tests, and behind them the call's
+pub judged-by : (ts : Tests) → numbered ts ≡ true → (c : Canvas) → c .number ≡ first ts → (d : Drawing) (b : List ℕ)
+    → onCanvas c d b ≡ madeOf (first (behindThose ts (c .frame) d)) (keeps c) (heldBy (c .window) (d .figure)) (d .colour) b
+unfolding onCanvas
+judged-by ts all c e d b =
+    let further : Tests = (4, noColour (c .frame) (d .colour)) ∷ d .own in
+    ap (λ (n : ℕ). madeOf n (keeps c) (heldBy (c .window) (d .figure)) (d .colour) b) (ap (λ (n : ℕ). behind n further) e ∙ sym (first-append ts further all))
 
 -- ---- on the canvas of the whole frame
 pub is-judged : (f : Frame) (len : ℕ) {c : Canvas} → c ≡ overBytes f len → Judged c len
-is-judged f len e = subst (λ (c : Canvas). Judged c len) (sym e) (record { accepted = is-accepted f len; within = λ z. whole-within f })
-
--- the same tests, in one list
-whole-number : (f : Frame) (len : ℕ) (d : Drawing) → numberOn (overBytes f len) (d .colour) (d .own) ≡ first (callTests f len d)
-unfolding drawTests
-whole-number f len d =
-    sym (first-append (frameTests f len) ((4, noColour f (d .colour)) ∷ d .own) (frame-numbered f len))
-    ∙ ap first (sym (append-assoc (frameTests f len) ((4, noColour f (d .colour)) ∷ []) (d .own)))
-
-pub draw-number : (f : Frame) (len colour : ℕ) {c : Canvas} {r : ℕ} → c ≡ overBytes f len → r ≡ numberOn c colour [] → r ≡ first (drawTests f len colour)
-unfolding drawTests
-draw-number f len colour e h =
-    h ∙ ap (λ (c : Canvas). numberOn c colour []) e ∙ sym (first-append (frameTests f len) ((4, noColour f colour) ∷ []) (frame-numbered f len))
+is-judged f len e = subst (λ (c : Canvas). Judged c len) (sym e) (record { accepted = is-accepted f len; within = λ z. all-within (f .width) (f .height) })
 
 -- a call answers and leaves its outcome
-pub judged-outcome : (f : Frame) (d : Drawing) (b : List ℕ) {c : Canvas} {o : Drawn × List ℕ} → c ≡ overBytes f (length b) → o ≡ onCanvas c d b → o ≡ outcome f (wholeWindow f) d b
-unfolding onCanvas outcome
+pub judged-outcome : (f : Frame) (d : Drawing) (b : List ℕ) {c : Canvas} {o : Drawn × List ℕ} → c ≡ overBytes f (length b) → o ≡ onCanvas c d b → o ≡ outcome f d b
+unfolding outcome
 judged-outcome f d b e h =
-    let m = marked (raster f) (heldBy (wholeWindow f) (d .figure)) (d .colour) b in
-    h ∙ ap (λ (c : Canvas). onCanvas c d b) e ∙ ap (λ (n : ℕ). (drawn n (m .0), cond (eqb n 0) (m .1) b)) (whole-number f (length b) d)
+    h ∙ ap (λ (c : Canvas). onCanvas c d b) e ∙ judged-by (frameTests f (length b)) (frame-numbered f (length b)) (overBytes f (length b)) refl d b
+    ∙ same-made (raster f) (d .colour) b (heldBy (wholeWindow f) (d .figure)) (d .figure) (first (callTests f (length b) d))
+    (λ z. marked-all (raster f) (sound f (drawable f (length b) d refl z .accepted .described)) (d .colour) b (d .figure))
+
+pub judged-placed : (f : Frame) (p : Point) (colour : ℕ) (b : List ℕ) {c : Canvas} {o : Placed × List ℕ} → c ≡ overBytes f (length b) → o ≡ pixelOn c p colour b
+    → o ≡ pixelOutcome f p colour b
+unfolding pixelOn pixelOutcome
+judged-placed f p colour b e h =
+    let bytes = judged-outcome f (pixelDrawing p colour) b {c = overBytes f (length b)} refl refl in
+    h ∙ ap (λ (c : Canvas). pixelOn c p colour b) e
+    ∙ (λ i. (wasInside (sym (first-append (frameTests f (length b)) ((4, noColour f colour) ∷ []) (frame-numbered f (length b))) i) (inWindow (wholeWindow f) (p .0) (p .1)), bytes i .1))
+
+-- and where the frame is refused
+pub refused-pixel : (f : Frame) (p : Point) (colour : ℕ) (b : List ℕ) {r : ℕ} → r ≡ first (frameTests f (length b)) → (r ≡ 0 → ⊥)
+    → _≡_ {A = Placed × List ℕ} (record { number = r; inside = false }, b) (pixelOutcome f p colour b)
+refused-pixel f p colour b e n =
+    let c = overBytes f (length b) in
+    let further : Tests = (4, noColour f colour) ∷ [] in
+    judged-placed f p colour b refl (refused-placed-on c p colour b (e ∙ behind-n (c .number) further (λ z. n (e ∙ z))) n)
 
 pub judged-read : (f : Frame) (p : Point) (b : List ℕ) {c : Canvas} {r : Read} → c ≡ overBytes f (length b) → r ≡ readOn c p b
     → r ≡ read (first (readTests f (length b) p)) (colourAt f p b)

@@ -12,17 +12,15 @@ use borrow.Author.Tests.{ltb-true, leb-true, lt-ltb, le-ltb, le-leb}
 use Rattle.layout.specs.Figure.{spanFigure}
 use Rattle.whole.specs.Equal.{eqZ}
 use Rattle.whole.specs.Interval.{between}
-use Rattle.layout.specs.Layout.{painted}
+use Rattle.layout.specs.Layout.{Layout, painted}
 use Rattle.layout.specs.Count.{marked}
 use Rattle.whole.proofs.Tests.{lt-or-ge, same-test, fails, and-true, true-and, eqZ-true, eqZ-refl}
 use Rattle.layout.proofs.Spans.{columns, in-span, span-in}
+use Rattle.layout.proofs.Placing.{Placing}
 use Rattle.layout.proofs.Pixels.{marked-cong, marked-none, pixels-span}
-use Rattle.framebuffer.specs.declared.Frame.{Frame}
 use Rattle.framebuffer.specs.declared.Window.{Window}
-use Rattle.framebuffer.specs.Description.{raster}
 use Rattle.framebuffer.specs.Window.{inWindow, heldBy, clipped}
-use Rattle.framebuffer.specs.Judged.{Described, Within}
-use Rattle.framebuffer.proofs.Refusals.{sound}
+use Rattle.framebuffer.specs.Judged.{Within}
 use Rattle.framebuffer.proofs.Windows.{between-pos, between-in, window-in}
 
 -- ---- the nearest number of low to high
@@ -87,15 +85,15 @@ module _ (x : ℤ) (low high u : ℕ) (h : low ≤ u) (k : u < high) where
   past-gt r (within e l m) = (λ q. ltb-true u r (ap (λ (z : ℤ). ltZ (pos u) z) (sym e) ∙ q), λ q. ap (λ (z : ℤ). ltZ (pos u) z) e ∙ lt-ltb u r q)
 
 -- ---- the span that is left
-module _ (f : Frame) (D : Described f) (colour : ℕ) (b : List ℕ) (q : Window) (y start end : ℤ) (W : Within q f) where
+module _ (l : Layout) (P : Placing l) (colour : ℕ) (b : List ℕ) (q : Window) (y start end : ℤ) (W : Within q (l .width) (l .height)) where
   -- the figure has places on row y alone
   on-row : (u v : ℕ) → spanFigure y start end (pos u) (pos v) ≡ true → pos v ≡ y
   on-row u v e = eqZ-true (pos v) y (and-true (leZ start (pos u) && ltZ (pos u) end) (eqZ (pos v) y) e .1)
 
   -- no row of the rectangle
-  pub row-off : between (pos (q .top)) (pos (q .bottom)) y ≡ false → (0, b) ≡ marked (raster f) (heldBy q (spanFigure y start end)) colour b
+  pub row-off : between (pos (q .top)) (pos (q .bottom)) y ≡ false → (0, b) ≡ marked l (heldBy q (spanFigure y start end)) colour b
   row-off h =
-      sym (marked-none (raster f) (sound f D) colour b _ (λ u v hu hv. fails _ (λ e.
+      sym (marked-none l P colour b _ (λ u v hu hv. fails _ (λ e.
       let p = and-true (inWindow q (pos u) (pos v)) (spanFigure y start end (pos u) (pos v)) e in
       let r = and-true (between (pos (q .left)) (pos (q .right)) (pos u)) (between (pos (q .top)) (pos (q .bottom)) (pos v)) (p .0) .1 in
       true≢false (sym r ∙ ap (λ (z : ℤ). between (pos (q .top)) (pos (q .bottom)) z) (on-row u v (p .1)) ∙ h))))
@@ -140,19 +138,19 @@ module _ (f : Frame) (D : Described f) (colour : ℕ) (b : List ℕ) (q : Window
             (past-gt end (q .left) (q .right) u (r .0) (r .1) past (nearest end (q .left) (q .right)) .0 (t .1))
             (ap natAbs (on-row u v (p .1)))
 
-    kept : marked (raster f) (columns (natAbs y) from past) colour b ≡ marked (raster f) (heldBy q (spanFigure y start end)) colour b
-    kept = marked-cong (raster f) (sound f D) colour b _ _ (λ u v hu hv. agree u v)
+    kept : marked l (columns (natAbs y) from past) colour b ≡ marked l (heldBy q (spanFigure y start end)) colour b
+    kept = marked-cong l P colour b _ _ (λ u v hu hv. agree u v)
 
-    pub span-left : natAbs y < f .height → from ≤ past
-        → (past - from, painted (raster f) (columns (natAbs y) from past) colour b) ≡ marked (raster f) (heldBy q (spanFigure y start end)) colour b
+    pub span-left : natAbs y < l .height → from ≤ past
+        → (past - from, painted l (columns (natAbs y) from past) colour b) ≡ marked l (heldBy q (spanFigure y start end)) colour b
     span-left hy h =
         let r = W .right in
         let p = clip-bounds end (q .left) (q .right) (W .across) .1 in
-        ap (λ (n : ℕ). (n, painted (raster f) (columns (natAbs y) from past) colour b)) (sym (pixels-span (raster f) (natAbs y) from past hy h (omega arith))) ∙ kept
+        ap (λ (n : ℕ). (n, painted l (columns (natAbs y) from past) colour b)) (sym (pixels-span l (natAbs y) from past hy h (omega arith))) ∙ kept
 
-    pub span-gone : past ≤ from → (0, b) ≡ marked (raster f) (heldBy q (spanFigure y start end)) colour b
+    pub span-gone : past ≤ from → (0, b) ≡ marked l (heldBy q (spanFigure y start end)) colour b
     span-gone h =
-        sym (sym kept ∙ marked-none (raster f) (sound f D) colour b _ (λ u v hu hv. fails _ (λ e. let s = in-span (natAbs y) from past u v e in no u (s .0) (s .1))))
+        sym (sym kept ∙ marked-none l P colour b _ (λ u v hu hv. fails _ (λ e. let s = in-span (natAbs y) from past u v e in no u (s .0) (s .1))))
       where
         no : (u : ℕ) → from ≤ u → u < past → ⊥
         no u a z = omega arith

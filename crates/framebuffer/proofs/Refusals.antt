@@ -6,7 +6,7 @@ use Prim.Native.Nat.{ℕ, zero, suc, _+_, _*_, _/_, _%_, _^_, _≤_, _<_}
 use native.Mathlib.Nat.{mul-le-mul, mul-zero, mod-eq-of-lt, mul-le-mul-right}
 use native.Mathlib.Omega.{arith}
 use lib.Pow.{pow-mono}
-use borrow.Author.Tests.{ltb-false, le-leb, leb-false, not-false}
+use borrow.Author.Tests.{ltb-false, le-leb, not-false}
 use Rattle.whole.proofs.Tests.{or-false}
 use Rattle.refusals.specs.First.{first, numbered}
 use Rattle.refusals.proofs.First.{exactly-0, both-pass, fails-alone}
@@ -16,8 +16,8 @@ use Rattle.layout.proofs.Places.{Sound, placing, depth-le, pixel-in}
 use Rattle.framebuffer.specs.declared.Canvas.{Canvas}
 use Rattle.framebuffer.specs.declared.Frame.{Frame}
 use Rattle.framebuffer.specs.Answer.{sized, drawn, wasInside, read}
-use Rattle.framebuffer.specs.Description.{packedDistance, arranged, raster, size, tooShort, noColour, descriptionTests, frameTests, drawTests}
-use Rattle.framebuffer.specs.Judged.{Described, Accepted, Drawable, overBytes, Over}
+use Rattle.framebuffer.specs.Description.{packedDistance, arranged, raster, size, noDistance, tooShort, sizeTests, descriptionTests, frameTests}
+use Rattle.framebuffer.specs.Judged.{Described, Accepted, overBytes, Over}
 
 -- ---- no number is 0
 pub description-numbered : (f : Frame) → numbered (descriptionTests f) ≡ true
@@ -28,45 +28,36 @@ pub frame-numbered : (f : Frame) (len : ℕ) → numbered (frameTests f len) ≡
 unfolding descriptionTests frameTests
 frame-numbered f len = refl
 
-pub draw-numbered : (f : Frame) (len colour : ℕ) → numbered (drawTests f len colour) ≡ true
-unfolding descriptionTests frameTests drawTests
-draw-numbered f len colour = refl
-
 -- ---- a frame that was judged over len bytes
 pub judged : (f : Frame) (len : ℕ) {c : Canvas} → c ≡ overBytes f len → Over c len
 judged f len e = e ∙ ap (λ (g : Frame). overBytes g len) (sym (ap (λ (c : Canvas). c .frame) e))
 
 -- ---- a depth that is none of the seven
-pub no-depth : (f : Frame) (len colour : ℕ) → goodDepth (f .depth) ≡ false → 1 ≡ first (drawTests f len colour)
-unfolding descriptionTests frameTests drawTests
-no-depth f len colour e = simp e
+pub no-depth : (f : Frame) (len : ℕ) → goodDepth (f .depth) ≡ false → 1 ≡ first (frameTests f len)
+unfolding descriptionTests frameTests
+no-depth f len e = simp e
 
 -- ---- what 0 says
+-- the depth and the size are good
+pub is-sized : (f : Frame) → first (sizeTests f) ≡ 0 → (goodDepth (f .depth) ≡ true) × (f .width ≤ 2048) × (f .height ≤ 2048)
+is-sized f z =
+    let t = exactly-0 (sizeTests f) refl .0 z in
+    let w = or-false _ _ (t .1 .0) in
+    (not-false _ (t .0), ltb-false _ _ (w .0), ltb-false _ _ (w .1))
+
 pub is-described : (f : Frame) → first (descriptionTests f) ≡ 0 → Described f
 unfolding descriptionTests
 is-described f z =
-    let t = exactly-0 (descriptionTests f) refl .0 z in
-    let w = or-false _ _ (t .1 .0) in
-    let n = or-false _ _ (t .1 .1 .0) in
-    record {
-      depth = not-false _ (t .0);
-      width = ltb-false _ _ (w .0);
-      height = ltb-false _ _ (w .1);
-      apart = ltb-false _ _ (n .0);
-      near = ltb-false _ _ (n .1);
-    }
+    let p = both-pass (sizeTests f) ((14, noDistance f) ∷ []) refl z in
+    let s = is-sized f (p .0) in
+    let n = or-false _ _ (fails-alone 13 (noDistance f) (p .1)) in
+    record { depth = s .0; width = s .1; height = s .2; apart = ltb-false _ _ (n .0); near = ltb-false _ _ (n .1) }
 
 pub is-accepted : (f : Frame) (len : ℕ) → first (frameTests f len) ≡ 0 → Accepted f len
 unfolding frameTests
 is-accepted f len z =
     let p = both-pass (descriptionTests f) ((3, tooShort f len) ∷ []) (description-numbered f) z in
     record { described = is-described f (p .0); room = ltb-false _ _ (fails-alone _ _ (p .1)) }
-
-pub is-drawable : (f : Frame) (len colour : ℕ) → first (drawTests f len colour) ≡ 0 → Drawable f len colour
-unfolding drawTests
-is-drawable f len colour z =
-    let p = both-pass (frameTests f len) ((4, noColour f colour) ∷ []) (frame-numbered f len) z in
-    record { accepted = is-accepted f len (p .0); below = leb-false _ _ (fails-alone _ _ (p .1)) }
 
 -- ---- what comes with an accepted description
 -- its rows are far enough apart

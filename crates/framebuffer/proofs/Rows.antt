@@ -19,8 +19,7 @@ use Rattle.layout.proofs.Placing.{Placing, Everywhere}
 use Rattle.layout.proofs.Pixels.{pixels-le, marked-cong, marked-none, marked-then}
 use Rattle.framebuffer.specs.declared.Brush.{Brush}
 use Rattle.framebuffer.specs.declared.Window.{Window}
-use Rattle.framebuffer.specs.Description.{raster}
-use Rattle.framebuffer.specs.Judged.{Ready, brushed, onTop}
+use Rattle.framebuffer.specs.Judged.{Ready, ground, brushed, onTop}
 use Rattle.framebuffer.specs.Window.{inWindow, heldBy}
 use Rattle.framebuffer.proofs.Refusals.{sound}
 use Rattle.framebuffer.proofs.Windows.{window-in}
@@ -31,26 +30,26 @@ within-both true a b = refl
 within-both false a b = refl
 
 -- a brush that may paint has a sound layout, and few pixels
-pub brush-sound : {q : Brush} {len : ℕ} → Ready q len → Placing (raster (q .frame))
+pub brush-sound : {q : Brush} {len : ℕ} → Ready q len → Placing (ground q)
 brush-sound {q} R = sound (q .frame) (R .drawable .accepted .described)
 
-pub few-pixels : {q : Brush} {len : ℕ} → Ready q len → (s : ℤ → ℤ → Bool) {n : ℕ} → n ≡ pixelsIn (raster (q .frame)) s → n ≤ 4194304
+pub few-pixels : {q : Brush} {len : ℕ} → Ready q len → (s : ℤ → ℤ → Bool) {n : ℕ} → n ≡ pixelsIn (ground q) s → n ≤ 4194304
 few-pixels {q} R s e =
     let D = R .drawable .accepted .described in
     let m : q .frame .height * q .frame .width ≤ 2048 * 2048 = mul-le-mul (D .height) (D .width) in
-    let h = pixels-le (raster (q .frame)) s in
+    let h = pixels-le (ground q) s in
     omega arith
 
-module _ (q : Brush) (P : Placing (raster (q .frame))) (b : List ℕ) where
+module _ (q : Brush) (P : Placing (ground q)) (b : List ℕ) where
   -- and the pixels add up, where no pixel of the frame is in both
   pub brushed-more : (s t u : ℤ → ℤ → Bool) {m n : ℕ} {now next : List ℕ} → (m, now) ≡ brushed q s b → (n, next) ≡ brushed q t now
-      → Everywhere (raster (q .frame)) (λ x y. heldBy (q .window) s (pos x) (pos y) && heldBy (q .window) t (pos x) (pos y) ≡ false)
-      → Everywhere (raster (q .frame)) (λ x y. heldBy (q .window) s (pos x) (pos y) || heldBy (q .window) t (pos x) (pos y) ≡ heldBy (q .window) u (pos x) (pos y))
+      → Everywhere (ground q) (λ x y. heldBy (q .window) s (pos x) (pos y) && heldBy (q .window) t (pos x) (pos y) ≡ false)
+      → Everywhere (ground q) (λ x y. heldBy (q .window) s (pos x) (pos y) || heldBy (q .window) t (pos x) (pos y) ≡ heldBy (q .window) u (pos x) (pos y))
       → (m + n, next) ≡ brushed q u b
   brushed-more s t u {m} e f apart joined =
       ap (λ (r : ℕ × List ℕ). (m + r .0, r .1)) f
       ∙ ap (λ (r : ℕ × List ℕ). (r .0 + brushed q t b .0, brushed q t (r .1) .1)) e
-      ∙ marked-then (raster (q .frame)) P (q .colour) b (heldBy (q .window) s) (heldBy (q .window) t) (heldBy (q .window) u) apart joined
+      ∙ marked-then (ground q) P (q .colour) b (heldBy (q .window) s) (heldBy (q .window) t) (heldBy (q .window) u) apart joined
 
 -- the figure's rows above y
 abbrev pub above : (ℤ → ℤ → Bool) → ℤ → ℤ → ℤ → Bool
@@ -91,11 +90,11 @@ apart true false y f s h = refl
 apart true true true f s h = absurd (h refl refl)
 apart true true false f s h = span-off f (s && false) (span-off s false refl)
 
-module _ (q : Brush) (P : Placing (raster (q .frame))) (b : List ℕ) (figure : ℤ → ℤ → Bool) where
+module _ (q : Brush) (P : Placing (ground q)) (b : List ℕ) (figure : ℤ → ℤ → Bool) where
   -- the rectangle holds no row of the figure above y
   pub rows-start : (y : ℤ) → ((u v : ℕ) → pos v <ℤ y → heldBy (q .window) figure (pos u) (pos v) ≡ false) → brushed q (above figure y) b ≡ (0, b)
   rows-start y none =
-      marked-none (raster (q .frame)) P (q .colour) b _
+      marked-none (ground q) P (q .colour) b _
       (λ u v hu hv. by (inWindow (q .window) (pos u) (pos v)) (ltZ (pos v) y) (figure (pos u) (pos v)) (λ l. none u v (lt-yes l)))
     where
       by : (p l f : Bool) → (l ≡ true → (p && f) ≡ false) → (p && (l && f)) ≡ false
@@ -121,7 +120,7 @@ module _ (q : Brush) (P : Placing (raster (q .frame))) (b : List ℕ) (figure : 
   -- nor one at y or below
   pub rows-end : (y : ℤ) → ((u v : ℕ) → y ≤ℤ pos v → heldBy (q .window) figure (pos u) (pos v) ≡ false) → brushed q (above figure y) b ≡ brushed q figure b
   rows-end y none =
-      marked-cong (raster (q .frame)) P (q .colour) b _ _
+      marked-cong (ground q) P (q .colour) b _ _
       (λ u v hu hv. by (inWindow (q .window) (pos u) (pos v)) (ltZ (pos v) y) (figure (pos u) (pos v)) (λ l. none u v (lt-no l)))
     where
       by : (p l f : Bool) → (l ≡ false → (p && f) ≡ false) → (p && (l && f)) ≡ (p && f)

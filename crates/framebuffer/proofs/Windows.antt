@@ -16,16 +16,15 @@ use Rattle.whole.specs.Interval.{between}
 use Rattle.whole.proofs.Machine.{index-fits}
 use Rattle.layout.specs.Figure.{single}
 use Rattle.layout.specs.Count.{oneIf, pixelsIn, marked}
-use Rattle.layout.specs.Layout.{putPixel, painted}
+use Rattle.layout.specs.Layout.{Layout, putPixel, painted}
 use Rattle.whole.proofs.Tests.{same-test, fails, and-true, true-and, eqZ-true}
+use Rattle.layout.proofs.Placing.{Placing}
 use Rattle.layout.proofs.Painted.{painted-cong, painted-none, put-single}
 use Rattle.layout.proofs.Pixels.{marked-cong, pixels-cong, pixels-none, pixels-one}
 use Rattle.framebuffer.specs.declared.Frame.{Frame}
 use Rattle.framebuffer.specs.declared.Window.{Window}
-use Rattle.framebuffer.specs.Description.{raster}
-use Rattle.framebuffer.specs.Window.{inWindow, heldBy, wholeWindow}
+use Rattle.framebuffer.specs.Window.{inWindow, heldBy, allOf}
 use Rattle.framebuffer.specs.Judged.{Described, Within}
-use Rattle.framebuffer.proofs.Refusals.{sound}
 
 -- ---- what a range and a rectangle say
 -- a number of a range is not negative
@@ -57,67 +56,69 @@ window-pos q x y e =
     let p = and-true (between (pos (q .left)) (pos (q .right)) x) (between (pos (q .top)) (pos (q .bottom)) y) e in
     (between-pos x (q .left) (q .right) (p .0), between-pos y (q .top) (q .bottom) (p .1))
 
-pub whole-within : (f : Frame) → Within (wholeWindow f) f
-whole-within f = record { across = omega arith; down = omega arith; right = le-refl (f .width); bottom = le-refl (f .height) }
+pub all-within : (w h : ℕ) → Within (allOf w h) w h
+all-within w h = record { across = omega arith; down = omega arith; right = le-refl w; bottom = le-refl h }
 
 -- its ends are few enough for a signed number
-pub within-small : {q : Window} {f : Frame} → Within q f → Described f → (q .left ≤ q .right) × (q .right ≤ 2048) × (q .top ≤ q .bottom) × (q .bottom ≤ 2048)
+pub within-small : {q : Window} {f : Frame} → Within q (f .width) (f .height) → Described f → (q .left ≤ q .right) × (q .right ≤ 2048) × (q .top ≤ q .bottom) × (q .bottom ≤ 2048)
 within-small W D = let r = W .right in let b = W .bottom in let w = D .width in let h = D .height in (W .across, omega arith, W .down, omega arith)
 
-module _ (f : Frame) (D : Described f) (colour : ℕ) (b : List ℕ) where
-  -- the rectangle of the whole frame takes nothing away
-  pub marked-whole : (s : ℤ → ℤ → Bool) → marked (raster f) (heldBy (wholeWindow f) s) colour b ≡ marked (raster f) s colour b
-  marked-whole s =
-      marked-cong (raster f) (sound f D) colour b _ _
-      (λ x y hx hy. ap (λ (t : Bool). t && s (pos x) (pos y)) (in-window (wholeWindow f) x y (omega arith) hx (omega arith) hy))
+-- a place that it holds lies within the width and the height
+pub point-in : (q : Window) (x y : ℤ) {w h : ℕ} → Within q w h → inWindow q x y ≡ true → (natAbs x < w) × (natAbs y < h)
+point-in q x y W e =
+    let z = window-pos q x y e in
+    let p = window-in q (natAbs x) (natAbs y) (ap₂ (inWindow q) (sym (z .0)) (sym (z .1)) ∙ e) in
+    let r = p .0 .1 in
+    let s = p .1 .1 in
+    let a = W .right in
+    let c = W .bottom in
+    (omega arith, omega arith)
 
-  -- one pixel, in the rectangle or not
-  module _ (q : Window) (x y : ℤ) where
-    pub point-in : Within q f → inWindow q x y ≡ true → (natAbs x < f .width) × (natAbs y < f .height)
-    point-in W e =
-        let z = window-pos q x y e in
-        let p = window-in q (natAbs x) (natAbs y) (ap₂ (inWindow q) (sym (z .0)) (sym (z .1)) ∙ e) in
-        let r = p .0 .1 in
-        let s = p .1 .1 in
-        let a = W .right in
-        let c = W .bottom in
-        (omega arith, omega arith)
+-- ---- one pixel as a figure, in the rectangle or not
+module _ (q : Window) (x y : ℤ) where
+  -- where the figure of one pixel has a place, that is the pixel
+  single-is : (u v : ℕ) → single x y (pos u) (pos v) ≡ true → inWindow q (pos u) (pos v) ≡ inWindow q x y
+  single-is u v h = let p = and-true (eqZ (pos u) x) (eqZ (pos v) y) h in ap₂ (inWindow q) (eqZ-true (pos u) x (p .0)) (eqZ-true (pos v) y (p .1))
 
-    -- where the figure of one pixel has a place, that is the pixel
-    single-is : (u v : ℕ) → single x y (pos u) (pos v) ≡ true → inWindow q (pos u) (pos v) ≡ inWindow q x y
-    single-is u v h = let p = and-true (eqZ (pos u) x) (eqZ (pos v) y) h in ap₂ (inWindow q) (eqZ-true (pos u) x (p .0)) (eqZ-true (pos v) y (p .1))
+  -- so the rectangle has all of the figure, or nothing
+  all-held : inWindow q x y ≡ true → (u v : ℕ) → single x y (pos u) (pos v) ≡ heldBy q (single x y) (pos u) (pos v)
+  all-held e u v = same-test _ _ (λ h. true-and (single-is u v h ∙ e) h) (λ h. and-true (inWindow q (pos u) (pos v)) _ h .1)
 
-    -- so the rectangle has all of the figure, or nothing
-    all-held : inWindow q x y ≡ true → (u v : ℕ) → single x y (pos u) (pos v) ≡ heldBy q (single x y) (pos u) (pos v)
-    all-held e u v = same-test _ _ (λ h. true-and (single-is u v h ∙ e) h) (λ h. and-true (inWindow q (pos u) (pos v)) _ h .1)
+  none-held : inWindow q x y ≡ false → (u v : ℕ) → heldBy q (single x y) (pos u) (pos v) ≡ false
+  none-held e u v =
+      fails _ (λ h.
+      let p = and-true (inWindow q (pos u) (pos v)) (single x y (pos u) (pos v)) h in
+      true≢false (sym (p .0) ∙ single-is u v (p .1) ∙ e))
 
-    none-held : inWindow q x y ≡ false → (u v : ℕ) → heldBy q (single x y) (pos u) (pos v) ≡ false
-    none-held e u v =
-        fails _ (λ h.
-        let p = and-true (inWindow q (pos u) (pos v)) (single x y (pos u) (pos v)) h in
-        true≢false (sym (p .0) ∙ single-is u v (p .1) ∙ e))
+  -- it is counted or not
+  pub point-count : (l : Layout) → Within q (l .width) (l .height) → pixelsIn l (heldBy q (single x y)) ≡ oneIf (inWindow q x y)
+  point-count l W = by (inWindow q x y) refl
+    where
+      by : (t : Bool) → inWindow q x y ≡ t → pixelsIn l (heldBy q (single x y)) ≡ oneIf (inWindow q x y)
+      by true e =
+          let p = point-in q x y W e in
+          let z = window-pos q x y e in
+          pixels-cong l _ (single (pos (natAbs x)) (pos (natAbs y)))
+          (λ u v hu hv. sym (all-held e u v) ∙ ap₂ (λ (i j : ℤ). single i j (pos u) (pos v)) (z .0) (z .1))
+          ∙ pixels-one l (natAbs x) (natAbs y) (p .0) (p .1)
+          ∙ sym (ap oneIf e)
+      by false e = pixels-none l _ (λ u v hu hv. none-held e u v) ∙ sym (ap oneIf e)
 
-    pub point-put : Within q f → inWindow q x y ≡ true → putPixel (raster f) (natAbs x) (natAbs y) colour b ≡ painted (raster f) (heldBy q (single x y)) colour b
+  -- and painted or not, wherever the pixels are kept
+  module _ (l : Layout) (P : Placing l) (colour : ℕ) (b : List ℕ) where
+    pub point-put : Within q (l .width) (l .height) → inWindow q x y ≡ true → putPixel l (natAbs x) (natAbs y) colour b ≡ painted l (heldBy q (single x y)) colour b
     point-put W e =
-        let p = point-in W e in
+        let p = point-in q x y W e in
         let z = window-pos q x y e in
-        put-single (raster f) (sound f D) colour b (natAbs x) (natAbs y) (p .0) (p .1)
-        ∙ ap₂ (λ (i j : ℤ). painted (raster f) (single i j) colour b) (sym (z .0)) (sym (z .1))
-        ∙ painted-cong (raster f) (sound f D) colour b _ _ (λ u v hu hv. all-held e u v)
+        put-single l P colour b (natAbs x) (natAbs y) (p .0) (p .1)
+        ∙ ap₂ (λ (i j : ℤ). painted l (single i j) colour b) (sym (z .0)) (sym (z .1))
+        ∙ painted-cong l P colour b _ _ (λ u v hu hv. all-held e u v)
 
-    pub point-off : inWindow q x y ≡ false → b ≡ painted (raster f) (heldBy q (single x y)) colour b
-    point-off e = sym (painted-none (raster f) (sound f D) colour b _ (λ u v hu hv. none-held e u v))
+    pub point-off : inWindow q x y ≡ false → b ≡ painted l (heldBy q (single x y)) colour b
+    point-off e = sym (painted-none l P colour b _ (λ u v hu hv. none-held e u v))
 
-    -- and it is counted or not
-    pub point-count : Within q f → pixelsIn (raster f) (heldBy q (single x y)) ≡ oneIf (inWindow q x y)
-    point-count W = by (inWindow q x y) refl
-      where
-        by : (t : Bool) → inWindow q x y ≡ t → pixelsIn (raster f) (heldBy q (single x y)) ≡ oneIf (inWindow q x y)
-        by true e =
-            let p = point-in W e in
-            let z = window-pos q x y e in
-            pixels-cong (raster f) _ (single (pos (natAbs x)) (pos (natAbs y)))
-            (λ u v hu hv. sym (all-held e u v) ∙ ap₂ (λ (i j : ℤ). single i j (pos u) (pos v)) (z .0) (z .1))
-            ∙ pixels-one (raster f) (natAbs x) (natAbs y) (p .0) (p .1)
-            ∙ sym (ap oneIf e)
-        by false e = pixels-none (raster f) _ (λ u v hu hv. none-held e u v) ∙ sym (ap oneIf e)
+-- the rectangle of all pixels takes nothing away
+pub marked-all : (l : Layout) → Placing l → (colour : ℕ) (b : List ℕ) (s : ℤ → ℤ → Bool) → marked l (heldBy (allOf (l .width) (l .height)) s) colour b ≡ marked l s colour b
+marked-all l P colour b s =
+    marked-cong l P colour b _ _
+    (λ x y hx hy. ap (λ (t : Bool). t && s (pos x) (pos y)) (in-window (allOf (l .width) (l .height)) x y (omega arith) hx (omega arith) hy))

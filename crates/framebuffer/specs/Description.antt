@@ -59,17 +59,17 @@ noColour f colour = leb (2 ^ (f .depth)) colour
 abbrev pub isOutside : Frame → Point → Bool
 isOutside f p = not (inWindow (wholeWindow f) (p .0) (p .1))
 
--- "Size of a frame: 1, 2", and "14 for a bad distance, between 2 and 3"
+-- "Size of a frame: 1, 2"
+abbrev pub sizeTests : Frame → Tests
+sizeTests f = (1, noDepth f) ∷ (2, tooLarge f) ∷ []
+
+-- and "14 for a bad distance, between 2 and 3"
 unfoldable pub descriptionTests : Frame → Tests
-descriptionTests f = (1, noDepth f) ∷ (2, tooLarge f) ∷ (14, noDistance f) ∷ []
+descriptionTests f = sizeTests f ++ ((14, noDistance f) ∷ [])
 
 -- a frame over len bytes: 1, 2, 14, 3
 unfoldable pub frameTests : Frame → ℕ → Tests
 frameTests f len = descriptionTests f ++ ((3, tooShort f len) ∷ [])
-
--- "Setting a pixel, filling the frame: 1 to 4", and 14 behind 2
-unfoldable pub drawTests : Frame → ℕ → ℕ → Tests
-drawTests f len colour = frameTests f len ++ ((4, noColour f colour) ∷ [])
 
 -- "Reading: 1 to 3, 8", and 14 behind 2
 unfoldable pub readTests : Frame → ℕ → Point → Tests

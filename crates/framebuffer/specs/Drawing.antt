@@ -1,6 +1,6 @@
 -- What a call that draws answers and leaves: one value, for every call.
 use mathlib.Core.Bool.{Bool, cond}
-use mathlib.Core.List.{List, [], _++_}
+use mathlib.Core.List.{List, [], _∷_, _++_}
 use Prim.Native.Nat.{ℕ}
 use lib.Dec.{eqb}
 use lib.IntN.{ℤ}
@@ -9,13 +9,13 @@ use Rattle.refusals.specs.First.{Tests, first}
 use Rattle.geometry.specs.declared.Point.{Point}
 use Rattle.layout.specs.Figure.{single, everywhere}
 use Rattle.layout.specs.Count.{marked}
+use Rattle.layout.specs.Layout.{Layout}
 use Rattle.framebuffer.specs.declared.Frame.{Frame}
-use Rattle.framebuffer.specs.declared.Window.{Window}
 use Rattle.framebuffer.specs.declared.Drawn.{Drawn}
 use Rattle.framebuffer.specs.declared.Placed.{Placed}
 use Rattle.framebuffer.specs.Answer.{drawn, wasInside}
-use Rattle.framebuffer.specs.Description.{raster, drawTests}
-use Rattle.framebuffer.specs.Window.{inWindow, heldBy}
+use Rattle.framebuffer.specs.Description.{raster, noColour, frameTests}
+use Rattle.framebuffer.specs.Window.{inWindow, wholeWindow}
 
 -- what a call draws: its figure, its colour, and the tests of its own, which come behind those of its frame and its colour
 pub record Drawing : Type 0 where
@@ -30,19 +30,23 @@ pixelDrawing p colour = record { figure = single (p .0) (p .1); colour = colour;
 abbrev pub fillDrawing : ℕ → Drawing
 fillDrawing colour = record { figure = everywhere; colour = colour; own = [] }
 
--- its tests, on a frame over len bytes
+-- its tests where those before it are ts, whoever asks them: 4 for its colour, then its own
+abbrev pub behindThose : Tests → Frame → Drawing → Tests
+behindThose ts f d = ts ++ ((4, noColour f (d .colour)) ∷ d .own)
+
+-- on a frame over len bytes: "Setting a pixel, filling the frame: 1 to 4", and 14 behind 2
 abbrev pub callTests : Frame → ℕ → Drawing → Tests
-callTests f len d = drawTests f len (d .colour) ++ d .own
+callTests f len d = behindThose (frameTests f len) f d
 
--- the answer, and the bytes, by a number: with a refusal those before it, else every pixel of the rectangle that the figure contains gets the colour, and is counted
-abbrev pub madeOf : ℕ → Frame → Window → Drawing → List ℕ → Drawn × List ℕ
-madeOf n f q d b = let m = marked (raster f) (heldBy q (d .figure)) (d .colour) b in (drawn n (m .0), cond (eqb n 0) (m .1) b)
+-- the answer, and the bytes, by a number: with a refusal those before it, else every pixel of the frame that the figure contains gets the colour, and is counted
+abbrev pub madeOf : ℕ → Layout → (ℤ → ℤ → Bool) → ℕ → List ℕ → Drawn × List ℕ
+madeOf n l figure colour b = let m = marked l figure colour b in (drawn n (m .0), cond (eqb n 0) (m .1) b)
 
-unfoldable pub outcome : Frame → Window → Drawing → List ℕ → Drawn × List ℕ
-outcome f q d b = madeOf (first (callTests f (length b) d)) f q d b
+unfoldable pub outcome : Frame → Drawing → List ℕ → Drawn × List ℕ
+outcome f d b = madeOf (first (callTests f (length b) d)) (raster f) (d .figure) (d .colour) b
 
--- of setting a pixel: whether the rectangle holds it, in the place of a count
-unfoldable pub pixelOutcome : Frame → Window → Point → ℕ → List ℕ → Placed × List ℕ
-pixelOutcome f q p colour b =
+-- of setting a pixel: whether the frame has it, in the place of a count
+unfoldable pub pixelOutcome : Frame → Point → ℕ → List ℕ → Placed × List ℕ
+pixelOutcome f p colour b =
     let d = pixelDrawing p colour in
-    (wasInside (first (callTests f (length b) d)) (inWindow q (p .0) (p .1)), outcome f q d b .1)
+    (wasInside (first (callTests f (length b) d)) (inWindow (wholeWindow f) (p .0) (p .1)), outcome f d b .1)

@@ -4,6 +4,7 @@ use mathlib.Core.Bool.{Bool, true}
 use mathlib.Core.List.{List}
 use Prim.Native.Nat.{ℕ, _+_, _^_, _≤_, _<_}
 use lib.IntN.{ℤ}
+use Rattle.layout.specs.Layout.{Layout}
 use Rattle.layout.specs.Count.{marked}
 use Rattle.layout.specs.Packed.{goodDepth, rowBytes}
 use Rattle.refusals.specs.First.{first}
@@ -40,17 +41,17 @@ overBytes f len = record { frame = f; window = wholeWindow f; number = first (fr
 abbrev pub Over : Canvas → ℕ → Type 0
 Over c len = c ≡ overBytes (c .frame) len
 
--- a rectangle that ends within the frame
-pub record Within (q : Window) (f : Frame) : Type 0 where
+-- a rectangle that ends within a width and a height
+pub record Within (q : Window) (width height : ℕ) : Type 0 where
   pub across : q .left ≤ q .right
   pub down : q .top ≤ q .bottom
-  pub right : q .right ≤ f .width
-  pub bottom : q .bottom ≤ f .height
+  pub right : q .right ≤ width
+  pub bottom : q .bottom ≤ height
 
 -- a canvas that was judged over a buffer of len bytes: where its number is 0 the frame is accepted, and the rectangle lies within it; over some buffer
 pub record Judged (c : Canvas) (len : ℕ) : Type 0 where
   pub accepted : c .number ≡ 0 → Accepted (c .frame) len
-  pub within : c .number ≡ 0 → Within (c .window) (c .frame)
+  pub within : c .number ≡ 0 → Within (c .window) (c .frame .width) (c .frame .height)
 
 abbrev pub JudgedSome : Canvas → Type 0
 JudgedSome c = c .number ≡ 0 → Described (c .frame)
@@ -58,15 +59,19 @@ JudgedSome c = c .number ≡ 0 → Described (c .frame)
 -- a brush that may paint on a buffer of len bytes
 pub record Ready (q : Brush) (len : ℕ) : Type 0 where
   pub drawable : Drawable (q .frame) len (q .colour)
-  pub within : Within (q .window) (q .frame)
+  pub within : Within (q .window) (q .frame .width) (q .frame .height)
 
 -- the brush for the rectangle of a canvas
 abbrev pub brushOf : Canvas → ℕ → Brush
 brushOf c colour = record { frame = c .frame; window = c .window; colour = colour }
 
+-- where its frame keeps the pixels
+abbrev pub ground : Brush → Layout
+ground q = raster (q .frame)
+
 -- what it makes of a figure, as far as its rectangle holds it: how many pixels that has, and a buffer with them in the colour
 abbrev pub brushed : Brush → (ℤ → ℤ → Bool) → List ℕ → ℕ × List ℕ
-brushed q figure b = marked (raster (q .frame)) (heldBy (q .window) figure) (q .colour) b
+brushed q figure b = marked (ground q) (heldBy (q .window) figure) (q .colour) b
 
 -- counted on top of n pixels
 abbrev pub onTop : ℕ → ℕ × List ℕ → ℕ × List ℕ

@@ -15,9 +15,12 @@ inWindow q x y = between (pos (q .left)) (pos (q .right)) x && between (pos (q .
 abbrev pub heldBy : Window → (ℤ → ℤ → Bool) → ℤ → ℤ → Bool
 heldBy q figure x y = inWindow q x y && figure x y
 
--- the whole frame
+-- all of a width and a height; the whole frame
+abbrev pub allOf : ℕ → ℕ → Window
+allOf width height = record { left = 0; top = 0; right = width; bottom = height }
+
 abbrev pub wholeWindow : Frame → Window
-wholeWindow f = record { left = 0; top = 0; right = f .width; bottom = f .height }
+wholeWindow f = allOf (f .width) (f .height)
 
 -- the nearest number of low to high
 abbrev pub clipped : ℤ → ℕ → ℕ → ℕ

@@ -3,7 +3,7 @@
 ghost use mathlib.Core.Path.{_≡_};
 ghost use mathlib.Core.Bool.{true};
 ghost use mathlib.Core.List.{[]};
-ghost use Prim.Native.Nat.{ℕ, _+_, _*_, _/_, _≤_, _<_};
+ghost use Prim.Native.Nat.{_+_, _*_, _/_, _≤_, _<_};
 ghost use lib.IntN.{pos};
 ghost use lib.ListN.{length};
 ghost use Rattle.whole.specs.Interval.{between};
@@ -14,7 +14,7 @@ ghost use Rattle.layout.specs.Layout.{putPixel, getPixel, painted};
 ghost use Rattle.layout.specs.Packed.{goodDepth};
 ghost use Rattle.framebuffer.specs.Answer.{sized, read};
 ghost use Rattle.framebuffer.specs.Window.{inWindow, heldBy, wholeWindow, clipped};
-ghost use Rattle.framebuffer.specs.Description.{described, packedDistance, packed, raster, noDistance, size, descriptionTests, frameTests, drawTests, readTests, colourAt};
+ghost use Rattle.framebuffer.specs.Description.{described, packedDistance, packed, raster, noDistance, size, sizeTests, descriptionTests, frameTests, readTests, colourAt};
 ghost use Rattle.framebuffer.specs.Judged.{Described, Accepted, Drawable, overBytes, Judged, JudgedSome, Within, Ready, brushOf, brushed, onTop};
 ghost use Rattle.framebuffer.specs.Drawing.{fillDrawing, outcome, pixelOutcome};
 ghost use Rattle.framebuffer.specs.Interval.{Held};
@@ -168,8 +168,9 @@ fn has_no_distance(frame: Frame) -> bool
     (frame.distance < (frame.width * frame.depth + 7) / 8) | (16384 < frame.distance)
 }
 
-fn description_refusal(frame: Frame) -> u32
-    ensures { λ r. ⌜ r ≡ first (descriptionTests frame) ⌝ }
+// The refusal of a frame's depth or size, 1 or 2, or 0.
+fn size_refusal(frame: Frame) -> u32
+    ensures { λ r. ⌜ r ≡ first (sizeTests frame) ⌝ }
 {
     if !depth_ok(frame.depth) {
         return 1;
@@ -179,6 +180,16 @@ fn description_refusal(frame: Frame) -> u32
     }
     if 2048 < frame.height {
         return 2;
+    }
+    0
+}
+
+fn description_refusal(frame: Frame) -> u32
+    ensures { λ r. ⌜ r ≡ first (descriptionTests frame) ⌝ }
+{
+    let number = size_refusal(frame);
+    if number != 0 {
+        return number;
     }
     if has_no_distance(frame) {
         return 14;
@@ -252,13 +263,6 @@ pub fn colour_refusal(canvas: Canvas, colour: u32) -> u32
     0
 }
 
-// The same on a frame over a buffer of `len` bytes.
-fn draw_refusal(frame: Frame, len: usize, colour: u32) -> u32
-    ensures { λ r. ⌜ r ≡ first (drawTests frame len colour) ⌝ }
-{
-    colour_refusal(frame.over(len), colour)
-}
-
 // ---- one pixel
 
 // The byte of pixel (x, y) at which its bits start.
@@ -317,7 +321,7 @@ impl Window {
 
 // The pixel at a place that the rectangle holds gets the colour.
 fn put_held(buf: &mut [u8], frame: Frame, window: Window, x: i32, y: i32, colour: u32)
-    requires { ⌜ Drawable frame (length (now buf)) colour × Within window frame × (inWindow window x y ≡ true) ⌝ }
+    requires { ⌜ Drawable frame (length (now buf)) colour × Within window (frame .width) (frame .height) × (inWindow window x y ≡ true) ⌝ }
     ensures { λ r. ⌜ now (buf .exit) ≡ painted (raster frame) (heldBy window (single x y)) colour (now (buf .entry)) ⌝ }
 {
     put_at(buf, frame, x as u32, y as u32, colour);
@@ -325,7 +329,7 @@ fn put_held(buf: &mut [u8], frame: Frame, window: Window, x: i32, y: i32, colour
 
 // The pixel at a place gets the colour, if the rectangle holds it; and whether it does.
 fn put_within(buf: &mut [u8], frame: Frame, window: Window, p: geometry::Point, colour: u32) -> bool
-    requires { ⌜ Drawable frame (length (now buf)) colour × Within window frame ⌝ }
+    requires { ⌜ Drawable frame (length (now buf)) colour × Within window (frame .width) (frame .height) ⌝ }
     ensures { λ r. ⌜ (r ≡ inWindow window (p .0) (p .1))
         × (now (buf .exit) ≡ painted (raster frame) (heldBy window (single (p .0) (p .1))) colour (now (buf .entry))) ⌝ }
 {
@@ -354,20 +358,12 @@ pub fn set_point(buf: &mut [u8], brush: Brush, p: geometry::Point)
     put_held(buf, brush.frame, brush.window, p.0, p.1, brush.colour);
 }
 
-// A pixel set on a frame of this depth. Where that is a constant the compiler works out what goes by it: the bytes of a row and of a pixel, the mask, each shift. The place comes as
-// two numbers, of which it knows more than of a point.
-fn set_at_depth(buf: &mut [u8], depth: u32, frame: Frame, x: i32, y: i32, colour: u32) -> Placed
-    ensures { λ r. ⌜ (r, now (buf .exit)) ≡
-        pixelOutcome (described (frame .width) (frame .height) depth (frame .big) (frame .distance)) (wholeWindow frame) (x, y) colour (now (buf .entry)) ⌝ }
+// Inside the library: the pixel at a place gets the colour, if the canvas's rectangle holds it; and whether it does.
+pub fn set_pixel_on(buf: &mut [u8], canvas: Canvas, p: geometry::Point, colour: u32) -> Placed
+    requires { ⌜ Judged canvas (length (now buf)) ⌝ }
+    ensures { λ r. ⌜ (r, now (buf .exit)) ≡ pixelOn canvas p colour (now (buf .entry)) ⌝ }
 {
-    let known = Frame {
-        width: frame.width,
-        height: frame.height,
-        depth,
-        big: frame.big,
-        distance: frame.distance,
-    };
-    let number = draw_refusal(known, buf.len(), colour);
+    let number = colour_refusal(canvas, colour);
     if number != 0 {
         return Placed {
             number,
@@ -376,14 +372,30 @@ fn set_at_depth(buf: &mut [u8], depth: u32, frame: Frame, x: i32, y: i32, colour
     }
     Placed {
         number: 0,
-        inside: put_within(buf, known, known.window(), geometry::Point(x, y), colour),
+        inside: put_point(buf, canvas.brush(colour), p),
     }
+}
+
+// A pixel set on a frame of this depth. Where that is a constant the compiler works out what goes by it: the bytes of a row and of a pixel, the mask, each shift. The place comes as
+// two numbers, of which it knows more than of a point.
+fn set_at_depth(buf: &mut [u8], depth: u32, frame: Frame, x: i32, y: i32, colour: u32) -> Placed
+    ensures { λ r. ⌜ (r, now (buf .exit)) ≡
+        pixelOutcome (described (frame .width) (frame .height) depth (frame .big) (frame .distance)) (x, y) colour (now (buf .entry)) ⌝ }
+{
+    let known = Frame {
+        width: frame.width,
+        height: frame.height,
+        depth,
+        big: frame.big,
+        distance: frame.distance,
+    };
+    set_pixel_on(buf, known.over(buf.len()), geometry::Point(x, y), colour)
 }
 
 // The pixel at a place gets the colour; outside the frame nothing changes, and the answer says so. Each depth is handed on as a constant, which measured faster
 // (docs/BENCHMARKS.md).
 pub fn set_pixel(buf: &mut [u8], frame: Frame, p: geometry::Point, colour: u32) -> Placed
-    ensures { λ r. ⌜ (r, now (buf .exit)) ≡ pixelOutcome frame (wholeWindow frame) p colour (now (buf .entry)) ⌝ }
+    ensures { λ r. ⌜ (r, now (buf .exit)) ≡ pixelOutcome frame p colour (now (buf .entry)) ⌝ }
 {
     let x = p.0;
     let y = p.1;
@@ -400,24 +412,6 @@ pub fn set_pixel(buf: &mut [u8], frame: Frame, p: geometry::Point, colour: u32) 
             number: 1,
             inside: false,
         },
-    }
-}
-
-// Inside the library: the same on a canvas.
-pub fn set_pixel_on(buf: &mut [u8], canvas: Canvas, p: geometry::Point, colour: u32) -> Placed
-    requires { ⌜ Judged canvas (length (now buf)) ⌝ }
-    ensures { λ r. ⌜ (r, now (buf .exit)) ≡ pixelOn canvas p colour (now (buf .entry)) ⌝ }
-{
-    let number = colour_refusal(canvas, colour);
-    if number != 0 {
-        return Placed {
-            number,
-            inside: false,
-        };
-    }
-    Placed {
-        number: 0,
-        inside: put_point(buf, canvas.brush(colour), p),
     }
 }
 
@@ -687,7 +681,7 @@ pub fn fill_on(buf: &mut [u8], canvas: Canvas, colour: u32) -> Drawn
 
 // Every pixel of the frame gets the colour.
 pub fn fill(buf: &mut [u8], frame: Frame, colour: u32) -> Drawn
-    ensures { λ r. ⌜ (r, now (buf .exit)) ≡ outcome frame (wholeWindow frame) (fillDrawing colour) (now (buf .entry)) ⌝ }
+    ensures { λ r. ⌜ (r, now (buf .exit)) ≡ outcome frame (fillDrawing colour) (now (buf .entry)) ⌝ }
 {
     fill_on(buf, frame.over(buf.len()), colour)
 }

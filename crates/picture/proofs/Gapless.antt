@@ -20,9 +20,8 @@ use Rattle.layout.specs.Packed.{goodDepth, rowBytes}
 use Rattle.framebuffer.specs.declared.Drawn.{Drawn}
 use Rattle.framebuffer.specs.declared.Frame.{Frame}
 use Rattle.framebuffer.specs.Answer.{sized, drawn, read}
-use Rattle.framebuffer.specs.Description.{described, packedDistance, packed, raster, size, noDistance, tooShort, isOutside, descriptionTests, frameTests, drawTests, readTests, colourAt}
+use Rattle.framebuffer.specs.Description.{described, packedDistance, packed, raster, size, noDistance, tooShort, isOutside, descriptionTests, frameTests, readTests, colourAt}
 use Rattle.framebuffer.specs.Drawing.{Drawing, outcome}
-use Rattle.framebuffer.specs.Window.{heldBy, wholeWindow}
 use Rattle.framebuffer.proofs.Refusals.{packed-apart}
 use Rattle.picture.specs.Before.{sizeBefore, descriptionBefore, sizedBefore, rasterBefore, outcomeBefore, readBefore}
 
@@ -91,14 +90,14 @@ module _ (w h d : ℕ) (big : Bool) where
   short-same : (len : ℕ) → not (goodDepth d) ≡ false → (ltb 2048 w || ltb 2048 h) ≡ false → tooShort f len ≡ ltb len (sizeBefore w h d)
   short-same len p q = ap (λ (n : ℕ). ltb len n) (same-size p q)
 
-  pub same-outcome : (dr : Drawing) (b : List ℕ) → outcome f (wholeWindow f) dr b ≡ outcomeBefore w h d big dr b
-  unfolding descriptionTests frameTests drawTests outcome
+  pub same-outcome : (dr : Drawing) (b : List ℕ) → outcome f dr b ≡ outcomeBefore w h d big dr b
+  unfolding descriptionTests frameTests outcome
   same-outcome dr b =
       same-value {P = ℕ × List ℕ} {A = Drawn × List ℕ} (λ n m. (drawn n (m .0), cond (eqb n 0) (m .1) b)) (λ n p q. left n p ∙ sym (left n q))
       ((3, tooShort f (length b)) ∷ (4, leb (2 ^ d) (dr .colour)) ∷ dr .own) ((3, ltb (length b) (sizeBefore w h d)) ∷ (4, leb (2 ^ d) (dr .colour)) ∷ dr .own)
       (λ p q. ap (λ (t : Bool). first ((3, t) ∷ (4, leb (2 ^ d) (dr .colour)) ∷ dr .own)) (short-same (length b) p q))
-      (marked (raster f) (heldBy (wholeWindow f) (dr .figure)) (dr .colour) b) (marked (rasterBefore w h d big) (heldBy (wholeWindow f) (dr .figure)) (dr .colour) b)
-      (λ p q. ap (λ (l : Layout). marked l (heldBy (wholeWindow f) (dr .figure)) (dr .colour) b) (same-raster p q))
+      (marked (raster f) (dr .figure) (dr .colour) b) (marked (rasterBefore w h d big) (dr .figure) (dr .colour) b)
+      (λ p q. ap (λ (l : Layout). marked l (dr .figure) (dr .colour) b) (same-raster p q))
     where
       left : (n : ℕ) (m : ℕ × List ℕ) → _≡_ {A = Drawn × List ℕ} (drawn (suc n) (m .0), cond (eqb (suc n) 0) (m .1) b) (drawn (suc n) 0, b)
       left n m = ap (λ (t : Bool). (drawn (suc n) 0, cond t (m .1) b)) (ne-eqb (suc n) 0 (λ e. omega arith))

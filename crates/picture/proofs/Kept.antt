@@ -1,7 +1,7 @@
 -- Reading and padding after any run of the code, on an accepted frame: what `pixel` answers, and what no call changes. Assumes nothing.
 use mathlib.Core.Path.{_≡_, refl, sym, ap, subst, _∙_}
 use mathlib.Core.Bool.{true, not}
-use mathlib.Core.List.{List, [], _∷_}
+use mathlib.Core.List.{List, []}
 use Prim.Native.Nat.{ℕ, _+_, _-_, _*_, _≤_, _<_}
 use native.Mathlib.Omega.{arith}
 use lib.IntN.{pos}
@@ -9,14 +9,12 @@ use lib.ListN.{length, getD, length-replicate}
 use denote.Ref.{now}
 use Rattle.refusals.specs.First.{first}
 use Rattle.refusals.proofs.First.{passed, goes-on}
-use Rattle.geometry.specs.declared.Point.{Point}
 use Rattle.layout.specs.Digits.{digit}
 use Rattle.layout.specs.Layout.{Picture, shown, rendered}
 use Rattle.layout.specs.Packed.{rowBytes}
 use Rattle.layout.proofs.Padding.{padding-stays, gap-stays, tail-stays}
 use Rattle.layout.proofs.Pictures.{rendered-length, shown-rendered, shown-colour, shown-zeros}
 use Rattle.framebuffer.specs.declared.Frame.{Frame}
-use Rattle.framebuffer.specs.declared.Read.{Read}
 use Rattle.framebuffer.specs.Answer.{read}
 use Rattle.framebuffer.specs.Description.{arranged, raster, size, isOutside, frameTests, readTests, colourAt}
 use Rattle.framebuffer.specs.Judged.{Accepted}
@@ -24,7 +22,7 @@ use Rattle.framebuffer.specs.Window.{wholeWindow}
 use Rattle.framebuffer.proofs.Refusals.{is-accepted, frame-numbered, spaced, sound}
 use Rattle.framebuffer.proofs.Windows.{in-window}
 use Rattle.framebuffer.proofs.pixel.Reads as pixel
-use Rattle.picture.specs.Calls.{Call, blank, pictureAfter, afterCalls}
+use Rattle.picture.specs.Calls.{Call, blank, pictureAfter}
 use Rattle.picture.proofs.Picture.{zeros, bytes-after, colours-after-calls}
 use Rattle.picture.proofs.Runs.{Run, run-leaves}
 

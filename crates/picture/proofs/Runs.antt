@@ -4,7 +4,6 @@ use mathlib.Core.Path.{_≡_, refl, sym, ap, _∙_}
 use mathlib.Core.List.{List, [], _∷_}
 use mathlib.Core.Logic.{_↔_}
 use Prim.Native.Nat.{ℕ, _<_}
-use lib.ListN.{length}
 use denote.Ref.{now}
 use Rattle.framebuffer.specs.declared.Frame.{Frame}
 use Rattle.framebuffer.proofs.set_pixel.Reads as set-pixel

@@ -11,7 +11,6 @@ use lib.IntN.{pos}
 use lib.ListN.{length}
 use borrow.Author.Tests.{ne-eqb}
 use Rattle.refusals.specs.First.{first}
-use Rattle.refusals.proofs.First.{both-pass}
 use Rattle.layout.specs.Count.{pixelsIn, litIn, marked}
 use Rattle.layout.specs.Figure.{everywhere}
 use Rattle.layout.specs.Layout.{painted, shown, coloured}
@@ -22,12 +21,11 @@ use Rattle.layout.proofs.Pixels.{pixels-none, none-of, pixels-everywhere, pixel
 use Rattle.framebuffer.specs.declared.Frame.{Frame}
 use Rattle.framebuffer.specs.declared.Drawn.{Drawn}
 use Rattle.framebuffer.specs.Answer.{drawn}
-use Rattle.framebuffer.specs.Description.{raster, size, drawTests}
+use Rattle.framebuffer.specs.Description.{raster, size}
 use Rattle.framebuffer.specs.Drawing.{Drawing, fillDrawing, callTests, outcome}
 use Rattle.framebuffer.specs.Judged.{Drawable}
-use Rattle.framebuffer.specs.Window.{heldBy, wholeWindow}
-use Rattle.framebuffer.proofs.Refusals.{draw-numbered, is-drawable, sound}
-use Rattle.framebuffer.proofs.Windows.{marked-whole}
+use Rattle.framebuffer.proofs.Calls.{drawable}
+use Rattle.framebuffer.proofs.Refusals.{sound}
 use Rattle.picture.proofs.Picture.{colour-fits}
 
 -- no pixel of the frame is in the figure
@@ -39,27 +37,27 @@ module _ (f : Frame) (d : Drawing) (b : List ℕ) where
   number = first (callTests f (length b) d)
 
   abbrev made : ℕ × List ℕ
-  made = marked (raster f) (heldBy (wholeWindow f) (d .figure)) (d .colour) b
+  made = marked (raster f) (d .figure) (d .colour) b
 
-  drawable : number ≡ 0 → Drawable f (length b) (d .colour)
-  drawable z = is-drawable f (length b) (d .colour) (both-pass (drawTests f (length b) (d .colour)) (d .own) (draw-numbered f (length b) (d .colour)) z .0)
+  may-draw : number ≡ 0 → Drawable f (length b) (d .colour)
+  may-draw z = drawable f (length b) d refl z
 
   -- by the number
-  by-number : (n : ℕ) → number ≡ n → outcome f (wholeWindow f) d b ≡ (drawn n (made .0), cond (eqb n 0) (made .1) b)
+  by-number : (n : ℕ) → number ≡ n → outcome f d b ≡ (drawn n (made .0), cond (eqb n 0) (made .1) b)
   unfolding outcome
   by-number n z = ap (λ (n : ℕ). (drawn n (made .0), cond (eqb n 0) (made .1) b)) z
 
   -- an accepted call: the frame's pixels that are in the figure are counted, and get the colour
-  pub accepted-count : number ≡ 0 → outcome f (wholeWindow f) d b ≡ (drawn 0 (pixelsIn (raster f) (d .figure)), painted (raster f) (d .figure) (d .colour) b)
-  accepted-count z = by-number 0 z ∙ ap (λ (m : ℕ × List ℕ). (drawn 0 (m .0), m .1)) (marked-whole f (drawable z .accepted .described) (d .colour) b (d .figure))
+  pub accepted-count : number ≡ 0 → outcome f d b ≡ (drawn 0 (pixelsIn (raster f) (d .figure)), painted (raster f) (d .figure) (d .colour) b)
+  accepted-count z = by-number 0 z
 
   -- a figure off the frame counts 0 and changes no byte, accepted or refused
-  pub off-the-frame : Unseen f d → (outcome f (wholeWindow f) d b .0 .count ≡ 0) × (outcome f (wholeWindow f) d b .1 ≡ b)
+  pub off-the-frame : Unseen f d → (outcome f d b .0 .count ≡ 0) × (outcome f d b .1 ≡ b)
   off-the-frame off = go number refl
     where
-      go : (n : ℕ) → number ≡ n → (outcome f (wholeWindow f) d b .0 .count ≡ 0) × (outcome f (wholeWindow f) d b .1 ≡ b)
+      go : (n : ℕ) → number ≡ n → (outcome f d b .0 .count ≡ 0) × (outcome f d b .1 ≡ b)
       go zero z =
-          let nothing = marked-none (raster f) (sound f (drawable z .accepted .described)) (d .colour) b (d .figure) off in
+          let nothing = marked-none (raster f) (sound f (may-draw z .accepted .described)) (d .colour) b (d .figure) off in
           let e = accepted-count z ∙ ap (λ (m : ℕ × List ℕ). (drawn 0 (m .0), m .1)) nothing in
           (ap (λ (p : Drawn × List ℕ). p .0 .count) e, ap (λ (p : Drawn × List ℕ). p .1) e)
       go (suc n) z =
@@ -67,34 +65,34 @@ module _ (f : Frame) (d : Drawing) (b : List ℕ) where
           (ap (λ (p : Drawn × List ℕ). p .0 .count) e, ap (λ (p : Drawn × List ℕ). p .1) e ∙ ap (λ (t : Bool). cond t (made .1) b) (ne-eqb (suc n) 0 (λ q. omega arith)))
 
   -- the count of an accepted call is 0 exactly if no pixel of the frame is in its figure
-  pub none-seen : number ≡ 0 → outcome f (wholeWindow f) d b .0 .count ≡ 0 ↔ Unseen f d
+  pub none-seen : number ≡ 0 → outcome f d b .0 .count ≡ 0 ↔ Unseen f d
   none-seen z =
       let e = ap (λ (p : Drawn × List ℕ). p .0 .count) (accepted-count z) in
       (λ h. none-of (raster f) (d .figure) (sym e ∙ h), λ off. e ∙ pixels-none (raster f) (d .figure) off)
 
   -- no count is above 4,194,304
-  pub never-above : outcome f (wholeWindow f) d b .0 .count ≤ 4194304
+  pub never-above : outcome f d b .0 .count ≤ 4194304
   never-above = go number refl
     where
-      go : (n : ℕ) → number ≡ n → outcome f (wholeWindow f) d b .0 .count ≤ 4194304
+      go : (n : ℕ) → number ≡ n → outcome f d b .0 .count ≤ 4194304
       go zero z =
-          let D = drawable z .accepted .described in
+          let D = may-draw z .accepted .described in
           let m : f .height * f .width ≤ 2048 * 2048 = mul-le-mul (D .height) (D .width) in
           omega (arith, ap (λ (p : Drawn × List ℕ). p .0 .count) (accepted-count z), pixels-le (raster f) (d .figure))
       go (suc n) z = omega (arith, ap (λ (p : Drawn × List ℕ). p .0 .count) (by-number (suc n) z))
 
 -- filling counts every pixel of the frame
 pub filling-counts-all : (f : Frame) (colour : ℕ) (b : List ℕ) → first (callTests f (length b) (fillDrawing colour)) ≡ 0
-    → outcome f (wholeWindow f) (fillDrawing colour) b .0 .count ≡ f .height * f .width
+    → outcome f (fillDrawing colour) b .0 .count ≡ f .height * f .width
 filling-counts-all f colour b z = ap (λ (p : Drawn × List ℕ). p .0 .count) (accepted-count f (fillDrawing colour) b z) ∙ pixels-everywhere (raster f)
 
 -- ---- after `fill 0` and a call in colour 1, both accepted, the pixels of colour 1 are as many as the call counts
 module _ (f : Frame) (d : Drawing) (one : d .colour ≡ 1) (b : List ℕ) (y : first (callTests f (length b) (fillDrawing 0)) ≡ 0) (z : first (callTests f (length b) d) ≡ 0) where
   abbrev filled : List ℕ
-  filled = outcome f (wholeWindow f) (fillDrawing 0) b .1
+  filled = outcome f (fillDrawing 0) b .1
 
   accepted : Drawable f (length b) (d .colour)
-  accepted = drawable f d b z
+  accepted = may-draw f d b z
 
   P : Placing (raster f)
   P = sound f (accepted .accepted .described)
@@ -117,7 +115,7 @@ module _ (f : Frame) (d : Drawing) (one : d .colour ≡ 1) (b : List ℕ) (y : f
       ap (λ (c : List ℕ). shown (raster f) c x y) (filled-is ∙ painted-rendered (raster f) P everywhere 0 b)
       ∙ shown-rendered (raster f) P (coloured everywhere 0 (shown (raster f) b)) b (room b refl) x y hx hy (fits 0 (omega (arith, accepted .below)))
 
-  pub lit-are-counted : litIn (raster f) (outcome f (wholeWindow f) d filled .1) ≡ outcome f (wholeWindow f) d filled .0 .count
+  pub lit-are-counted : litIn (raster f) (outcome f d filled .1) ≡ outcome f d filled .0 .count
   lit-are-counted =
       let e = accepted-count f d filled (ap (λ (n : ℕ). first (callTests f n d)) same-length ∙ z) in
       ap (λ (p : Drawn × List ℕ). litIn (raster f) (p .1)) e

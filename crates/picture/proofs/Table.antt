@@ -12,7 +12,7 @@ use Rattle.line.specs.Answer.{endTests, stepTests}
 use Rattle.triangle.specs.Answer.{vertexTests}
 use Rattle.circle.specs.Refusal.{circleTests}
 use Rattle.framebuffer.specs.declared.Frame.{Frame}
-use Rattle.framebuffer.specs.Description.{descriptionTests, frameTests, drawTests, readTests}
+use Rattle.framebuffer.specs.Description.{descriptionTests, frameTests, readTests}
 use Rattle.framebuffer.specs.Drawing.{pixelDrawing, fillDrawing, callTests}
 use Rattle.drawing.specs.Drawing.{lineDrawing, triangleDrawing, outlineDrawing, circleDrawing, connectedDrawing}
 use Rattle.picture.specs.Before.{descriptionBefore, frameBefore}
@@ -31,34 +31,34 @@ module _ (f : Frame) (len : ℕ) where
 
   -- "Setting a pixel, filling the frame: 1 to 4"
   pub setting : (p : Point) (c : ℕ) → Exact (callTests f len (pixelDrawing p c))
-  unfolding descriptionTests frameTests drawTests
+  unfolding descriptionTests frameTests
   setting p c = first-wins _ refl
 
   pub filling : (c : ℕ) → Exact (callTests f len (fillDrawing c))
-  unfolding descriptionTests frameTests drawTests
+  unfolding descriptionTests frameTests
   filling c = first-wins _ refl
 
   -- "Drawing a line, a triangle, an outline: 1 to 5"
   pub line : (s e : Point) (c : ℕ) → Exact (callTests f len (lineDrawing s e c))
-  unfolding descriptionTests frameTests drawTests endTests
+  unfolding descriptionTests frameTests endTests
   line s e c = first-wins _ refl
 
   pub triangle : (v1 v2 v3 : Point) (c : ℕ) → Exact (callTests f len (triangleDrawing v1 v2 v3 c))
-  unfolding descriptionTests frameTests drawTests vertexTests
+  unfolding descriptionTests frameTests vertexTests
   triangle v1 v2 v3 c = first-wins _ refl
 
   pub outline : (v1 v2 v3 : Point) (c : ℕ) → Exact (callTests f len (outlineDrawing v1 v2 v3 c))
-  unfolding descriptionTests frameTests drawTests vertexTests
+  unfolding descriptionTests frameTests vertexTests
   outline v1 v2 v3 c = first-wins _ refl
 
   -- "a circle: 1 to 6"
   pub circle : (l : Point) (d c : ℕ) → Exact (callTests f len (circleDrawing l d c))
-  unfolding descriptionTests frameTests drawTests circleTests
+  unfolding descriptionTests frameTests circleTests
   circle l d c = first-wins _ refl
 
   -- 02, T-05, a connected line: "Refusals as for a line"
   pub connected-line : (s e : Point) (c : ℕ) → Exact (callTests f len (connectedDrawing s e c))
-  unfolding descriptionTests frameTests drawTests endTests
+  unfolding descriptionTests frameTests endTests
   connected-line s e c = first-wins _ refl
 
 -- 01's lists, which a frame without a gap still answers by (Gapless.antt), rise: a call's own numbers are above 4

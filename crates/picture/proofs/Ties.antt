@@ -2,7 +2,7 @@
 -- case. Assumes nothing.
 use mathlib.Core.Path.{_≡_, refl, sym, ap, _∙_}
 use mathlib.Core.Bool.{Bool, true, false, cond}
-use mathlib.Core.List.{List, [], _∷_, _++_, append-assoc}
+use mathlib.Core.List.{List, _++_}
 use Prim.Native.Nat.{ℕ, zero, suc}
 use lib.Dec.{eqb}
 use lib.ListN.{length}
@@ -17,11 +17,9 @@ use Rattle.framebuffer.specs.declared.Frame.{Frame}
 use Rattle.framebuffer.specs.declared.Drawn.{Drawn}
 use Rattle.framebuffer.specs.declared.Placed.{Placed}
 use Rattle.framebuffer.specs.Answer.{drawn, wasInside}
-use Rattle.framebuffer.specs.Description.{raster, noColour, frameTests, drawTests}
+use Rattle.framebuffer.specs.Description.{raster, frameTests}
 use Rattle.framebuffer.specs.Drawing.{Drawing, pixelDrawing, callTests, outcome, pixelOutcome}
-use Rattle.framebuffer.specs.Window.{heldBy, wholeWindow}
 use Rattle.framebuffer.proofs.Refusals.{is-accepted, frame-numbered, sound}
-use Rattle.framebuffer.proofs.Windows.{marked-whole}
 use Rattle.framebuffer.proofs.set_pixel.Reads as set-pixel
 use Rattle.framebuffer.proofs.fill.Reads as fill
 use Rattle.drawing.proofs.draw_line.Reads as draw-line
@@ -50,38 +48,32 @@ placed-number (suc n) t = refl
 
 -- ---- a call that draws
 module _ (f : Frame) (d : Drawing) (b : List ℕ) where
-  -- the same tests, the colour's with the frame's or with the call's own
-  tests-are : first (callTests f (length b) d) ≡ first (frameTests f (length b) ++ draws d .own f)
-  unfolding drawTests
-  tests-are = ap first (append-assoc (frameTests f (length b)) ((4, noColour f (d .colour)) ∷ []) (d .own))
-
   bytes-are : (t : Bool) → eqb (first (frameTests f (length b) ++ draws d .own f)) 0 ≡ t
-      → cond t (painted (raster f) (heldBy (wholeWindow f) (d .figure)) (d .colour) b) b ≡ cond t (rendered (raster f) (coloured (d .figure) (d .colour) (shown (raster f) b)) b) b
+      → cond t (painted (raster f) (d .figure) (d .colour) b) b ≡ cond t (rendered (raster f) (coloured (d .figure) (d .colour) (shown (raster f) b)) b) b
   bytes-are true e =
       let D = is-accepted f (length b) (both-pass (frameTests f (length b)) (draws d .own f) (frame-numbered f (length b)) (eqb-true _ 0 e) .0) .described in
-      (λ i. marked-whole f D (d .colour) b (d .figure) i .1) ∙ painted-rendered (raster f) (sound f D) (d .figure) (d .colour) b
+      painted-rendered (raster f) (sound f D) (d .figure) (d .colour) b
   bytes-are false e = refl
 
-  draws-does : (o : Call) → changeOf o ≡ draws d → {n : ℕ} {after : List ℕ} → n ≡ first (callTests f (length b) d) → after ≡ outcome f (wholeWindow f) d b .1 → Does f o b n after
+  draws-does : (o : Call) → changeOf o ≡ draws d → {n : ℕ} {after : List ℕ} → n ≡ first (callTests f (length b) d) → after ≡ outcome f d b .1 → Does f o b n after
   unfolding outcome
   draws-does o e h k =
       record {
-        number = h ∙ tests-are ∙ ap (λ (c : Change). first (frameTests f (length b) ++ c .own f)) (sym e);
+        number = h ∙ ap (λ (c : Change). first (frameTests f (length b) ++ c .own f)) (sym e);
         bytes =
             k
-            ∙ ap (λ (m : ℕ). cond (eqb m 0) (painted (raster f) (heldBy (wholeWindow f) (d .figure)) (d .colour) b) b) tests-are
             ∙ bytes-are (eqb (first (frameTests f (length b) ++ draws d .own f)) 0) refl
             ∙ ap (λ (c : Change). cond (eqb (first (frameTests f (length b) ++ c .own f)) 0) (rendered (raster f) (c .changes f (shown (raster f) b)) b) b) (sym e);
       }
 
   -- with a count
-  counts-does : (o : Call) → changeOf o ≡ draws d → {r : Drawn} {after : List ℕ} → _≡_ {A = Drawn × List ℕ} (r, after) (outcome f (wholeWindow f) d b)
+  counts-does : (o : Call) → changeOf o ≡ draws d → {r : Drawn} {after : List ℕ} → _≡_ {A = Drawn × List ℕ} (r, after) (outcome f d b)
       → Does f o b (r .number) after
   unfolding outcome
   counts-does o e h = draws-does o e (ap (λ (p : Drawn × List ℕ). p .0 .number) h ∙ drawn-number (first (callTests f (length b) d)) _) (ap (λ (p : Drawn × List ℕ). p .1) h)
 
 -- a pixel set
-places-does : (f : Frame) (p : Point) (colour : ℕ) (b : List ℕ) {r : Placed} {after : List ℕ} → _≡_ {A = Placed × List ℕ} (r, after) (pixelOutcome f (wholeWindow f) p colour b)
+places-does : (f : Frame) (p : Point) (colour : ℕ) (b : List ℕ) {r : Placed} {after : List ℕ} → _≡_ {A = Placed × List ℕ} (r, after) (pixelOutcome f p colour b)
     → Does f (setPixel p colour) b (r .number) after
 unfolding pixelOutcome
 places-does f p colour b h =

@@ -46,7 +46,7 @@ module _ (width height depth : ℕ) where
     abbrev pub outcomeBefore : Drawing → List ℕ → Drawn × List ℕ
     outcomeBefore d b =
         let n = first (frameBefore (length b) ++ ((4, leb (2 ^ depth) (d .colour)) ∷ d .own)) in
-        let m = marked rasterBefore (λ x y. inFrame (x, y) && d .figure x y) (d .colour) b in
+        let m = marked rasterBefore (d .figure) (d .colour) b in
         (drawn n (m .0), cond (eqb n 0) (m .1) b)
 
     -- what reading a pixel answered

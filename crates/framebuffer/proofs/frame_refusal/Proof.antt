@@ -1,7 +1,6 @@
 -- `framebuffer::frame_refusal` asks the description, and then the buffer. Assumes nothing.
 use mathlib.Core.List.{[]}
 use mathlib.Core.Path.{refl, sym, _∙_}
-use native.Mathlib.Omega.{arith}
 use borrow.Author.Needs.{needs}
 use borrow.Author.Tests.{lt-ltb, le-ltb}
 use Rattle.refusals.proofs.First.{refused, passed, stops, goes-on}

@@ -10,10 +10,11 @@ use borrow.Author.Needs.{needs}
 use borrow.Author.Tests.{not-true, not-false}
 use Rattle.whole.specs.Interval.{between}
 use Rattle.layout.specs.Layout.{painted}
+use Rattle.layout.proofs.Placing.{Placing}
 use Rattle.layout.proofs.Spans.{columns}
-use Rattle.framebuffer.specs.Description.{raster}
 use Rattle.framebuffer.specs.Window.{clipped}
-use Rattle.framebuffer.specs.Judged.{Described, onTop}
+use Rattle.framebuffer.specs.Judged.{Described, ground, onTop}
+use Rattle.framebuffer.proofs.Refusals.{sound}
 use Rattle.framebuffer.proofs.Windows.{within-small, cast-fits, between-pos, in-between}
 use Rattle.framebuffer.proofs.Clips.{row-off, clip-bounds, span-left, span-gone}
 use Rattle.framebuffer.proofs.paint_more.Statement.{statement}
@@ -22,6 +23,9 @@ use Rattle.framebuffer.proofs.paint_more.Tie as tie
 -- what the call may lean on
 ok : (c : tie.Start) → Described (c .args .brush .frame)
 ok c = c .pre .0 .drawable .accepted .described
+
+at : (c : tie.Start) → Placing (ground (c .args .brush))
+at c = sound (c .args .brush .frame) (ok c)
 
 -- the rectangle's ends
 small : (c : tie.Start) → (let q = c .args .brush .window in (q .left ≤ q .right) × (q .right ≤ 2048) × (q .top ≤ q .bottom) × (q .bottom ≤ 2048))
@@ -46,7 +50,7 @@ returns c =
     let s = c .before .before .before .before in
     let a = s .args in
     on-top (a .before) (omega arith)
-    (row-off (a .brush .frame) (ok s) (a .brush .colour) (a .buf .now) (a .brush .window) (a .y) (a .start) (a .end) (s .pre .0 .within) (row (c .before) ∙ not-true _ (c .if1 .taken)))
+    (row-off (ground (a .brush)) (at s) (a .brush .colour) (a .buf .now) (a .brush .window) (a .y) (a .start) (a .end) (s .pre .0 .within) (row (c .before) ∙ not-true _ (c .if1 .taken)))
 
 inner : (c : tie.Else1) → (let a = c .before .before .before .before .args in between (pos (a .brush .window .top)) (pos (a .brush .window .bottom)) (a .y) ≡ true)
 inner c = row (c .before) ∙ not-false _ (c .if1 .left)
@@ -76,7 +80,7 @@ returns-2 c =
     let f = from (c .before .before) in
     let p = past (c .before) in
     on-top (a .before) (omega arith)
-    (span-gone (a .brush .frame) (ok s) (a .brush .colour) (a .buf .now) (a .brush .window) (a .y) (a .start) (a .end) (s .pre .0 .within) (inner (c .before .before .before))
+    (span-gone (ground (a .brush)) (at s) (a .brush .colour) (a .buf .now) (a .brush .window) (a .y) (a .start) (a .end) (s .pre .0 .within) (inner (c .before .before .before))
     (subst (λ (x : ℕ). x ≤ clipped (a .start) (a .brush .window .left) (a .brush .window .right)) p (subst (λ (x : ℕ). c .before .clip2 .result ≤ x) f (c .if2 .taken))))
 
 cast-paint-columns : tie.Need-cast-paint-columns
@@ -132,9 +136,9 @@ returns-3 c =
     on-top (a .before) refl ((λ k. (
       p k - f k,
       (painting .paint-columns .ensures
-          ∙ (λ j. painted (raster (a .brush .frame)) (columns (natAbs (toZ-ofZ (s .fits .y) j)) (f j) (p j)) (a .brush .colour) (a .buf .now))) k,
+          ∙ (λ j. painted (ground (a .brush)) (columns (natAbs (toZ-ofZ (s .fits .y) j)) (f j) (p j)) (a .brush .colour) (a .buf .now))) k,
     ))
-    ∙ span-left (a .brush .frame) (ok s) (a .brush .colour) (a .buf .now) (a .brush .window) (a .y) (a .start) (a .end) (s .pre .0 .within)
+    ∙ span-left (ground (a .brush)) (at s) (a .brush .colour) (a .buf .now) (a .brush .window) (a .y) (a .start) (a .end) (s .pre .0 .within)
     (inner (painting .before .before .before .before .before)) (below (painting .before .before .before .before .before)) (omega arith))
 
 pub paint-more-spec : {M : Type 1} → statement M

@@ -4,18 +4,15 @@ use mathlib.Core.Bool.{Bool, true, false, cond, not}
 use mathlib.Core.List.{[], _∷_}
 use Prim.Native.Nat.{ℕ, _<_}
 use lib.IntN.{ℤ, pos, natAbs}
-use lib.ListN.{length}
 use mir.Syntax.{w32}
 use mir.Val.{toZ, ofZ}
 use borrow.Author.Needs.{needs}
 use borrow.Author.Tests.{not-true, not-false}
 use Rattle.whole.proofs.Machine.{field-back}
-use Rattle.layout.specs.Layout.{getPixel}
+use Rattle.layout.specs.Layout.{getPixel, shown}
 use Rattle.framebuffer.specs.Answer.{read}
-use Rattle.framebuffer.specs.Canvas.{behind, readOn}
-use Rattle.framebuffer.specs.Description.{raster, colourAt}
+use Rattle.framebuffer.specs.Canvas.{keeps, behind, readOn}
 use Rattle.framebuffer.specs.Window.{inWindow}
-use Rattle.framebuffer.specs.Judged.{Accepted}
 use Rattle.framebuffer.proofs.Refusals.{refused-read}
 use Rattle.framebuffer.proofs.Windows.{within-small, window-pos, cast-fits, point-in}
 use Rattle.framebuffer.proofs.Calls.{behind-0, behind-n}
@@ -26,8 +23,8 @@ returns : tie.Need-returns
 unfolding readOn
 returns c =
     let a = c .before .before .args in
-    refused-read (a .canvas .number) (colourAt (a .canvas .frame) (a .p) (a .buf .now)) (c .if1 .taken)
-    ∙ ap (λ (n : ℕ). read n (colourAt (a .canvas .frame) (a .p) (a .buf .now)))
+    refused-read (a .canvas .number) (shown (keeps (a .canvas)) (a .buf .now) (natAbs (a .p .0)) (natAbs (a .p .1))) (c .if1 .taken)
+    ∙ ap (λ (n : ℕ). read n (shown (keeps (a .canvas)) (a .buf .now) (natAbs (a .p .0)) (natAbs (a .p .1))))
     (behind-n (a .canvas .number) ((8, not (inWindow (a .canvas .window) (a .p .0) (a .p .1))) ∷ []) (c .if1 .taken))
 
 holds-requires : tie.Need-holds-requires
@@ -61,7 +58,7 @@ returns-2 : tie.Need-returns-2
 unfolding readOn
 returns-2 c =
     let a = s (c .before .before) .args in
-    ap (λ (n : ℕ). read n (colourAt (a .canvas .frame) (a .p) (a .buf .now))) (number (c .before) false (not-true _ (c .if2 .taken)))
+    ap (λ (n : ℕ). read n (shown (keeps (a .canvas)) (a .buf .now) (natAbs (a .p .0)) (natAbs (a .p .1)))) (number (c .before) false (not-true _ (c .if2 .taken)))
 
 -- and there neither coordinate is negative
 module _ (c : tie.Else2) where
@@ -88,7 +85,7 @@ read-point-requires c κs =
     let a = from c .args in
     let f = a .canvas .frame in
     let p =
-    point-in f (J .accepted (go .if1 .left) .described) 0 (a .buf .now) (a .canvas .window) (a .p .0) (a .p .1) (J .within (go .if1 .left)) (inside c) in
+    point-in (a .canvas .window) (a .p .0) (a .p .1) (J .within (go .if1 .left)) (inside c) in
     (J .accepted (go .if1 .left), subst (λ (x : ℤ). natAbs x < f .width) (sym (across told)) (p .0), subst (λ (y : ℤ). natAbs y < f .height) (sym (down told)) (p .1))
 
 returns-3 : tie.Need-returns-3
@@ -97,7 +94,7 @@ returns-3 c =
     let b = from (c .before) .args in
     let told = c .before .before .before in
     ap₂ read (number (c .before .before) true (not-false _ (c .before .if2 .left)))
-    (c .read-point .ensures ∙ ap₂ (λ (x y : ℤ). getPixel (raster (b .canvas .frame)) (natAbs x) (natAbs y) (b .buf .now)) (across told) (down told))
+    (c .read-point .ensures ∙ ap₂ (λ (x y : ℤ). getPixel (keeps (b .canvas)) (natAbs x) (natAbs y) (b .buf .now)) (across told) (down told))
 
 pub pixel-on-spec : {M : Type 1} → statement M
 pixel-on-spec = tie.close (tie.spec returns holds-requires returns-2 cast-read-point cast-read-point-2 read-point-requires returns-3)

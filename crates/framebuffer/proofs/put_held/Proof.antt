@@ -6,14 +6,10 @@ use mir.Facts.{toZ-ofZ}
 use borrow.Author.Needs.{needs}
 use Rattle.layout.specs.Layout.{putPixel}
 use Rattle.framebuffer.specs.Description.{raster}
-use Rattle.framebuffer.specs.Judged.{Described}
+use Rattle.framebuffer.proofs.Refusals.{sound}
 use Rattle.framebuffer.proofs.Windows.{window-pos, cast-fits, point-in, point-put}
 use Rattle.framebuffer.proofs.put_held.Statement.{statement}
 use Rattle.framebuffer.proofs.put_held.Tie as tie
-
--- what the call may lean on
-ok : (c : tie.Start) → Described (c .args .frame)
-ok c = c .pre .0 .accepted .described
 
 -- neither coordinate is negative
 inner : (c : tie.Start) → (c .args .x ≡ pos (natAbs (c .args .x))) × (c .args .y ≡ pos (natAbs (c .args .y)))
@@ -29,7 +25,7 @@ put-at-requires : tie.Need-put-at-requires
 put-at-requires c κs =
     let s = c .before .before in
     let a = s .args in
-    let p = point-in (a .frame) (ok s) (a .colour) (a .buf .now) (a .window) (a .x) (a .y) (s .pre .1) (s .pre .2) in (
+    let p = point-in (a .window) (a .x) (a .y) (s .pre .1) (s .pre .2) in (
       s .pre .0,
       subst (λ (x : ℤ). natAbs x < a .frame .width) (sym (toZ-ofZ (s .fits .x))) (p .0),
       subst (λ (y : ℤ). natAbs y < a .frame .height) (sym (toZ-ofZ (s .fits .y))) (p .1),
@@ -44,7 +40,7 @@ returns c =
     let a = s .args in
     c .before .before .put-at .ensures
     ∙ ap₂ (λ (x y : ℤ). putPixel (raster (a .frame)) (natAbs x) (natAbs y) (a .colour) (a .buf .now)) (toZ-ofZ (s .fits .x)) (toZ-ofZ (s .fits .y))
-    ∙ point-put (a .frame) (ok s) (a .colour) (a .buf .now) (a .window) (a .x) (a .y) (s .pre .1) (s .pre .2)
+    ∙ point-put (a .window) (a .x) (a .y) (raster (a .frame)) (sound (a .frame) (s .pre .0 .accepted .described)) (a .colour) (a .buf .now) (s .pre .1) (s .pre .2)
 
 pub put-held-spec : {M : Type 1} → statement M
 put-held-spec = tie.close (tie.spec cast-put-at cast-put-at-2 put-at-requires same-length returns)

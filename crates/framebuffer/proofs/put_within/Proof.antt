@@ -11,6 +11,7 @@ use Rattle.layout.specs.Layout.{painted}
 use Rattle.framebuffer.specs.Description.{raster}
 use Rattle.framebuffer.specs.Window.{inWindow, heldBy}
 use Rattle.framebuffer.specs.Judged.{Described}
+use Rattle.framebuffer.proofs.Refusals.{sound}
 use Rattle.framebuffer.proofs.Windows.{within-small, point-off}
 use Rattle.framebuffer.proofs.put_within.Statement.{statement}
 use Rattle.framebuffer.proofs.put_within.Tie as tie
@@ -37,7 +38,7 @@ returns c =
     let s = c .before .before .before .before .before in
     let a = s .args in
     let off = held (c .before) ∙ not-true _ (c .if1 .taken) in
-    (sym off, point-off (a .frame) (ok s) (a .colour) (a .buf .now) (a .window) (a .p .0) (a .p .1) off)
+    (sym off, point-off (a .window) (a .p .0) (a .p .1) (raster (a .frame)) (sound (a .frame) (ok s)) (a .colour) (a .buf .now) off)
 
 put-held-requires : tie.Need-put-held-requires
 put-held-requires c κs =

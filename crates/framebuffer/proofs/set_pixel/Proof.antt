@@ -19,7 +19,7 @@ returns-8 c =
     let bad : goodDepth (a .frame .depth) ≡ false =
     simp
     (ne-eqb _ 1 (n .0 .0 .0 .0 .0 .0 .1), ne-eqb _ 2 (n .0 .0 .0 .0 .0 .1), ne-eqb _ 4 (n .0 .0 .0 .0 .1), ne-eqb _ 8 (n .0 .0 .0 .1), ne-eqb _ 16 (n .0 .0 .1), ne-eqb _ 24 (n .0 .1), ne-eqb _ 32 (n .1)) in
-    refused-pixel (a .frame) (a .p) (a .colour) (a .buf .now) (no-depth (a .frame) (length (a .buf .now)) (a .colour) bad) (λ z. omega arith)
+    refused-pixel (a .frame) (a .p) (a .colour) (a .buf .now) (no-depth (a .frame) (length (a .buf .now)) bad) (λ z. omega arith)
 
 pub set-pixel-spec : {M : Type 1} → statement M
 set-pixel-spec =

@@ -4,7 +4,6 @@ use borrow.Author.Needs.{needs}
 use mir.Syntax.{w32}
 use Rattle.whole.proofs.Machine.{field-back}
 use Rattle.framebuffer.specs.Drawing.{outcome}
-use Rattle.framebuffer.specs.Window.{wholeWindow}
 use Rattle.drawing.specs.Drawing.{triangleDrawing}
 use Rattle.charts.proofs.Drawn.{bytes-of}
 use Rattle.charts.proofs.day.draw_box.Statement.{statement}
@@ -30,8 +29,8 @@ returns c =
     let p1 = field-back w32 (a .p .1) (one .before .struct-told2 .given .1 .0 .1) in
     let first = bytes-of (one .draw-triangle .ensures) in
     bytes-of (two .draw-triangle2 .ensures)
-    ∙ (λ i. outcome (a .f) (wholeWindow (a .f)) (triangleDrawing (a .p) (p0 i, q1 i) (a .q) (a .colour))
-    ((first ∙ (λ j. outcome (a .f) (wholeWindow (a .f)) (triangleDrawing (a .p) (q0 j, p1 j) (a .q) (a .colour)) (a .pane .now) .1)) i) .1)
+    ∙ (λ i. outcome (a .f) (triangleDrawing (a .p) (p0 i, q1 i) (a .q) (a .colour))
+    ((first ∙ (λ j. outcome (a .f) (triangleDrawing (a .p) (q0 j, p1 j) (a .q) (a .colour)) (a .pane .now) .1)) i) .1)
 
 pub draw-box-spec : {M : Type 1} → statement M
 draw-box-spec =

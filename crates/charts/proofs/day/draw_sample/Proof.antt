@@ -7,7 +7,6 @@ use mir.Syntax.{w32}
 use Rattle.whole.proofs.Machine.{field-back, fits, read, lit, back, minus}
 use Rattle.geometry.specs.declared.Point.{Point}
 use Rattle.framebuffer.specs.Drawing.{outcome}
-use Rattle.framebuffer.specs.Window.{wholeWindow}
 use Rattle.framebuffer.proofs.Calls.{is-judged, judged-outcome}
 use Rattle.drawing.specs.Drawing.{circleDrawing}
 use Rattle.charts.specs.Picture.{spot}
@@ -56,7 +55,7 @@ returns c =
     let x = back (minus (read (at .spot .result .0) (spot-near _ _ _ (at .spot .ensures) .0) tt) (lit 1 tt) tt) .is ∙ ap (λ (p : Point). p .0 -ℤ pos 1) place in
     let y = back (minus (read (at .spot .result .1) (spot-near _ _ _ (at .spot .ensures) .1) tt) (lit 1 tt) tt) .is ∙ ap (λ (p : Point). p .1 -ℤ pos 1) place in
     bytes-of (judged-outcome (a .canvas .frame) _ (a .pane .now) (asked .before .before .pre .0) (drawn .circle-on .ensures))
-    ∙ (λ i. outcome (a .canvas .frame) (wholeWindow (a .canvas .frame)) (circleDrawing (x i, y i) 3 (colour .disc-colour .ensures i)) (a .pane .now) .1)
+    ∙ (λ i. outcome (a .canvas .frame) (circleDrawing (x i, y i) 3 (colour .disc-colour .ensures i)) (a .pane .now) .1)
     ∙ shown (a .canvas .frame) (a .e) (a .v) (a .p) (a .pane .now) (sym (asked .is-shown .ensures) ∙ told .before .if1 .taken)
 
 returns-2 : tie.Need-returns-2

@@ -6,7 +6,6 @@ use borrow.Author.Needs.{needs}
 use mir.Syntax.{w32}
 use Rattle.whole.proofs.Machine.{field-back}
 use Rattle.framebuffer.specs.Drawing.{outcome}
-use Rattle.framebuffer.specs.Window.{wholeWindow}
 use Rattle.drawing.specs.Drawing.{lineDrawing, triangleDrawing}
 use Rattle.charts.specs.Picture.{ground, filling, ink, spot}
 use Rattle.charts.specs.Day.{leaves, box, under}
@@ -64,7 +63,7 @@ returns c =
     let p3 = third .spot3 .ensures ∙ (λ i. spot (a .e) (field-back w32 (v .x3) (g .1 .1 .1 .1 .0 .1) i) (field-back w32 (v .y3) (g .1 .1 .1 .1 .1 .0 .1) i)) in
     let filled = bytes-of (one .fill .ensures) in
     let wedge = bytes-of (two .draw-triangle .ensures)
-    ∙ (λ i. outcome (a .f) (wholeWindow (a .f)) (triangleDrawing (p1 i) (p2 i) (p3 i) filling) (filled i) .1) in
+    ∙ (λ i. outcome (a .f) (triangleDrawing (p1 i) (p2 i) (p3 i) filling) (filled i) .1) in
     let side = three .draw-box .ensures ∙ ap (leaves (a .f) (box (pos 0, pos 0) (pos 23, pos 359) ground)) wedge in
     let foot = four .draw-box2 .ensures ∙ ap (leaves (a .f) (box (pos 0, pos 336) (pos 639, pos 359) ground)) side in
     let seconds = bytes-of (five .draw-line .ensures) ∙ ap (leaves (a .f) (lineDrawing (pos 24, pos 335) (pos 624, pos 335) ink ∷ [])) foot in

@@ -1,6 +1,5 @@
 -- `framebuffer::Frame::over` asks the frame's number once, and takes the rectangle of the whole frame. Assumes nothing.
 use borrow.Author.Needs.{needs}
-use Rattle.framebuffer.specs.declared.Canvas.{Canvas}
 use Rattle.framebuffer.proofs.Frame.over.Statement.{statement}
 use Rattle.framebuffer.proofs.Frame.over.Tie as tie
 

@@ -23,6 +23,17 @@ use framebuffer::Frame;
 use framebuffer::Steps;
 use geometry::Point;
 
+// A figure that a call may draw.
+pub enum Figure {
+    Fill,
+    Pixel(Point),
+    Line(Point, Point),
+    Connected(Point, Point),
+    Triangle(Point, Point, Point),
+    Outline(Point, Point, Point),
+    Circle(Point, u32),
+}
+
 // The edges of an outline that are drawn already: the line a to b, and with the second one the line b to c too.
 struct Earlier {
     second: bool,

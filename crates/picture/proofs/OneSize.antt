@@ -12,11 +12,11 @@ use Rattle.layout.specs.Layout.{Picture, shown}
 use Rattle.layout.proofs.Pictures.{Agree}
 use Rattle.framebuffer.specs.declared.Frame.{Frame}
 use Rattle.framebuffer.specs.Description.{described, raster, frameTests}
-use Rattle.framebuffer.specs.Drawing.{Drawing, pixelDrawing, fillDrawing}
+use Rattle.framebuffer.specs.Drawing.{Drawing}
 use Rattle.framebuffer.proofs.Refusals.{frame-numbered}
 use Rattle.netpbm.specs.Reading.{fileTests, filePicture}
-use Rattle.drawing.specs.Drawing.{lineDrawing, triangleDrawing, outlineDrawing, circleDrawing, connectedDrawing}
-use Rattle.picture.specs.Calls.{Call, setPixel, fillFrame, drawLine, drawTriangle, drawOutline, drawCircle, drawConnectedLine, readImage, Change}
+use Rattle.drawing.specs.Drawing.{figureDrawing}
+use Rattle.picture.specs.Calls.{Call, draw, readImage, Change}
 use Rattle.picture.specs.Calls.{draws, loads, changeOf, numberOf, shownAfter, pictureAfter}
 use Rattle.picture.proofs.Picture.{lawful}
 use Rattle.picture.proofs.Runs.{Run}
@@ -47,13 +47,7 @@ module _ (f g : Frame) (E : OneSize f g) where
       }
 
   common : (o : Call) → Common (changeOf o)
-  common (setPixel p c) = draws-common (pixelDrawing p c)
-  common (fillFrame c) = draws-common (fillDrawing c)
-  common (drawLine s e c) = draws-common (lineDrawing s e c)
-  common (drawTriangle v1 v2 v3 c) = draws-common (triangleDrawing v1 v2 v3 c)
-  common (drawOutline v1 v2 v3 c) = draws-common (outlineDrawing v1 v2 v3 c)
-  common (drawCircle l d c) = draws-common (circleDrawing l d c)
-  common (drawConnectedLine s e c) = draws-common (connectedDrawing s e c)
+  common (draw g c) = draws-common (figureDrawing g c)
   common (readImage s) = loads-common s
 
   module _ (m n : ℕ) (F : first (frameTests f m) ≡ 0) (G : first (frameTests g n) ≡ 0) where

@@ -23,14 +23,14 @@ use Rattle.layout.proofs.Places.{depth-of}
 use Rattle.layout.proofs.Placing.{Placing}
 use Rattle.framebuffer.specs.declared.Frame.{Frame}
 use Rattle.framebuffer.specs.Description.{raster, size, noColour, frameTests}
-use Rattle.framebuffer.specs.Drawing.{Drawing, pixelDrawing, fillDrawing}
+use Rattle.framebuffer.specs.Drawing.{Drawing}
 use Rattle.framebuffer.specs.Judged.{Described, Accepted}
 use Rattle.framebuffer.proofs.Refusals.{is-accepted, frame-numbered, sound}
 use Rattle.headers.specs.Header.{headerOf}
 use Rattle.netpbm.specs.Image.{bigFirst}
 use Rattle.netpbm.proofs.Transfers.{big-described}
-use Rattle.drawing.specs.Drawing.{lineDrawing, triangleDrawing, outlineDrawing, circleDrawing, connectedDrawing}
-use Rattle.picture.specs.Calls.{Call, setPixel, fillFrame, drawLine, drawTriangle, drawOutline, drawCircle, drawConnectedLine, readImage, Change}
+use Rattle.drawing.specs.Drawing.{figureDrawing}
+use Rattle.picture.specs.Calls.{Call, draw, readImage, Change}
 use Rattle.picture.specs.Calls.{draws, loads, changeOf, numberOf, blank, shownAfter, pictureAfter, afterCall, afterCalls}
 
 -- a zero-filled buffer of n bytes
@@ -74,13 +74,7 @@ loads-lawful f s =
     }
 
 pub lawful : (f : Frame) (o : Call) → Lawful f (changeOf o)
-lawful f (setPixel p c) = draws-lawful f (pixelDrawing p c)
-lawful f (fillFrame c) = draws-lawful f (fillDrawing c)
-lawful f (drawLine s e c) = draws-lawful f (lineDrawing s e c)
-lawful f (drawTriangle v1 v2 v3 c) = draws-lawful f (triangleDrawing v1 v2 v3 c)
-lawful f (drawOutline v1 v2 v3 c) = draws-lawful f (outlineDrawing v1 v2 v3 c)
-lawful f (drawCircle l d c) = draws-lawful f (circleDrawing l d c)
-lawful f (drawConnectedLine s e c) = draws-lawful f (connectedDrawing s e c)
+lawful f (draw g c) = draws-lawful f (figureDrawing g c)
 lawful f (readImage s) = loads-lawful f s
 
 module _ (f : Frame) (n : ℕ) where

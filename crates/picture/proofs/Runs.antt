@@ -14,26 +14,26 @@ use Rattle.drawing.proofs.draw_outline.Reads as draw-outline
 use Rattle.drawing.proofs.draw_circle.Reads as draw-circle
 use Rattle.drawing.proofs.draw_connected_line.Reads as draw-connected-line
 use Rattle.netpbm.proofs.read_image.Reads as read-image
-use Rattle.picture.specs.Calls.{Call, setPixel, fillFrame, drawLine, drawTriangle, drawOutline, drawCircle, drawConnectedLine, readImage}
+use Rattle.drawing.specs.declared.Figure.the-variants.{Fill, Pixel, Line, Connected, Triangle, Outline, Circle}
+use Rattle.picture.specs.Calls.{Call, draw, readImage}
 use Rattle.picture.specs.Calls.{blank, pictureAfter, afterCalls}
 use Rattle.picture.proofs.Picture.{zeros, one-picture-one-frame}
-use Rattle.picture.proofs.Ties.{Does, set-pixel-does, fill-does, draw-line-does, draw-triangle-does, draw-outline-does, draw-circle-does, draw-connected-line-does}
-use Rattle.picture.proofs.Ties.{read-image-does}
+use Rattle.picture.proofs.Ties.{Does, counts-does, places-does, loads-does}
 
 -- a call made by its function: the arguments, the answer, whose number is kept, and the bytes afterwards are as the function's contract says
 pub data Made : Frame → Call → List ℕ → ℕ → List ℕ → Type 0 where
-  by-set-pixel : (κs : _) (a : _) (r : _) (s : _) → set-pixel.Post κs a r s → Made (a .1 .0) (setPixel (a .1 .1 .0) (a .1 .1 .1 .0)) (now (a .0)) (r .number) (now (s .0))
-  by-fill : (κs : _) (a : _) (r : _) (s : _) → fill.Post κs a r s → Made (a .1 .0) (fillFrame (a .1 .1 .0)) (now (a .0)) (r .number) (now (s .0))
+  by-set-pixel : (κs : _) (a : _) (r : _) (s : _) → set-pixel.Post κs a r s → Made (a .1 .0) (draw (Pixel (a .1 .1 .0)) (a .1 .1 .1 .0)) (now (a .0)) (r .number) (now (s .0))
+  by-fill : (κs : _) (a : _) (r : _) (s : _) → fill.Post κs a r s → Made (a .1 .0) (draw Fill (a .1 .1 .0)) (now (a .0)) (r .number) (now (s .0))
   by-draw-line : (κs : _) (a : _) (r : _) (s : _) → draw-line.Post κs a r s
-      → Made (a .1 .0) (drawLine (a .1 .1 .0) (a .1 .1 .1 .0) (a .1 .1 .1 .1 .0)) (now (a .0)) (r .number) (now (s .0))
+      → Made (a .1 .0) (draw (Line (a .1 .1 .0) (a .1 .1 .1 .0)) (a .1 .1 .1 .1 .0)) (now (a .0)) (r .number) (now (s .0))
   by-draw-triangle : (κs : _) (a : _) (r : _) (s : _) → draw-triangle.Post κs a r s
-      → Made (a .1 .0) (drawTriangle (a .1 .1 .0) (a .1 .1 .1 .0) (a .1 .1 .1 .1 .0) (a .1 .1 .1 .1 .1 .0)) (now (a .0)) (r .number) (now (s .0))
+      → Made (a .1 .0) (draw (Triangle (a .1 .1 .0) (a .1 .1 .1 .0) (a .1 .1 .1 .1 .0)) (a .1 .1 .1 .1 .1 .0)) (now (a .0)) (r .number) (now (s .0))
   by-draw-outline : (κs : _) (a : _) (r : _) (s : _) → draw-outline.Post κs a r s
-      → Made (a .1 .0) (drawOutline (a .1 .1 .0) (a .1 .1 .1 .0) (a .1 .1 .1 .1 .0) (a .1 .1 .1 .1 .1 .0)) (now (a .0)) (r .number) (now (s .0))
+      → Made (a .1 .0) (draw (Outline (a .1 .1 .0) (a .1 .1 .1 .0) (a .1 .1 .1 .1 .0)) (a .1 .1 .1 .1 .1 .0)) (now (a .0)) (r .number) (now (s .0))
   by-draw-circle : (κs : _) (a : _) (r : _) (s : _) → draw-circle.Post κs a r s
-      → Made (a .1 .0) (drawCircle (a .1 .1 .0) (a .1 .1 .1 .0) (a .1 .1 .1 .1 .0)) (now (a .0)) (r .number) (now (s .0))
+      → Made (a .1 .0) (draw (Circle (a .1 .1 .0) (a .1 .1 .1 .0)) (a .1 .1 .1 .1 .0)) (now (a .0)) (r .number) (now (s .0))
   by-draw-connected-line : (κs : _) (a : _) (r : _) (s : _) → draw-connected-line.Post κs a r s
-      → Made (a .1 .0) (drawConnectedLine (a .1 .1 .0) (a .1 .1 .1 .0) (a .1 .1 .1 .1 .0)) (now (a .0)) (r .number) (now (s .0))
+      → Made (a .1 .0) (draw (Connected (a .1 .1 .0) (a .1 .1 .1 .0)) (a .1 .1 .1 .1 .0)) (now (a .0)) (r .number) (now (s .0))
   by-read-image : (κs : _) (a : _) (r : _) (s : _) → read-image.Post κs a r s → Made (a .1 .0) (readImage (now (a .1 .1 .0))) (now (a .0)) r (now (s .0))
 
 -- calls made one after the other on one frame, from the bytes at the start to those at the end
@@ -42,14 +42,14 @@ pub data Run (f : Frame) : List Call → List ℕ → List ℕ → Type 0 where
   call : {o : Call} {os : List Call} {b c e : List ℕ} {n : ℕ} → Made f o b n c → Run f os c e → Run f (o ∷ os) b e
 
 pub made-does : {f : Frame} {o : Call} {b c : List ℕ} {n : ℕ} → Made f o b n c → Does f o b n c
-made-does (by-set-pixel κs a r s h) = set-pixel-does κs a r s h
-made-does (by-fill κs a r s h) = fill-does κs a r s h
-made-does (by-draw-line κs a r s h) = draw-line-does κs a r s h
-made-does (by-draw-triangle κs a r s h) = draw-triangle-does κs a r s h
-made-does (by-draw-outline κs a r s h) = draw-outline-does κs a r s h
-made-does (by-draw-circle κs a r s h) = draw-circle-does κs a r s h
-made-does (by-draw-connected-line κs a r s h) = draw-connected-line-does κs a r s h
-made-does (by-read-image κs a r s h) = read-image-does κs a r s h
+made-does (by-set-pixel κs a r s h) = places-does _ _ _ _ h
+made-does (by-fill κs a r s h) = counts-does _ _ _ _ h
+made-does (by-draw-line κs a r s h) = counts-does _ _ _ _ h
+made-does (by-draw-triangle κs a r s h) = counts-does _ _ _ _ h
+made-does (by-draw-outline κs a r s h) = counts-does _ _ _ _ h
+made-does (by-draw-circle κs a r s h) = counts-does _ _ _ _ h
+made-does (by-draw-connected-line κs a r s h) = counts-does _ _ _ _ h
+made-does (by-read-image κs a r s h) = loads-does _ _ _ h
 
 -- a run leaves what its list of calls leaves
 pub run-leaves : {f : Frame} {os : List Call} {b c : List ℕ} → Run f os b c → c ≡ afterCalls f os b

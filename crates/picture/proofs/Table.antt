@@ -13,8 +13,10 @@ use Rattle.triangle.specs.Answer.{vertexTests}
 use Rattle.circle.specs.Refusal.{circleTests}
 use Rattle.framebuffer.specs.declared.Frame.{Frame}
 use Rattle.framebuffer.specs.Description.{descriptionTests, frameTests, readTests}
-use Rattle.framebuffer.specs.Drawing.{pixelDrawing, fillDrawing, callTests}
-use Rattle.drawing.specs.Drawing.{lineDrawing, triangleDrawing, outlineDrawing, circleDrawing, connectedDrawing}
+use Rattle.framebuffer.specs.Drawing.{callTests}
+use Rattle.drawing.specs.declared.Figure.{Figure}
+use Rattle.drawing.specs.declared.Figure.the-variants.{Fill, Pixel, Line, Connected, Triangle, Outline, Circle}
+use Rattle.drawing.specs.Drawing.{figureDrawing}
 use Rattle.picture.specs.Before.{descriptionBefore, frameBefore}
 
 -- ---- frames
@@ -29,37 +31,16 @@ module _ (f : Frame) (len : ℕ) where
   unfolding descriptionTests frameTests readTests
   reading p = first-wins _ refl
 
-  -- "Setting a pixel, filling the frame: 1 to 4"
-  pub setting : (p : Point) (c : ℕ) → Exact (callTests f len (pixelDrawing p c))
-  unfolding descriptionTests frameTests
-  setting p c = first-wins _ refl
-
-  pub filling : (c : ℕ) → Exact (callTests f len (fillDrawing c))
-  unfolding descriptionTests frameTests
-  filling c = first-wins _ refl
-
-  -- "Drawing a line, a triangle, an outline: 1 to 5"
-  pub line : (s e : Point) (c : ℕ) → Exact (callTests f len (lineDrawing s e c))
-  unfolding descriptionTests frameTests endTests
-  line s e c = first-wins _ refl
-
-  pub triangle : (v1 v2 v3 : Point) (c : ℕ) → Exact (callTests f len (triangleDrawing v1 v2 v3 c))
-  unfolding descriptionTests frameTests vertexTests
-  triangle v1 v2 v3 c = first-wins _ refl
-
-  pub outline : (v1 v2 v3 : Point) (c : ℕ) → Exact (callTests f len (outlineDrawing v1 v2 v3 c))
-  unfolding descriptionTests frameTests vertexTests
-  outline v1 v2 v3 c = first-wins _ refl
-
-  -- "a circle: 1 to 6"
-  pub circle : (l : Point) (d c : ℕ) → Exact (callTests f len (circleDrawing l d c))
-  unfolding descriptionTests frameTests circleTests
-  circle l d c = first-wins _ refl
-
-  -- 02, T-05, a connected line: "Refusals as for a line"
-  pub connected-line : (s e : Point) (c : ℕ) → Exact (callTests f len (connectedDrawing s e c))
-  unfolding descriptionTests frameTests endTests
-  connected-line s e c = first-wins _ refl
+  -- "Setting a pixel, filling the frame: 1 to 4. Drawing a line, a triangle, an outline: 1 to 5; a circle: 1 to 6"; 02, T-05, a connected line: "Refusals as for a line"
+  pub drawing : (g : Figure) (c : ℕ) → Exact (callTests f len (figureDrawing g c))
+  unfolding descriptionTests frameTests endTests vertexTests circleTests
+  drawing Fill c = first-wins _ refl
+  drawing (Pixel p) c = first-wins _ refl
+  drawing (Line s e) c = first-wins _ refl
+  drawing (Connected s e) c = first-wins _ refl
+  drawing (Triangle v1 v2 v3) c = first-wins _ refl
+  drawing (Outline v1 v2 v3) c = first-wins _ refl
+  drawing (Circle l d) c = first-wins _ refl
 
 -- 01's lists, which a frame without a gap still answers by (Gapless.antt), rise: a call's own numbers are above 4
 module _ (w h depth len : ℕ) where

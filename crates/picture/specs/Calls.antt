@@ -5,23 +5,17 @@ use Prim.Native.Nat.{ℕ}
 use lib.Dec.{eqb}
 use lib.ListN.{length}
 use Rattle.refusals.specs.First.{Tests, first}
-use Rattle.geometry.specs.declared.Point.{Point}
 use Rattle.layout.specs.Layout.{Picture, shown, coloured, rendered}
 use Rattle.framebuffer.specs.declared.Frame.{Frame}
 use Rattle.framebuffer.specs.Description.{raster, noColour, frameTests}
-use Rattle.framebuffer.specs.Drawing.{Drawing, pixelDrawing, fillDrawing}
+use Rattle.framebuffer.specs.Drawing.{Drawing}
 use Rattle.netpbm.specs.Reading.{fileTests, filePicture}
-use Rattle.drawing.specs.Drawing.{lineDrawing, triangleDrawing, outlineDrawing, circleDrawing, connectedDrawing}
+use Rattle.drawing.specs.declared.Figure.{Figure}
+use Rattle.drawing.specs.Drawing.{figureDrawing}
 
 -- a call, by its arguments; the colour comes last. A read is a call too, by the bytes of its file
 pub data Call : Type 0 where
-  setPixel : Point → ℕ → Call
-  fillFrame : ℕ → Call
-  drawLine : Point → Point → ℕ → Call
-  drawTriangle : Point → Point → Point → ℕ → Call
-  drawOutline : Point → Point → Point → ℕ → Call
-  drawCircle : Point → ℕ → ℕ → Call
-  drawConnectedLine : Point → Point → ℕ → Call
+  draw : Figure → ℕ → Call
   readImage : List ℕ → Call
 
 -- what a call is on a frame: its own tests, which come behind those of the frame, and what it changes of a picture where no test holds
@@ -39,13 +33,7 @@ abbrev pub loads : List ℕ → Change
 loads s = record { own = λ f. fileTests f s; changes = λ f before. filePicture f s }
 
 abbrev pub changeOf : Call → Change
-changeOf (setPixel p c) = draws (pixelDrawing p c)
-changeOf (fillFrame c) = draws (fillDrawing c)
-changeOf (drawLine s e c) = draws (lineDrawing s e c)
-changeOf (drawTriangle v1 v2 v3 c) = draws (triangleDrawing v1 v2 v3 c)
-changeOf (drawOutline v1 v2 v3 c) = draws (outlineDrawing v1 v2 v3 c)
-changeOf (drawCircle l d c) = draws (circleDrawing l d c)
-changeOf (drawConnectedLine s e c) = draws (connectedDrawing s e c)
+changeOf (draw g c) = draws (figureDrawing g c)
 changeOf (readImage s) = loads s
 
 -- the number that it answers on a frame over n bytes

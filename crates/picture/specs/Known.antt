@@ -15,7 +15,8 @@ use Rattle.triangle.specs.Row as row
 use Rattle.circle.specs.Circle as circle
 use Rattle.framebuffer.specs.declared.Frame.{Frame}
 use Rattle.framebuffer.specs.Description.{packed}
-use Rattle.picture.specs.Calls.{setPixel, numberOf, afterCall}
+use Rattle.drawing.specs.declared.Figure.the-variants.{Pixel}
+use Rattle.picture.specs.Calls.{draw, numberOf, afterCall}
 
 pub data Case : Type 0 where
   -- the points of a line from its start to its end
@@ -86,7 +87,7 @@ holds (triangleSpans a b c y ss) = eqZ (row.firstRow a b c) y && sameSpans (upFr
 holds (triangleHas a b c p) = triangle.contained a b c p
 holds (circleSpans l d ss) = sameSpans (circleRows l d) (framed ss)
 holds (circleCounts l d n) = eqb (sum (upFrom (counted l d) 0 (d + 4))) n
-holds (bytesAfter f p c bs) = eqb (numberOf f (long bs) (setPixel p c)) 0 && sameBytes (afterCall f (setPixel p c) (replicate (long bs) 0)) bs
+holds (bytesAfter f p c bs) = eqb (numberOf f (long bs) (draw (Pixel p) c)) 0 && sameBytes (afterCall f (draw (Pixel p) c) (replicate (long bs) 0)) bs
 
 abbrev pub allHold : List Case → Bool
 allHold [] = true

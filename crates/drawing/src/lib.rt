@@ -10,12 +10,12 @@ ghost use Rattle.line.specs.Answer.{endTests};
 ghost use Rattle.triangle.specs.Answer.{vertexTests};
 ghost use Rattle.circle.specs.Refusal.{Fits, circleTests};
 ghost use Rattle.framebuffer.specs.Canvas.{numberOn, onCanvas};
-ghost use Rattle.framebuffer.specs.Drawing.{outcome};
+ghost use Rattle.framebuffer.specs.Drawing.{pixelDrawing, outcome};
 ghost use Rattle.framebuffer.specs.Interval.{Held};
 ghost use Rattle.framebuffer.specs.Judged.{Judged, JudgedSome, Ready, brushed};
 ghost use Rattle.drawing.specs.Earlier.{Ends, earlierFigure, newIn};
 ghost use Rattle.drawing.specs.Figure.{lineFigure, connectedFigure, outlineFigure, triangleFigure, circleFigure};
-ghost use Rattle.drawing.specs.Drawing.{lineDrawing, connectedDrawing, outlineDrawing, triangleDrawing, circleDrawing};
+ghost use Rattle.drawing.specs.Drawing.{figureDrawing, lineDrawing, connectedDrawing, outlineDrawing, triangleDrawing, circleDrawing};
 use framebuffer::Brush;
 use framebuffer::Canvas;
 use framebuffer::Drawn;
@@ -502,4 +502,35 @@ pub fn draw_triangle(
     ensures { λ r. ⌜ (r, now (buf .exit)) ≡ outcome frame (triangleDrawing v1 v2 v3 colour) (now (buf .entry)) ⌝ }
 {
     triangle_on(buf, frame.over(buf.len()), v1, v2, v3, colour)
+}
+
+// ---- any figure, on a canvas
+
+// A pixel, which counts once or not.
+fn dot_on(buf: &mut [u8], canvas: Canvas, p: Point, colour: u32) -> Drawn
+    requires { ⌜ Judged canvas (length (now buf)) ⌝ }
+    ensures { λ r. ⌜ (r, now (buf .exit)) ≡ onCanvas canvas (pixelDrawing p colour) (now (buf .entry)) ⌝ }
+{
+    let placed = framebuffer::set_pixel_on(buf, canvas, p, colour);
+    Drawn {
+        number: placed.number,
+        count: placed.inside as u32,
+    }
+}
+
+// Inside the library: the call that draws a figure, on a canvas. A new surface needs no other to draw on it; the calls above make theirs without the match, which costs more
+// than a short line (docs/BENCHMARKS.md).
+pub fn figure_on(buf: &mut [u8], canvas: Canvas, figure: Figure, colour: u32) -> Drawn
+    requires { ⌜ Judged canvas (length (now buf)) ⌝ }
+    ensures { λ r. ⌜ (r, now (buf .exit)) ≡ onCanvas canvas (figureDrawing figure colour) (now (buf .entry)) ⌝ }
+{
+    match figure {
+        Figure::Fill => framebuffer::fill_on(buf, canvas, colour),
+        Figure::Pixel(p) => dot_on(buf, canvas, p, colour),
+        Figure::Line(start, end) => line_on(buf, canvas, start, end, colour),
+        Figure::Connected(start, end) => connected_line_on(buf, canvas, start, end, colour),
+        Figure::Triangle(v1, v2, v3) => triangle_on(buf, canvas, v1, v2, v3, colour),
+        Figure::Outline(v1, v2, v3) => outline_on(buf, canvas, v1, v2, v3, colour),
+        Figure::Circle(topleft, diameter) => circle_on(buf, canvas, topleft, diameter, colour),
+    }
 }

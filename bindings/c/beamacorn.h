@@ -508,8 +508,8 @@ static inline beamacorn_size beamacorn_frame_write_image(const uint8_t *buf, siz
  * the number, so it is answered as it is: 0, or why the file was refused.
  *
  * The header is the magic, the width, the height and, but for a P4, the maximum. Before each of these numbers stand one or more of space, tab, CR and LF, behind the
- * last one exactly one of them, and then the pixels begin. A number has one to four digits, leading zeros among them. Comments are not taken: README.md says
- * what takes them out.
+ * last one exactly one of them, and then the pixels begin. A number has one to four digits, leading zeros among them. Comments are not taken: Netpbm's
+ * `pnmtopnm` drops them, and so does ImageMagick's `convert` with `-depth 8 -strip`.
  * Refused with 1, 2, 14, 3, 10, 11, 13 and 12, in this order: 10 as above; 11 where the magic is not the depth's, a number is none, the maximum is not 255 or the
  * file ends within its header; 13 where the file's width or height is another than the frame's; 12 where its pixels are not all there.
  *

@@ -117,6 +117,11 @@ end-room f len x y A hx hy =
     let r = A .room in
     omega arith
 
+-- a row ends within the frame
+pub row-room : (f : Frame) (y : ℕ) → y < f .height → y * f .distance + f .distance ≤ size f
+unfolding size
+row-room f y h = let l : (y + 1) * f .distance ≤ f .height * f .distance = mul-le-mul-right (f .distance) (omega arith) in omega arith
+
 -- rows without padding that take bytes take those of a pixel
 pub one-pixel : (f : Frame) → f .distance * 8 ≡ f .width * f .depth → 0 < size f → parts (f .depth) ≤ size f
 unfolding size parts

@@ -12,3 +12,4 @@ pub mod Counts
 pub mod Pixels
 pub mod Padding
 pub mod Order
+pub mod Exact

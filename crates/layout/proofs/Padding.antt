@@ -1,5 +1,5 @@
 -- What packed rows leave alone: every bit behind a row's last pixel, every byte between a row and the next, and every byte behind the frame. Assumes nothing.
-use mathlib.Core.Path.{_≡_, refl, sym, ap, ap₂, _∙_, subst}
+use mathlib.Core.Path.{_≡_, sym, ap, _∙_}
 use mathlib.Core.List.{List}
 use Prim.Native.Nat.{ℕ, zero, suc, _+_, _-_, _*_, _/_, _%_, _^_, _≤_, _<_}
 use native.Mathlib.Nat.{le-refl, div-one, mod-lt, div-add-mod', div-div-eq-div-mul, mul-comm, mul-le-mul-right, not-suc-le-zero, pow-suc}
@@ -20,12 +20,12 @@ halved v G =
     let l : v % 2 < 2 = omega arith in
     (ap (λ (n : ℕ). n / 2) e ∙ digits-div (v / 2 % 2 ^ G) l, ap (λ (n : ℕ). n % 2) e ∙ digits-mod (v / 2 % 2 ^ G) l)
 
-low-bit : (s F v : ℕ) → s < F → digit 2 s (v % 2 ^ F) ≡ digit 2 s v
+pub low-bit : (s F v : ℕ) → s < F → digit 2 s (v % 2 ^ F) ≡ digit 2 s v
 low-bit s zero v h = absurd (not-suc-le-zero h)
 low-bit zero (suc G) v h = halved v G .1
 low-bit (suc s) (suc G) v h = ap (digit 2 s) (halved v G .0) ∙ low-bit s G (v / 2) (omega arith)
 
-high-bit : (F m v : ℕ) → digit 2 (F + m) v ≡ digit 2 m (v / 2 ^ F)
+pub high-bit : (F m v : ℕ) → digit 2 (F + m) v ≡ digit 2 m (v / 2 ^ F)
 high-bit zero m v = let e : 0 + m ≡ m = omega arith in ap (λ (k : ℕ). digit 2 k v) e ∙ ap (digit 2 m) (sym (div-one v))
 high-bit (suc F) m v =
     let e : suc F + m ≡ suc (F + m) = omega arith in
@@ -39,12 +39,12 @@ bit-of-digit F (suc q) s v h =
     let e : suc q * F + s ≡ F + (q * F + s) = omega arith in
     ap (λ (k : ℕ). digit 2 k v) e ∙ high-bit F (q * F + s) v ∙ bit-of-digit F q s (v / 2 ^ F) h
 
+pub bit-in : (F t v : ℕ) → 0 < F → digit 2 t v ≡ digit 2 (t % F) (digit (2 ^ F) (t / F) v)
+bit-in F t v p = sym (ap (λ (k : ℕ). digit 2 k v) (div-add-mod' t F)) ∙ bit-of-digit F (t / F) (t % F) v (mod-lt t p)
+
 -- numbers that agree in a digit agree in its bits
 pub same-bit : (F t u v : ℕ) → 0 < F → digit (2 ^ F) (t / F) u ≡ digit (2 ^ F) (t / F) v → digit 2 t u ≡ digit 2 t v
-same-bit F t u v p e =
-    let h = mod-lt t p in
-    let d : t / F * F + t % F ≡ t = div-add-mod' t F in
-    sym (ap (λ (k : ℕ). digit 2 k u) d) ∙ bit-of-digit F (t / F) (t % F) u h ∙ ap (digit 2 (t % F)) e ∙ sym (bit-of-digit F (t / F) (t % F) v h) ∙ ap (λ (k : ℕ). digit 2 k v) d
+same-bit F t u v p e = bit-in F t u p ∙ ap (digit 2 (t % F)) e ∙ sym (bit-in F t v p)
 
 -- ---- no pixel has a bit behind its own
 behind : (d : ℕ) → Type 0

@@ -6,7 +6,7 @@ use Prim.Native.Nat.{ℕ, zero, suc, _+_, _-_, _≤_, _<_}
 use native.Mathlib.Nat.{add-zero, le-refl}
 use native.Mathlib.Omega.{arith}
 use lib.ListN.{length, getD, set, take, drop, length-set, take-append-drop}
-use lib.Seq.{getD-set-same, getD-set-other, ext-getD, set-out, set-append-left, length-take-le}
+use lib.Seq.{getD-set-same, getD-set-other, ext-getD, set-getD, set-out, set-append-left, length-take-le}
 use Rattle.layout.specs.Digits.{setRun}
 use Rattle.whole.proofs.Tests.{eq-or-not, lt-or-ge}
 
@@ -73,6 +73,29 @@ run-is n g b b′ e e′ h =
   where
     zero-left : (j : ℕ) → j ≡ 0 + j
     zero-left j = omega arith
+
+-- ---- runs from the first byte on
+pub run-front : (n : ℕ) (h : ℕ → ℕ) (b : List ℕ) (j : ℕ) → j < n → n ≤ length b → getD (setRun 0 n h b) j 0 ≡ h j
+run-front n h b j l o = let z : j ≡ 0 + j = omega arith in ap (λ (k : ℕ). getD (setRun 0 n h b) k 0) z ∙ run-in 0 n h b j l (omega arith)
+
+-- a list that differs from another in its first n elements alone
+pub run-over : (n : ℕ) (b b′ : List ℕ) → n ≤ length b → length b′ ≡ length b → ((j : ℕ) → n ≤ j → getD b′ j 0 ≡ getD b j 0) → setRun 0 n (λ i. getD b′ i 0) b ≡ b′
+run-over n b b′ o e h = ext-getD 0 _ b′ (run-length 0 n _ b ∙ sym e) (λ j k. at j (lt-or-ge j n))
+  where
+    at : (j : ℕ) → (j < n) ⊎ (n ≤ j) → getD (setRun 0 n (λ i. getD b′ i 0) b) j 0 ≡ getD b′ j 0
+    at j (inl l) = run-front n _ b j l o
+    at j (inr l) = run-out 0 n _ b j (inr (omega arith)) ∙ sym (h j l)
+
+-- a run that goes on with what stands there
+pub run-goes-on : (start n m : ℕ) (h : ℕ → ℕ) (b : List ℕ) → ((j : ℕ) → n ≤ j → j < n + m → h j ≡ getD b (start + j) 0) → setRun start (n + m) h b ≡ setRun start n h b
+run-goes-on start n zero h b e = ap (λ (k : ℕ). setRun start k h b) (add-zero n)
+run-goes-on start n (suc m) h b e =
+    let c = setRun start (n + m) h b in
+    let at = start + (n + m) in
+    let s : n + suc m ≡ suc (n + m) = omega arith in
+    ap (λ (k : ℕ). setRun start k h b) s
+    ∙ ap (set c at) (e (n + m) (omega arith) (omega arith) ∙ sym (run-out start (n + m) h b at (inr (le-refl at))))
+    ∙ set-getD c at 0 ∙ run-goes-on start n m h b (λ j l k. e j l (omega arith))
 
 -- ---- through a part of the buffer
 set-append-right : (p q : List ℕ) (j v : ℕ) → set (p ++ q) (length p + j) v ≡ p ++ set q j v

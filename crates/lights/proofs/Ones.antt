@@ -1,17 +1,16 @@
 -- The ones of a byte, masked or not, are its lit pixels: one test computed over all bytes, and the rule that it gives; then byte after byte. Assumes nothing.
 use mathlib.Core.Path.{_≡_, refl, sym, ap, ap₂, subst, _∙_}
-use mathlib.Core.Logic.{⊎-elim}
-use mathlib.Core.Bool.{Bool, true, _&&_}
+use mathlib.Core.Bool.{Bool, true}
 use mathlib.Core.List.{List, [], _∷_}
 use Prim.Native.Nat.{ℕ, zero, suc, _+_, _-_, _*_, _/_, _%_, _^_, _≤_, _<_}
-use native.Mathlib.Nat.{not-suc-le-zero, eq-or-lt-of-le, le-of-suc-le-suc, pow-suc, mod-eq-of-lt, div-lt-iff-lt-mul, zero-lt-suc}
+use native.Mathlib.Nat.{pow-suc, mod-eq-of-lt, div-lt-iff-lt-mul, zero-lt-suc}
 use native.Mathlib.Omega.{arith}
 use lib.Bits.{bitAnd, and-le-l, and-mask}
 use lib.Count.{ones, onesIn, ones-step}
 use lib.Dec.{eqb}
 use lib.ListN.{getD}
 use borrow.Author.Tests.{eqb-true}
-use Rattle.whole.proofs.Tests.{and-true}
+use Rattle.whole.proofs.Tests.{passes, passes-at}
 use Rattle.layout.specs.Digits.{digit}
 use Rattle.layout.specs.Packed.{field, per, slotOf}
 use Rattle.layout.proofs.Counts.{many-cong, many-le, many-then}
@@ -25,17 +24,6 @@ unfolding ones onesIn
 digits-of zero v h = ap ones (let e : v ≡ 0 = omega arith in e)
 digits-of (suc k) v h =
     ones-step v ∙ ap (λ (n : ℕ). v % 2 + n) (digits-of k (v / 2) (div-lt-iff-lt-mul (zero-lt-suc 1) .1 (subst (λ (n : ℕ). v < n) (pow-suc 2 k) h)))
-
--- a test that passes at each number below n
-abbrev passes : (ℕ → Bool) → ℕ → Bool
-passes f zero = true
-passes f (suc n) = f n && passes f n
-
-passes-at : (f : ℕ → Bool) (n : ℕ) → passes f n ≡ true → (k : ℕ) → k < n → f k ≡ true
-passes-at f zero e k h = absurd (not-suc-le-zero h)
-passes-at f (suc n) e k h =
-    let p = and-true (f n) (passes f n) e in
-    ⊎-elim (λ i. ap f i ∙ p .0) (λ l. passes-at f n (p .1) k l) (eq-or-lt-of-le (le-of-suc-le-suc h))
 
 -- the first t pixels of byte v: the mask has the bits of the others
 abbrev agrees : ℕ → ℕ → Bool

@@ -7,9 +7,9 @@ use native.Mathlib.Omega.{arith}
 use lib.Dec.{eqb}
 use lib.ListN.{length, take, drop}
 use lib.Seq.{sets, sets-eq, length-sets, drop-drop}
-use borrow.Author.Tests.{lt-ltb, le-ltb, eq-eqb, ne-eqb}
+use borrow.Author.Tests.{lt-ltb, le-ltb}
 use Rattle.refusals.specs.First.{first}
-use Rattle.refusals.proofs.First.{exactly-0, refused, passed, both-pass, stops, goes-on, fails-alone}
+use Rattle.refusals.proofs.First.{exactly-0, refused, passed, both-pass, stops, goes-on, fails-alone, as-it-was, as-done}
 use Rattle.text.proofs.Writing.{sets-append}
 use Rattle.layout.specs.Packed.{rowBytes}
 use Rattle.framebuffer.specs.declared.Frame.{Frame}
@@ -118,14 +118,6 @@ module _ (f : Frame) (len room : ℕ) {n : ℕ} (e : n ≡ first (frameTests f l
 
       pub is-writable : Writable f len
       is-writable = record { accepted = is-accepted f len (sym e ∙ z); format = fails-alone 9 (noFormat f) (sym format-is ∙ g) }
-
--- ---- what is left, by the number
-module _ (n : ℕ) (done out : List ℕ) where
-  pub as-it-was : (n ≡ 0 → ⊥) → out ≡ cond (eqb n 0) done out
-  as-it-was h = sym (ap (λ (t : Bool). cond t done out) (ne-eqb n 0 h))
-
-  pub as-done : n ≡ 0 → done ≡ cond (eqb n 0) done out
-  as-done z = sym (ap (λ (t : Bool). cond t done out) (eq-eqb n 0 z))
 
 -- ---- the answer and the output
 module _ (f : Frame) (b out : List ℕ) {n : ℕ} (e : n ≡ first (writeTests f (length b) (length out))) {r : Size} (i : r ≡ sized n (imageLength f)) where

@@ -2,8 +2,8 @@
 use mathlib.Core.Path.{_≡_, refl, sym, ap, ap₂, _∙_}
 use mathlib.Core.Logic.{_⊎_, inl, inr, ⊎-elim}
 use mathlib.Core.Bool.{Bool, Bool·beq, true, false, not, _&&_, _||_, true≢false}
-use Prim.Native.Nat.{ℕ, zero, suc, _+_, _*_, _≤_, _<_}
-use native.Mathlib.Nat.{mul-le-mul-right, mul-pos}
+use Prim.Native.Nat.{ℕ, zero, suc, _*_, _<_}
+use native.Mathlib.Nat.{mul-pos}
 use native.Mathlib.Omega.{arith}
 use lib.Dec.{eqb}
 use borrow.Author.Tests.{eq-eqb, eqb-true, eqb-false, not-false, not-true}
@@ -24,11 +24,6 @@ module _ (f : Frame) where
       go : (n : ℕ) → i < n * f .height → 0 < n
       go zero h = absurd (omega arith)
       go (suc n) h = omega arith
-
-  -- a row ends within the frame
-  pub row-room : (y : ℕ) → y < f .height → y * f .distance + f .distance ≤ size f
-  unfolding size
-  row-room y h = let l : (y + 1) * f .distance ≤ f .height * f .distance = mul-le-mul-right (f .distance) (omega arith) in omega arith
 
   module _ {len : ℕ} (W : Writable f len) where
     abbrev depths : Bool

@@ -1,4 +1,3 @@
-pub mod Bits
 pub mod Formats
 pub mod Rows
 pub mod Transfers

@@ -8,7 +8,7 @@ use lib.ListN.{length}
 use borrow.Author.Tests.{lt-ltb, le-ltb, ltb-false, eqb-true, not-false}
 use Rattle.whole.proofs.Tests.{and-true}
 use Rattle.refusals.specs.First.{Tests, first}
-use Rattle.refusals.proofs.First.{exactly-0, both-pass, refused, passed, stops, goes-on}
+use Rattle.refusals.proofs.First.{exactly-0, both-pass, refused, passed, stops, goes-on, as-it-was, as-done}
 use Rattle.headers.specs.declared.Header.{Header}
 use Rattle.headers.specs.Header.{headerOf}
 use Rattle.layout.specs.Layout.{rendered}
@@ -18,7 +18,6 @@ use Rattle.framebuffer.proofs.Refusals.{frame-numbered}
 use Rattle.netpbm.specs.Image.{bigFirst}
 use Rattle.netpbm.specs.Written.{noFormat}
 use Rattle.netpbm.specs.Reading.{otherSize, fewPixels, fileTests, loadTests, filePicture, loaded}
-use Rattle.netpbm.proofs.Answers.{as-it-was, as-done}
 
 -- ---- the tests of a file, by a header that is its own
 abbrev few : Frame → ℕ → Header → Tests

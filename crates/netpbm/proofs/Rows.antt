@@ -1,23 +1,22 @@
 -- A picture taken over from one frame into another of the same size and depth: its rows are the source's, copied or with each pixel's bytes turned round, and padding and
 -- what lies between the rows is what stood there. Assumes nothing.
 use mathlib.Core.Path.{_≡_, sym, ap, ap₂, subst, _∙_}
-use mathlib.Core.Logic.{_⊎_, inl, inr}
+use mathlib.Core.Logic.{inr}
 use mathlib.Core.Bool.{Bool, true, false, cond}
 use mathlib.Core.List.{List}
-use Prim.Native.Nat.{ℕ, zero, suc, _+_, _-_, _*_, _/_, _%_, _^_, _≤_, _<_}
-use native.Mathlib.Nat.{add-zero, le-refl, div-lt-iff-lt-mul, div-add-mod', mod-lt}
+use Prim.Native.Nat.{ℕ, suc, _+_, _-_, _*_, _/_, _%_, _^_, _≤_, _<_}
+use native.Mathlib.Nat.{div-lt-iff-lt-mul, div-add-mod', mod-lt}
 use native.Mathlib.Omega.{arith}
 use lib.Arith.{digits-mod}
 use lib.Bits.{bitAnd, and-le-l}
 use lib.Dec.{eqb, ltb}
 use lib.ListN.{length, getD, set}
-use lib.Seq.{ext-getD, set-getD}
 use borrow.Author.Tests.{lt-ltb, le-ltb, eqb-true, not-true}
-use Rattle.whole.proofs.Tests.{lt-or-ge, and-true}
+use Rattle.whole.proofs.Tests.{and-true}
 use Rattle.layout.specs.Digits.{setRun}
 use Rattle.layout.specs.Layout.{shown, rendered}
 use Rattle.layout.specs.Packed.{Packed, rowBytes, laid}
-use Rattle.layout.proofs.Runs.{run-length, run-in, run-out, run-cong, run-then, run-bytes}
+use Rattle.layout.proofs.Runs.{run-length, run-front, run-out, run-over, run-goes-on, run-cong, run-then, run-bytes}
 use Rattle.layout.proofs.Bytes.{Bytes}
 use Rattle.layout.proofs.Places.{Sound, placing}
 use Rattle.layout.proofs.Pictures.{rendered-length}
@@ -25,33 +24,10 @@ use Rattle.layout.proofs.Padding.{gap-stays, tail-stays}
 use Rattle.packing.specs.Words.{merged}
 use Rattle.framebuffer.specs.declared.Frame.{Frame}
 use Rattle.framebuffer.specs.Description.{arranged, raster, size}
-use Rattle.framebuffer.proofs.Refusals.{spaced}
+use Rattle.framebuffer.proofs.Refusals.{spaced, row-room}
 use Rattle.netpbm.specs.Words.{Alike, transferred, maskedRows, copied, copiedRow, turnedRow, isTurned, isRun}
-use Rattle.netpbm.proofs.Bits.{rendered-bytes, sourceOf, same-source, turned-place, mixed, mixed-cong, cut, full, beside, by-bits}
-use Rattle.netpbm.proofs.Formats.{row-pos, row-room, has-bits, same-bytes, run-full, same-distance, not-turned}
-
--- ---- runs from the first byte on
-run-front : (n : ℕ) (h : ℕ → ℕ) (b : List ℕ) (j : ℕ) → j < n → n ≤ length b → getD (setRun 0 n h b) j 0 ≡ h j
-run-front n h b j l o = let z : j ≡ 0 + j = omega arith in ap (λ (k : ℕ). getD (setRun 0 n h b) k 0) z ∙ run-in 0 n h b j l (omega arith)
-
--- a list that differs from another in its first n elements alone
-pub run-over : (n : ℕ) (b b′ : List ℕ) → n ≤ length b → length b′ ≡ length b → ((j : ℕ) → n ≤ j → getD b′ j 0 ≡ getD b j 0) → setRun 0 n (λ i. getD b′ i 0) b ≡ b′
-run-over n b b′ o e h = ext-getD 0 _ b′ (run-length 0 n _ b ∙ sym e) (λ j k. at j (lt-or-ge j n))
-  where
-    at : (j : ℕ) → (j < n) ⊎ (n ≤ j) → getD (setRun 0 n (λ i. getD b′ i 0) b) j 0 ≡ getD b′ j 0
-    at j (inl l) = run-front n _ b j l o
-    at j (inr l) = run-out 0 n _ b j (inr (omega arith)) ∙ sym (h j l)
-
--- a run that goes on with what stands there
-run-goes-on : (start n m : ℕ) (h : ℕ → ℕ) (b : List ℕ) → ((j : ℕ) → n ≤ j → j < n + m → h j ≡ getD b (start + j) 0) → setRun start (n + m) h b ≡ setRun start n h b
-run-goes-on start n zero h b e = ap (λ (k : ℕ). setRun start k h b) (add-zero n)
-run-goes-on start n (suc m) h b e =
-    let c = setRun start (n + m) h b in
-    let at = start + (n + m) in
-    let s : n + suc m ≡ suc (n + m) = omega arith in
-    ap (λ (k : ℕ). setRun start k h b) s
-    ∙ ap (set c at) (e (n + m) (omega arith) (omega arith) ∙ sym (run-out start (n + m) h b at (inr (le-refl at))))
-    ∙ set-getD c at 0 ∙ run-goes-on start n m h b (λ j l k. e j l (omega arith))
+use Rattle.packing.proofs.Bits.{rendered-bytes, sourceOf, same-source, turned-place, mixed, mixed-cong, cut, full, beside, by-bits}
+use Rattle.netpbm.proofs.Formats.{row-pos, has-bits, same-bytes, run-full, same-distance, not-turned}
 
 -- ---- the picture of f over the bytes a, taken over into g over the bytes b, of which `kept` keeps the bits
 pub record Transfer (f : Frame) (a : List ℕ) (g : Frame) (b : List ℕ) : Type 0 where

@@ -12,7 +12,7 @@ use lib.ListN.{length, getD, replicate, length-replicate}
 use borrow.Author.Tests.{lt-ltb}
 use Rattle.layout.specs.Layout.{shown}
 use Rattle.layout.specs.Packed.{rowBytes}
-use Rattle.layout.proofs.Runs.{run-cong, run-is}
+use Rattle.layout.proofs.Runs.{run-cong, run-is, run-over}
 use Rattle.layout.proofs.Bytes.{Bytes}
 use Rattle.layout.proofs.Pictures.{rendered-length, getD-zeros}
 use Rattle.framebuffer.specs.declared.Frame.{Frame}
@@ -23,7 +23,6 @@ use Rattle.netpbm.specs.Image.{bigFirst, pixels}
 use Rattle.netpbm.specs.Written.{Writable}
 use Rattle.netpbm.specs.Words.{Alike, transferred, maskedRows}
 use Rattle.netpbm.proofs.Formats.{row-pos}
-use Rattle.netpbm.proofs.Rows.{run-over}
 
 pub big-described : (f : Frame) → Described f → Described (bigFirst f)
 big-described f D =

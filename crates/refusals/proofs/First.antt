@@ -109,3 +109,11 @@ module _ (n : ℕ) (t : Bool) (ts : Tests) where
 pub fails-alone : (n : ℕ) (t : Bool) → cond t (suc n) 0 ≡ 0 → t ≡ false
 fails-alone n true e = absurd (let z : suc n ≡ 0 = e in omega arith)
 fails-alone n false e = refl
+
+-- ---- what is left, by the number: with a refusal what there was, else what is done
+module _ {A : Type 0} (n : ℕ) (done before : A) where
+  pub as-it-was : (n ≡ 0 → ⊥) → before ≡ cond (eqb n 0) done before
+  as-it-was h = sym (ap (λ (t : Bool). cond t done before) (ne-eqb n 0 h))
+
+  pub as-done : n ≡ 0 → done ≡ cond (eqb n 0) done before
+  as-done z = sym (ap (λ (t : Bool). cond t done before) (eq-eqb n 0 z))

@@ -1,8 +1,9 @@
 -- Laws of yes or no tests: which cases there are, what a joined test says, and when two tests are the same. Assumes nothing.
-use mathlib.Core.Path.{_≡_, refl, sym, ap, ap₂}
+use mathlib.Core.Path.{_≡_, refl, sym, ap, ap₂, _∙_}
 use mathlib.Core.Bool.{Bool, true, false, _||_, _&&_, true≢false}
-use mathlib.Core.Logic.{_⊎_, inl, inr}
-use Prim.Native.Nat.{ℕ, _≤_, _<_}
+use mathlib.Core.Logic.{_⊎_, inl, inr, ⊎-elim}
+use Prim.Native.Nat.{ℕ, zero, suc, _≤_, _<_}
+use native.Mathlib.Nat.{not-suc-le-zero, eq-or-lt-of-le, le-of-suc-le-suc}
 use lib.Dec.{eqb, ltb}
 use lib.IntN.{ℤ, pos, negsuc}
 use borrow.Author.Tests.{eqb-true, eqb-false, ltb-true, ltb-false, eq-eqb}
@@ -77,3 +78,14 @@ eqZ-true (negsuc a) (negsuc b) e = ap negsuc (eqb-true a b e)
 pub eqZ-refl : (a : ℤ) → eqZ a a ≡ true
 eqZ-refl (pos a) = eq-eqb a a refl
 eqZ-refl (negsuc a) = eq-eqb a a refl
+
+-- ---- a test that passes at each number below n: a rule over so many cases is one test that is computed
+abbrev pub passes : (ℕ → Bool) → ℕ → Bool
+passes f zero = true
+passes f (suc n) = f n && passes f n
+
+pub passes-at : (f : ℕ → Bool) (n : ℕ) → passes f n ≡ true → (k : ℕ) → k < n → f k ≡ true
+passes-at f zero e k h = absurd (not-suc-le-zero h)
+passes-at f (suc n) e k h =
+    let p = and-true (f n) (passes f n) e in
+    ⊎-elim (λ i. ap f i ∙ p .0) (λ l. passes-at f n (p .1) k l) (eq-or-lt-of-le (le-of-suc-le-suc h))

@@ -10,9 +10,9 @@ use Rattle.whole.proofs.Tests.{and-true}
 use Rattle.layout.specs.Packed.{rowBytes}
 use Rattle.framebuffer.specs.declared.Frame.{Frame}
 use Rattle.framebuffer.specs.Judged.{Described}
-use Rattle.framebuffer.proofs.Refusals.{product, size-fits}
+use Rattle.framebuffer.proofs.Refusals.{product, size-fits, row-room}
 use Rattle.netpbm.proofs.Rows.{Transfer, row-copied, row-turned}
-use Rattle.netpbm.proofs.Formats.{row-room, has-bits}
+use Rattle.netpbm.proofs.Formats.{has-bits}
 use Rattle.netpbm.proofs.transfer_row.Statement.{statement}
 use Rattle.netpbm.proofs.transfer_row.Tie as tie
 

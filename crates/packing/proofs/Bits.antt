@@ -1,70 +1,36 @@
 -- Bytes by their bits, over every depth: that a picture leaves bytes, which pixel of a row a bit belongs to, and how a mask merges two bytes. Where a picture is taken over
 -- from one layout into another, each bit is the source's, in the same byte or one of the same pixel, and behind the last pixel what stood there. Assumes nothing.
-use mathlib.Core.Path.{_≡_, sym, ap, ap₂, subst, _∙_}
+use mathlib.Core.Path.{_≡_, sym, ap, ap₂, _∙_}
 use mathlib.Core.Logic.{_⊎_, ⊎-elim}
 use mathlib.Core.Bool.{Bool, Bool·beq, true, false, cond, not, true≢false}
 use mathlib.Core.List.{List}
-use Prim.Native.Nat.{ℕ, zero, suc, _+_, _-_, _*_, _/_, _%_, _^_, _≤_, _<_}
+use Prim.Native.Nat.{ℕ, _+_, _-_, _*_, _/_, _%_, _^_, _≤_, _<_}
 use native.Mathlib.Nat.{div-lt-iff-lt-mul}
 use native.Mathlib.Omega.{arith}
 use lib.Arith.{digits-mod}
-use lib.Dec.{eqb, ltb}
+use lib.Dec.{ltb}
 use lib.ListN.{length, getD}
 use lib.Pow.{pow-pos, pow-mono}
 use borrow.Author.Tests.{lt-ltb, le-ltb}
 use Rattle.whole.proofs.Tests.{lt-or-ge}
-use Rattle.layout.specs.Digits.{digit, replaced, value, cell, putDigits}
-use Rattle.layout.specs.Paint.{render}
-use Rattle.layout.specs.Layout.{Picture, putNo, shown, rendered}
+use Rattle.layout.specs.Digits.{digit, value, cell}
+use Rattle.layout.specs.Layout.{Picture, shown, rendered}
 use Rattle.layout.specs.Packed.{Packed, goodDepth, laid, field, parts, per, turned, byteOf, slotOf}
 use Rattle.layout.proofs.Cells.{digit-lt, digit-value, value-cong, value-digits}
-use Rattle.layout.proofs.Fields.{value-lt, mask, mask-not, merge, low-fields, replaced-value}
-use Rattle.layout.proofs.Runs.{set-bytes}
+use Rattle.layout.proofs.Fields.{mask, mask-not, merge, low-fields}
+use Rattle.layout.proofs.Exact as exact
 use Rattle.layout.proofs.Bytes.{Bytes, byte-full, turn0}
 use Rattle.layout.proofs.Places.{Sound, depth-cases, depth-of, depth-pos, per-pos, field-pos, turned-below, turned-twice, placing}
 use Rattle.layout.proofs.Pictures.{shown-rendered, shown-colour}
 use Rattle.layout.proofs.Padding.{same-bit, padding-stays}
 use Rattle.packing.specs.Words.{merged}
 
 -- ---- a picture leaves bytes
-module _ (r : Packed) (S : Sound r) where
-  abbrev B : ℕ
-  B = 2 ^ field (r .depth)
-
-  field-set : (x u v : ℕ) → u < B → v < 256 → replaced B (slotOf (r .depth) x) u v < 256
-  unfolding slotOf
-  field-set x u v hu hv =
-      let n = per (r .depth) in
-      let D = depth-of (r .depth) (S .depth) in
-      let s : slotOf (r .depth) x < n = (let p = per-pos (r .depth) D in omega arith) in
-      let p = pow-pos (field (r .depth)) in
-      let e = value-digits B p n v (subst (λ (k : ℕ). v < k) (sym (byte-full (r .depth) D)) hv) in
-      subst (λ (k : ℕ). replaced B (slotOf (r .depth) x) u v < k) (byte-full (r .depth) D)
-      (subst (λ (k : ℕ). k < B ^ n)
-      (sym (replaced-value (field (r .depth)) n (slotOf (r .depth) x) u (λ k. digit B k v) (λ k. digit-lt B p k v) hu s)
-      ∙ ap (replaced B (slotOf (r .depth) x) u) e) (value-lt B n _ (λ k. low (eqb k (slotOf (r .depth) x)) k)))
-    where
-      low : (t : Bool) (k : ℕ) → cond t u (digit (2 ^ field (r .depth)) k v) < 2 ^ field (r .depth)
-      low true k = hu
-      low false k = digit-lt (2 ^ field (r .depth)) (pow-pos (field (r .depth))) k v
-
-  pub rendered-bytes : (F : Picture) (b : List ℕ) → Bytes b → Bytes (rendered (laid r) F b)
-  unfolding rendered
-  rendered-bytes F b h = all (r .height * r .width)
-    where
-      one : (x y v n : ℕ) (c : List ℕ) → Bytes c → Bytes (putDigits B (byteOf r x y) (λ k. slotOf (r .depth) x) n v c)
-      one x y v zero c h = h
-      one x y v (suc n) c h =
-          let e = putDigits B (byteOf r x y) (λ k. slotOf (r .depth) x) n v c in
-          let i = one x y v n c h in
-          let at = byteOf r x y n in
-          set-bytes e at (replaced B (slotOf (r .depth) x) (digit B n v) (getD e at 0)) i
-          (field-set x (digit B n v) (getD e at 0) (digit-lt B (pow-pos (field (r .depth))) n v) (i at))
-
-      all : (n : ℕ) → Bytes (render (putNo (laid r)) n (λ p. F (p % r .width) (p / r .width)) b)
-      all zero = h
-      all (suc n) =
-          one (n % r .width) (n / r .width) (F (n % r .width) (n / r .width)) (parts (r .depth)) (render (putNo (laid r)) n (λ p. F (p % r .width) (p / r .width)) b) (all n)
+pub rendered-bytes : (r : Packed) → Sound r → (F : Picture) (b : List ℕ) → Bytes b → Bytes (rendered (laid r) F b)
+unfolding slotOf
+rendered-bytes r S F b h =
+    let D = depth-of (r .depth) (S .depth) in
+    exact.rendered-bytes (laid r) (placing r S) (per (r .depth)) (byte-full (r .depth) D) (λ x y k. let p = per-pos (r .depth) D in omega arith) F b h
 
 -- ---- bit t of byte j of a row, the lowest being bit 0, is that of one digit of the pixel in this column
 abbrev pub columnOf : ℕ → ℕ → ℕ → ℕ

@@ -1,4 +1,3 @@
 pub mod Place
 pub mod Extreme
 pub mod Bound
-pub mod Answer

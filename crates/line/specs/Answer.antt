@@ -1,10 +1,11 @@
 -- What the questions on a line are answered, and the tests that refuse them (01, "Numbers an operation may answer").
 use mathlib.Core.Bool.{not, _&&_}
 use mathlib.Core.List.{[], _∷_, _++_}
-use Prim.Native.Nat.{ℕ, zero, suc}
+use Prim.Native.Nat.{ℕ}
 use lib.Dec.{ltb}
 use lib.IntN.{pos}
 use Rattle.refusals.specs.First.{Tests}
+use Rattle.refusals.specs.Answer.{ifDone}
 use Rattle.geometry.specs.declared.Point.{Point}
 use Rattle.geometry.specs.Bound.{inBounds}
 use Rattle.line.specs.declared.Length.{Length}
@@ -21,9 +22,7 @@ stepTests s e k = endTests s e ++ ((7, ltb (major s e) k) ∷ [])
 
 -- the answers
 abbrev pub lengthAnswer : ℕ → ℕ → Length
-lengthAnswer zero n = record { number = 0; points = n }
-lengthAnswer (suc r) n = record { number = suc r; points = 0 }
+lengthAnswer r n = record { number = r; points = ifDone r n 0 }
 
 abbrev pub stepAnswer : ℕ → Point → Step
-stepAnswer zero p = record { number = 0; point = p }
-stepAnswer (suc r) p = record { number = suc r; point = (pos 0, pos 0) }
+stepAnswer r p = record { number = r; point = ifDone r p (pos 0, pos 0) }

@@ -1,8 +1,6 @@
 -- What it says that a triangle is not refused. Assumes nothing.
-use mathlib.Core.Path.{_≡_, refl, sym, subst}
+use mathlib.Core.Path.{_≡_, sym, subst}
 use mathlib.Core.Bool.{_&&_}
-use Prim.Native.Nat.{ℕ, zero, suc}
-use lib.IntN.{ℤ, pos}
 use borrow.Author.Tests.{not-false}
 use Rattle.whole.proofs.Decides.{Decides, decides-and, decides-map}
 use Rattle.refusals.specs.First.{first}
@@ -10,11 +8,10 @@ use Rattle.refusals.proofs.First.{fails-alone}
 use Rattle.geometry.specs.declared.Point.{Point}
 use Rattle.geometry.specs.Bound.{Bounded, inBounds}
 use Rattle.geometry.proofs.Bound.{bounded-decides}
-use Rattle.triangle.specs.declared.RowRange.{RowRange}
 use Rattle.triangle.specs.declared.Sorted.{Sorted}
 use Rattle.triangle.specs.Order.{sorted}
 use Rattle.triangle.proofs.Order.{All, sorted-all}
-use Rattle.triangle.specs.Answer.{vertexTests, rowsAnswer}
+use Rattle.triangle.specs.Answer.{vertexTests}
 
 module _ (v1 v2 v3 : Point) where
   abbrev pub Accepted : Type 0
@@ -32,7 +29,3 @@ module _ (v1 v2 v3 : Point) where
 -- the sorted vertices of an accepted triangle are in bounds
 pub sorted-bounded : (v1 v2 v3 : Point) (t : Sorted) → t ≡ sorted v1 v2 v3 → Accepted v1 v2 v3 → All Bounded t
 sorted-bounded v1 v2 v3 t e h = subst (All Bounded) (sym e) (sorted-all Bounded v1 v2 v3 (h .0) (h .1) (h .2))
-
-pub rows-refused : (n : ℕ) (y : ℤ) (m : ℕ) → (n ≡ 0 → ⊥) → _≡_ {A = RowRange} (record { number = n; first = pos 0; count = 0 }) (rowsAnswer n y m)
-rows-refused zero y m h = absurd (h refl)
-rows-refused (suc n) y m h = refl

@@ -1,12 +1,8 @@
 -- `line::major_length` refuses by 5, and else counts the steps and the start. Assumes nothing.
-use mathlib.Core.Path.{sym, ap, ap₂, _∙_}
-use Prim.Native.Nat.{ℕ, _+_}
+use mathlib.Core.Path.{sym, _∙_}
 use native.Mathlib.Omega.{arith}
 use borrow.Author.Needs.{needs}
-use Rattle.geometry.specs.Bound.{Bounded}
-use Rattle.line.specs.Line.{points}
-use Rattle.line.specs.Answer.{lengthAnswer}
-use Rattle.line.proofs.Answer.{length-refused}
+use Rattle.refusals.proofs.Answer.{not-done}
 use Rattle.line.proofs.Lengths.{major-size}
 use Rattle.line.proofs.Refusals.{is-accepted}
 use Rattle.line.proofs.major_length.Statement.{statement}
@@ -16,25 +12,16 @@ refusal-requires : tie.Need-refusal-requires
 refusal-requires c κs = search needs
 
 returns : tie.Need-returns
-returns c =
-    let s = c .before .before in
-    let n = points (s .args .start) (s .args .end) in
-    length-refused _ n (c .if1 .taken) ∙ ap (λ (r : ℕ). lengthAnswer r n) (c .before .refusal .ensures)
-
--- past the test both ends are in bounds
-ends : (c : tie.Else1) → Bounded (c .before .before .args .start) × Bounded (c .before .before .args .end)
-ends c = is-accepted (c .before .before .args .start) (c .before .before .args .end) (sym (c .before .refusal .ensures) ∙ c .if1 .left)
+returns c = simp (← c .before .refusal .ensures, not-done (c .if1 .taken))
 
 last-step-requires : tie.Need-last-step-requires
-last-step-requires c κs = ends c
+last-step-requires c κs = is-accepted _ _ (sym (c .before .refusal .ensures) ∙ c .if1 .left)
 
 add-t6 : tie.Need-add-t6
-add-t6 c = omega (arith, c .last-step .ensures, major-size (ends (c .before) .0) (ends (c .before) .1))
+add-t6 c = let ends = last-step-requires (c .before) tt in omega (arith, c .last-step .ensures, major-size (ends .0) (ends .1))
 
 returns-2 : tie.Need-returns-2
-returns-2 c =
-    let b = c .before .before in
-    ap₂ lengthAnswer (sym (c .before .if1 .left) ∙ b .refusal .ensures) (ap (λ (n : ℕ). n + 1) (c .last-step .ensures))
+returns-2 c = simp (← c .before .before .refusal .ensures, c .before .if1 .left, c .last-step .ensures)
 
 pub major-length-spec : {M : Type 1} → statement M
 major-length-spec = tie.close (tie.spec refusal-requires returns last-step-requires add-t6 returns-2)

@@ -1,12 +1,10 @@
 -- `triangle::row_span` refuses by 5, and else asks the sorted vertices. Assumes nothing.
-use mathlib.Core.Path.{_≡_, sym, ap, subst, _∙_}
-use Prim.Native.Nat.{ℕ}
+use mathlib.Core.Path.{_≡_, sym, subst, _∙_}
 use mir.Syntax.{w32}
 use mir.Facts.{toZ-ofZ}
 use borrow.Author.Needs.{needs}
 use Rattle.whole.proofs.Machine.{field-back}
-use Rattle.geometry.specs.Answer.{span}
-use Rattle.geometry.proofs.Answer.{span-refused}
+use Rattle.refusals.proofs.Answer.{not-done}
 use Rattle.triangle.specs.Order.{sorted, Down}
 use Rattle.triangle.specs.Triangle.{isFlat}
 use Rattle.triangle.specs.Row.{hull, edgeColumns, rowSpan}
@@ -19,10 +17,7 @@ refusal-requires : tie.Need-refusal-requires
 refusal-requires c κs = search needs
 
 returns : tie.Need-returns
-returns c =
-    let g = c .before .before .args in
-    let s = rowSpan (g .v1) (g .v2) (g .v3) (g .y) in
-    span-refused _ (s .0) (s .1) (c .if1 .taken) ∙ ap (λ (n : ℕ). span n (s .0) (s .1)) (c .before .refusal .ensures)
+returns c = simp (← c .before .refusal .ensures, not-done (c .if1 .taken))
 
 sorted-yx-requires : tie.Need-sorted-yx-requires
 sorted-yx-requires c κs = search needs
@@ -42,7 +37,6 @@ returns-2 c =
     let s = c .before .before .before .before .before in
     let g = s .args in
     let r = c .before .scanline-intersection .result in
-    let number = sym (c .before .before .before .if1 .left) ∙ c .before .before .before .before .refusal .ensures in
     let first = field-back w32 (r .0) (c .struct-told .given .0 .1) in
     let past = field-back w32 (r .1) (c .struct-told .given .1 .0 .1) in
     let whole : r ≡ rowSpan (g .v1) (g .v2) (g .v3) (g .y) =
@@ -50,7 +44,8 @@ returns-2 c =
     ∙ (λ i. hull (edgeColumns (isFlat (sorted-yx .ensures i .p1) (sorted-yx .ensures i .p2) (sorted-yx .ensures i .p3)) (sorted-yx .ensures i) (toZ-ofZ (s .fits .y) i)))
     ∙ (λ i. hull (edgeColumns (flat-sorted (g .v1) (g .v2) (g .v3) i) (sorted (g .v1) (g .v2) (g .v3)) (g .y)))
     in
-    (λ i. record { number = 0; start = first i; end = past i }) ∙ (λ i. span (number i) (whole i .0) (whole i .1))
+    (λ i. record { number = 0; start = first i; end = past i })
+    ∙ simp (whole, ← c .before .before .before .before .refusal .ensures, c .before .before .before .if1 .left)
 
 pub row-span-spec : {M : Type 1} → statement M
 row-span-spec = tie.close (tie.spec refusal-requires returns sorted-yx-requires scanline-intersection-requires returns-2)

@@ -1,6 +1,6 @@
 -- `triangle::rows` takes the rows of the first and the last of the sorted vertices. Assumes nothing.
-use mathlib.Core.Path.{_≡_, sym, ap, subst, _∙_}
-use Prim.Native.Nat.{ℕ, _+_}
+use mathlib.Core.Path.{_≡_, sym, subst, _∙_}
+use Prim.Native.Nat.{_+_}
 use native.Mathlib.Omega.{arith}
 use lib.IntN.{pos, natAbs, _-ℤ_}
 use lib.Signed.{_≤ℤ_}
@@ -9,12 +9,12 @@ use mir.Val.{toZ, ofZ}
 use borrow.Author.Needs.{needs}
 use Rattle.whole.proofs.Machine.{Has, minus, fits, back, to-nat, nat-is, size-pos}
 use Rattle.whole.proofs.Order.{le-sub}
+use Rattle.refusals.proofs.Answer.{not-done}
 use Rattle.geometry.specs.Bound.{Bounded}
 use Rattle.geometry.proofs.Bound.{coord}
 use Rattle.triangle.specs.declared.Sorted.{Sorted}
-use Rattle.triangle.specs.Answer.{rowsAnswer}
 use Rattle.triangle.specs.Row.{firstRow, rowCount}
-use Rattle.triangle.proofs.Refusals.{is-accepted, sorted-bounded, rows-refused}
+use Rattle.triangle.proofs.Refusals.{is-accepted, sorted-bounded}
 use Rattle.triangle.proofs.Order.{All}
 use Rattle.triangle.proofs.Triangle.{down}
 use Rattle.triangle.proofs.rows.Statement.{statement}
@@ -24,11 +24,7 @@ refusal-requires : tie.Need-refusal-requires
 refusal-requires c κs = search needs
 
 returns : tie.Need-returns
-returns c =
-    let g = c .before .before .args in
-    let y = firstRow (g .v1) (g .v2) (g .v3) in
-    let n = rowCount (g .v1) (g .v2) (g .v3) in
-    rows-refused _ y n (c .if1 .taken) ∙ ap (λ (m : ℕ). rowsAnswer m y n) (c .before .refusal .ensures)
+returns c = simp (← c .before .refusal .ensures, not-done (c .if1 .taken))
 
 sorted-yx-requires : tie.Need-sorted-yx-requires
 sorted-yx-requires c κs = search needs
@@ -73,10 +69,9 @@ returns-2 : tie.Need-returns-2
 unfolding firstRow rowCount
 returns-2 c =
     let b = c .before in
-    let e = b .before .before .before .before .before .before .sorted-yx .ensures in
-    let n = sym (b .before .before .before .before .before .before .before .if1 .left) ∙ b .before .before .before .before .before .before .before .before .refusal .ensures in
+    let d = b .before .before .before .before .before .before in
     (λ i. record { number = 0; first = top b .is i; count = nat-is (steps b) i + 1 })
-    ∙ (λ i. rowsAnswer (n i) (e i .p1 .1) (natAbs (e i .p3 .1 -ℤ e i .p1 .1) + 1))
+    ∙ simp (firstRow, ← d .sorted-yx .ensures, ← d .before .before .refusal .ensures, d .before .if1 .left)
 
 pub rows-spec : {M : Type 1} → statement M
 rows-spec = tie.close (tie.spec refusal-requires returns sorted-yx-requires sub-t9 cast-t10 add-t11 returns-2)

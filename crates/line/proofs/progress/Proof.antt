@@ -1,19 +1,19 @@
 -- `line::progress` is the difference, turned round where the way leads down. Assumes nothing.
 use mathlib.Core.Path.{_≡_, sym, _∙_}
-use mathlib.Core.Bool.{true, false}
+use mathlib.Core.Bool.{Bool, true, false, cond}
 use native.Mathlib.Omega.{arith}
-use lib.IntN.{ℤ, pos, negsuc, _-ℤ_, _*ℤ_}
+use lib.IntN.{ℤ, _-ℤ_, _*ℤ_}
 use lib.Signed.{leZ}
 use Rattle.whole.proofs.Difference.{as-mk, mks, mk-eq}
 use Rattle.whole.proofs.Machine.{wide, wide-minus, fits, back, le-test}
+use Rattle.line.specs.Line.{toward}
 use Rattle.line.proofs.progress.Statement.{statement}
 use Rattle.line.proofs.progress.Tie as tie
 
-up : (a p : ℤ) → p -ℤ a ≡ pos 1 *ℤ (p -ℤ a)
-up a p = rw (as-mk a, as-mk p) (simp mks (mk-eq _ _ _ _ (omega arith)))
-
-down : (a p : ℤ) → a -ℤ p ≡ negsuc 0 *ℤ (p -ℤ a)
-down a p = rw (as-mk a, as-mk p) (simp mks (mk-eq _ _ _ _ (omega arith)))
+-- the difference that way, by the test
+turned : (a b p : ℤ) (t : Bool) → leZ a b ≡ t → cond t (p -ℤ a) (a -ℤ p) ≡ toward a b *ℤ (p -ℤ a)
+turned a b p true e = rw e (rw (as-mk a, as-mk p) (simp mks (mk-eq _ _ _ _ (omega arith))))
+turned a b p false e = rw e (rw (as-mk a, as-mk p) (simp mks (mk-eq _ _ _ _ (omega arith))))
 
 cast-result : tie.Need-cast-result
 cast-result c = fits (wide (c .before .fits .p))
@@ -27,8 +27,7 @@ sub-result c = fits (wide-minus (c .before .fits .p) (c .before .fits .a))
 returns : tie.Need-returns
 returns c =
     let s = c .before in
-    let t : leZ (s .args .a) (s .args .b) ≡ true = sym (le-test (s .fits .a) (s .fits .b)) ∙ c .if1 .taken in
-    rw t (back (wide-minus (s .fits .p) (s .fits .a)) .is ∙ up (s .args .a) (s .args .p))
+    back (wide-minus (s .fits .p) (s .fits .a)) .is ∙ turned (s .args .a) (s .args .b) (s .args .p) true (sym (le-test (s .fits .a) (s .fits .b)) ∙ c .if1 .taken)
 
 cast-result-3 : tie.Need-cast-result-3
 cast-result-3 c = fits (wide (c .before .fits .a))
@@ -42,8 +41,7 @@ sub-result-2 c = fits (wide-minus (c .before .fits .a) (c .before .fits .p))
 returns-2 : tie.Need-returns-2
 returns-2 c =
     let s = c .before in
-    let t : leZ (s .args .a) (s .args .b) ≡ false = sym (le-test (s .fits .a) (s .fits .b)) ∙ c .if1 .left in
-    rw t (back (wide-minus (s .fits .a) (s .fits .p)) .is ∙ down (s .args .a) (s .args .p))
+    back (wide-minus (s .fits .a) (s .fits .p)) .is ∙ turned (s .args .a) (s .args .b) (s .args .p) false (sym (le-test (s .fits .a) (s .fits .b)) ∙ c .if1 .left)
 
 pub progress-spec : {M : Type 1} → statement M
 progress-spec =

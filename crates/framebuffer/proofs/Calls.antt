@@ -11,10 +11,12 @@ use lib.ListN.{length}
 use lib.Signed.{mag}
 use mir.Syntax.{w32}
 use mir.Val.{toZ, ofZ, hbits}
-use borrow.Author.Tests.{eq-eqb, ne-eqb, eqb-true, eqb-false, leb-false}
+use borrow.Author.Tests.{eqb-true, leb-false}
 use Rattle.whole.proofs.Tests.{and-true}
 use Rattle.whole.proofs.Machine.{field-back}
 use Rattle.refusals.specs.First.{Tests, first, numbered}
+use Rattle.refusals.specs.Answer.{ifDone}
+use Rattle.refusals.proofs.Answer.{not-done, is-done}
 use Rattle.refusals.proofs.First.{first-append, passed, both-pass, goes-on, fails-alone}
 use Rattle.geometry.specs.declared.Point.{Point}
 use Rattle.layout.specs.Figure.{single, everywhere}
@@ -34,22 +36,21 @@ use Rattle.framebuffer.specs.Drawing.{Drawing, pixelDrawing, fillDrawing
 use Rattle.framebuffer.specs.Judged.{Drawable, overBytes, Judged, Ready, brushOf, brushed}
 use Rattle.framebuffer.specs.Canvas.{keeps, behind, numberOn, onCanvas, pixelOn, readOn, hasAll}
 use Rattle.framebuffer.specs.Window.{inWindow, heldBy, wholeWindow}
-use Rattle.framebuffer.proofs.Refusals.{sound, frame-numbered, is-accepted, refused-drawn, refused-placed}
+use Rattle.framebuffer.proofs.Refusals.{sound, frame-numbered, is-accepted}
 use Rattle.framebuffer.proofs.Windows.{all-within, marked-all}
 
 -- ---- what a number makes of a figure
 module _ (l : Layout) (colour : ℕ) (b : List ℕ) (s : ℤ → ℤ → Bool) where
   refused-made : {r : ℕ} → (r ≡ 0 → ⊥) → _≡_ {A = Drawn × List ℕ} (record { number = r; count = 0 }, b) (madeOf r l s colour b)
-  refused-made {r} n = λ i. (refused-drawn r (marked l s colour b .0) n i, cond (sym (ne-eqb r 0 n) i) (marked l s colour b .1) b)
+  refused-made {r} n = let m = marked l s colour b in λ i. (record { number = r; count = sym (not-done n (m .0) 0) i }, sym (not-done n (m .1) b) i)
 
   accepted-made : {r m : ℕ} {after : List ℕ} → r ≡ 0 → (m, after) ≡ marked l s colour b → _≡_ {A = Drawn × List ℕ} (record { number = 0; count = m }, after) (madeOf r l s colour b)
   accepted-made z h = ap (λ (p : ℕ × List ℕ). (record { number = 0; count = p .0 }, p .1)) h ∙ ap (λ (n : ℕ). madeOf n l s colour b) (sym z)
 
--- a figure that paints the same in its place
-same-made : (l : Layout) (colour : ℕ) (b : List ℕ) (s t : ℤ → ℤ → Bool) (r : ℕ) → (r ≡ 0 → marked l s colour b ≡ marked l t colour b)
-    → madeOf r l s colour b ≡ madeOf r l t colour b
-same-made l colour b s t zero h = ap (λ (p : ℕ × List ℕ). (record { number = 0; count = p .0 }, p .1)) (h refl)
-same-made l colour b s t (suc r) h = let n : suc r ≡ 0 → ⊥ = λ z. omega (arith, z) in sym (refused-made l colour b s n) ∙ refused-made l colour b t n
+  -- a figure that paints the same in its place
+  same-made : (t : ℤ → ℤ → Bool) (r : ℕ) → (r ≡ 0 → marked l s colour b ≡ marked l t colour b) → madeOf r l s colour b ≡ madeOf r l t colour b
+  same-made t zero h = ap (λ (p : ℕ × List ℕ). (record { number = 0; count = p .0 }, p .1)) (h refl)
+  same-made t (suc r) h = refl
 
 -- ---- on a frame
 module _ (f : Frame) (len : ℕ) (d : Drawing) where
@@ -88,17 +89,14 @@ pixel-apart f p colour b e h k said =
 -- ---- on a canvas
 -- its number, or further tests
 pub behind-0 : (n : ℕ) (ts : Tests) {r : ℕ} → n ≡ 0 → r ≡ first ts → r ≡ behind n ts
-behind-0 n ts z e = e ∙ sym (ap (λ (t : Bool). cond t (first ts) n) (eq-eqb n 0 z))
+behind-0 n ts z e = e ∙ sym (is-done z (first ts) n)
 
 pub behind-n : (n : ℕ) (ts : Tests) → (n ≡ 0 → ⊥) → n ≡ behind n ts
-behind-n n ts h = sym (ap (λ (t : Bool). cond t (first ts) n) (ne-eqb n 0 h))
+behind-n n ts h = sym (not-done h (first ts) n)
 
 pub behind-passed : (n : ℕ) (ts : Tests) {r : ℕ} → r ≡ behind n ts → r ≡ 0 → (n ≡ 0) × (first ts ≡ 0)
-behind-passed n ts e z = by (eqb n 0) refl (sym e ∙ z)
-  where
-    by : (t : Bool) → eqb n 0 ≡ t → cond t (first ts) n ≡ 0 → (n ≡ 0) × (first ts ≡ 0)
-    by true h k = (eqb-true n 0 h, k)
-    by false h k = absurd (eqb-false n 0 h k)
+behind-passed zero ts e z = (refl, sym e ∙ z)
+behind-passed (suc n) ts e z = absurd (omega (arith, e, z))
 
 module _ (c : Canvas) (colour : ℕ) where
   abbrev c4 : Tests
@@ -106,12 +104,12 @@ module _ (c : Canvas) (colour : ℕ) where
 
   -- the number of a call, test by test
   pub first-on : (own : Tests) {r : ℕ} → r ≡ numberOn c colour [] → (r ≡ 0 → ⊥) → r ≡ numberOn c colour own
-  first-on own e h = go (eqb (c .number) 0) (noColour (c .frame) colour) e h
+  first-on own e h = go (c .number) (noColour (c .frame) colour) e h
     where
-      go : (s t : Bool) {r : ℕ} → r ≡ cond s (cond t 4 0) (c .number) → (r ≡ 0 → ⊥) → r ≡ cond s (cond t 4 (first own)) (c .number)
-      go true true e h = e
-      go true false e h = absurd (h e)
-      go false t e h = e
+      go : (n : ℕ) (t : Bool) {r : ℕ} → r ≡ ifDone n (cond t 4 0) n → (r ≡ 0 → ⊥) → r ≡ ifDone n (cond t 4 (first own)) n
+      go zero true e h = e
+      go zero false e h = absurd (h e)
+      go (suc n) t e h = e
 
   pub own-on : (own : Tests) {r z : ℕ} → z ≡ numberOn c colour [] → z ≡ 0 → r ≡ first own → r ≡ numberOn c colour own
   own-on own e z h =
@@ -156,7 +154,7 @@ module _ (c : Canvas) (p : Point) (colour : ℕ) (b : List ℕ) {r : ℕ} (e : r
   refused-placed-on n =
       let t = inWindow (c .window) (p .0) (p .1) in
       let d = pixelDrawing p colour in
-      (λ i. (refused-placed r t n i, refused-on c d b e n i .1)) ∙ ap (λ (k : ℕ). (wasInside k t, onCanvas c d b .1)) e
+      (λ i. (record { number = r; inside = sym (not-done n t false) i }, refused-on c d b e n i .1)) ∙ ap (λ (k : ℕ). (wasInside k t, onCanvas c d b .1)) e
 
   pub placed-on : {q : Brush} {t : Bool} {after : List ℕ} → r ≡ 0 → q ≡ brushOf c colour → t ≡ inWindow (q .window) (p .0) (p .1) → after ≡ brushed q (single (p .0) (p .1)) b .1
       → _≡_ {A = Placed × List ℕ} (record { number = 0; inside = t }, after) (pixelOn c p colour b)

@@ -15,7 +15,6 @@ use Rattle.layout.proofs.Placing.{Placing}
 use Rattle.layout.proofs.Places.{Sound, placing, depth-le, pixel-in}
 use Rattle.framebuffer.specs.declared.Canvas.{Canvas}
 use Rattle.framebuffer.specs.declared.Frame.{Frame}
-use Rattle.framebuffer.specs.Answer.{sized, drawn, wasInside, read}
 use Rattle.framebuffer.specs.Description.{packedDistance, arranged, raster, size, noDistance, tooShort, sizeTests, descriptionTests, frameTests}
 use Rattle.framebuffer.specs.Judged.{Described, Accepted, overBytes, Over}
 
@@ -137,20 +136,3 @@ pub one-shifted : (d : ℕ) → d ≤ 32 → (1 * 2 ^ d) % 18446744073709551616 
 one-shifted d h =
     let m : 2 ^ d ≤ 4294967296 = pow-mono {i = d} {j = 32} h in
     ap (λ (x : ℕ). x % 18446744073709551616) (omega arith) ∙ mod-eq-of-lt (omega arith)
-
--- ---- an answer that refuses
-pub refused-size : (r bytes : ℕ) → (r ≡ 0 → ⊥) → record { number = r; bytes = 0 } ≡ sized r bytes
-refused-size zero bytes h = absurd (h refl)
-refused-size (suc r) bytes h = refl
-
-pub refused-drawn : (r count : ℕ) → (r ≡ 0 → ⊥) → record { number = r; count = 0 } ≡ drawn r count
-refused-drawn zero count h = absurd (h refl)
-refused-drawn (suc r) count h = refl
-
-pub refused-placed : (r : ℕ) (inside : Bool) → (r ≡ 0 → ⊥) → record { number = r; inside = false } ≡ wasInside r inside
-refused-placed zero inside h = absurd (h refl)
-refused-placed (suc r) inside h = refl
-
-pub refused-read : (r colour : ℕ) → (r ≡ 0 → ⊥) → record { number = r; colour = 0 } ≡ read r colour
-refused-read zero colour h = absurd (h refl)
-refused-read (suc r) colour h = refl

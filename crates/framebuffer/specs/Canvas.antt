@@ -1,10 +1,11 @@
 -- What a call on a canvas answers and leaves, wherever the canvas keeps its pixels, whichever rectangle it has and whatever it was judged by.
-use mathlib.Core.Bool.{Bool, cond, not, _&&_}
+use mathlib.Core.Bool.{Bool, not, _&&_}
 use mathlib.Core.List.{List, [], _∷_}
 use Prim.Native.Nat.{ℕ}
 use lib.Dec.{eqb}
 use lib.IntN.{natAbs}
 use Rattle.refusals.specs.First.{Tests, first}
+use Rattle.refusals.specs.Answer.{ifDone}
 use Rattle.geometry.specs.declared.Point.{Point}
 use Rattle.layout.specs.Layout.{Layout, shown}
 use Rattle.framebuffer.specs.declared.Canvas.{Canvas}
@@ -22,7 +23,7 @@ keeps c = raster (c .frame)
 
 -- a number, or where that is 0 the first of further tests
 abbrev pub behind : ℕ → Tests → ℕ
-behind n ts = cond (eqb n 0) (first ts) n
+behind n ts = ifDone n (first ts) n
 
 -- of a call that draws: the canvas's, the colour's, and those of its own
 abbrev pub numberOn : Canvas → ℕ → Tests → ℕ

@@ -1,11 +1,11 @@
 -- What a call that draws answers and leaves: one value, for every call.
-use mathlib.Core.Bool.{Bool, cond}
+use mathlib.Core.Bool.{Bool}
 use mathlib.Core.List.{List, [], _∷_, _++_}
 use Prim.Native.Nat.{ℕ}
-use lib.Dec.{eqb}
 use lib.IntN.{ℤ}
 use lib.ListN.{length}
 use Rattle.refusals.specs.First.{Tests, first}
+use Rattle.refusals.specs.Answer.{ifDone}
 use Rattle.geometry.specs.declared.Point.{Point}
 use Rattle.layout.specs.Figure.{single, everywhere}
 use Rattle.layout.specs.Count.{marked}
@@ -40,7 +40,7 @@ callTests f len d = behindThose (frameTests f len) f d
 
 -- the answer, and the bytes, by a number: with a refusal those before it, else every pixel of the frame that the figure contains gets the colour, and is counted
 abbrev pub madeOf : ℕ → Layout → (ℤ → ℤ → Bool) → ℕ → List ℕ → Drawn × List ℕ
-madeOf n l figure colour b = let m = marked l figure colour b in (drawn n (m .0), cond (eqb n 0) (m .1) b)
+madeOf n l figure colour b = let m = marked l figure colour b in (drawn n (m .0), ifDone n (m .1) b)
 
 unfoldable pub outcome : Frame → Drawing → List ℕ → Drawn × List ℕ
 outcome f d b = madeOf (first (callTests f (length b) d)) (raster f) (d .figure) (d .colour) b

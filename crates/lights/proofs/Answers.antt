@@ -1,25 +1,22 @@
 -- The number of `lit` as the code comes to it, test by test, and its answers. Assumes nothing.
-use mathlib.Core.Path.{_≡_, refl, ap, ap₂, _∙_}
+use mathlib.Core.Path.{_≡_, refl, sym, ap, ap₂, _∙_}
 use mathlib.Core.Bool.{not}
 use mathlib.Core.List.{[], _∷_}
-use Prim.Native.Nat.{ℕ, zero, suc}
+use Prim.Native.Nat.{ℕ}
 use borrow.Author.Tests.{eq-eqb, ne-eqb}
 use Rattle.refusals.specs.First.{first}
+use Rattle.refusals.proofs.Answer.{not-done}
 use Rattle.refusals.proofs.First.{refused, passed, stops, goes-on}
 use Rattle.framebuffer.specs.declared.Frame.{Frame}
 use Rattle.framebuffer.specs.Description.{frameTests}
 use Rattle.framebuffer.proofs.Refusals.{frame-numbered}
 use Rattle.lights.specs.Answer.{notOneBit, litTests, lights}
 
-refused-lights : (n k : ℕ) → (n ≡ 0 → ⊥) → record { number = n; count = 0 } ≡ lights n k
-refused-lights zero k h = absurd (h refl)
-refused-lights (suc n) k h = refl
-
 module _ (f : Frame) (len k : ℕ) {n : ℕ} (e : n ≡ first (frameTests f len)) where
   -- the frame is refused
   pub lit-refused : (n ≡ 0 → ⊥) → record { number = n; count = 0 } ≡ lights (first (litTests f len)) k
   unfolding litTests
-  lit-refused h = refused-lights n k h ∙ ap (λ (i : ℕ). lights i k) (refused (frameTests f len) _ e h)
+  lit-refused h = (λ i. record { number = n; count = sym (not-done h k 0) i }) ∙ ap (λ (i : ℕ). lights i k) (refused (frameTests f len) _ e h)
 
   module _ (z : n ≡ 0) where
     then-depth : {r : ℕ} → r ≡ first ((10, notOneBit f) ∷ []) → r ≡ first (litTests f len)

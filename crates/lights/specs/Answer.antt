@@ -1,8 +1,9 @@
 -- 02, T-02: when the lit pixels of a frame are counted, and what the count answers.
 use mathlib.Core.Bool.{Bool, not}
 use mathlib.Core.List.{[], _∷_, _++_}
-use Prim.Native.Nat.{ℕ, zero, suc}
+use Prim.Native.Nat.{ℕ}
 use lib.Dec.{eqb}
+use Rattle.refusals.specs.Answer.{ifDone}
 use Rattle.refusals.specs.First.{Tests}
 use Rattle.framebuffer.specs.declared.Frame.{Frame}
 use Rattle.framebuffer.specs.Description.{frameTests}
@@ -16,7 +17,6 @@ notOneBit f = not (eqb (f .depth) 1)
 unfoldable pub litTests : Frame → ℕ → Tests
 litTests f len = frameTests f len ++ ((10, notOneBit f) ∷ [])
 
--- the answer by its number: 0 and the count, or a refusal, with which the count is 0
+-- the answer by its number
 abbrev pub lights : ℕ → ℕ → Lights
-lights zero k = record { number = 0; count = k }
-lights (suc n) k = record { number = suc n; count = 0 }
+lights n k = record { number = n; count = ifDone n k 0 }

@@ -1,15 +1,16 @@
 -- The numbers of both operations as the code comes to them, test by test, and their answers. Assumes nothing.
 use mathlib.Core.Path.{_≡_, refl, sym, ap, ap₂, _∙_}
-use mathlib.Core.Bool.{Bool, true, false, cond, not, _||_}
+use mathlib.Core.Bool.{Bool, true, false, not, _||_}
 use mathlib.Core.List.{List, [], _∷_, _++_, append-assoc}
-use Prim.Native.Nat.{ℕ, zero, suc, _+_, _≤_, _<_}
+use Prim.Native.Nat.{ℕ, _+_, _≤_, _<_}
 use native.Mathlib.Omega.{arith}
-use lib.Dec.{eqb}
 use lib.ListN.{length, take, drop}
 use lib.Seq.{sets, sets-eq, length-sets, drop-drop}
 use borrow.Author.Tests.{lt-ltb, le-ltb}
+use Rattle.refusals.specs.Answer.{ifDone}
+use Rattle.refusals.proofs.Answer.{not-done, is-done}
 use Rattle.refusals.specs.First.{first}
-use Rattle.refusals.proofs.First.{exactly-0, refused, passed, both-pass, stops, goes-on, fails-alone, as-it-was, as-done}
+use Rattle.refusals.proofs.First.{exactly-0, refused, passed, both-pass, stops, goes-on, fails-alone}
 use Rattle.text.proofs.Writing.{sets-append}
 use Rattle.layout.specs.Packed.{rowBytes}
 use Rattle.framebuffer.specs.declared.Frame.{Frame}
@@ -23,13 +24,9 @@ use Rattle.netpbm.specs.Written.{noFormat, noRoom, imageSizeTests, write
 use Rattle.netpbm.proofs.Transfers.{big-described}
 
 -- ---- an answer by its number
-sized-number : (k b : ℕ) → sized k b .number ≡ k
-sized-number zero b = refl
-sized-number (suc k) b = refl
-
 module _ {r : Size} (k b : ℕ) (e : r ≡ sized k b) where
   pub number-of : r .number ≡ k
-  number-of = ap (λ (s : Size). s .number) e ∙ sized-number k b
+  number-of = ap (λ (s : Size). s .number) e
 
   pub bytes-of : r .number ≡ 0 → r .bytes ≡ b
   bytes-of z = ap (λ (s : Size). s .bytes) (e ∙ ap (λ (k : ℕ). sized k b) (sym number-of ∙ z))
@@ -39,11 +36,7 @@ module _ {r : Size} (k b : ℕ) (e : r ≡ sized k b) where
 
   -- a refusal is the same whatever the bytes would be
   pub refused-any : (c : ℕ) → (r .number ≡ 0 → ⊥) → r ≡ sized k c
-  refused-any c h = e ∙ any k (λ z. h (number-of ∙ z))
-    where
-      any : (k : ℕ) → (k ≡ 0 → ⊥) → sized k b ≡ sized k c
-      any zero h = absurd (h refl)
-      any (suc k) h = refl
+  refused-any c h = let no : k ≡ 0 → ⊥ = λ z. h (number-of ∙ z) in e ∙ (λ i. record { number = k; bytes = (not-done no b 0 ∙ sym (not-done no c 0)) i })
 
 -- ---- what is accepted passes
 description-passes : (f : Frame) → Described f → first (descriptionTests f) ≡ 0
@@ -121,15 +114,15 @@ module _ (f : Frame) (len room : ℕ) {n : ℕ} (e : n ≡ first (frameTests f l
 
 -- ---- the answer and the output
 module _ (f : Frame) (b out : List ℕ) {n : ℕ} (e : n ≡ first (writeTests f (length b) (length out))) {r : Size} (i : r ≡ sized n (imageLength f)) where
-  written-is : _≡_ {A = Size × List ℕ} (sized n (imageLength f), cond (eqb n 0) (sets out 0 (imageBytes f b)) out) (written f b out)
+  written-is : _≡_ {A = Size × List ℕ} (sized n (imageLength f), ifDone n (sets out 0 (imageBytes f b)) out) (written f b out)
   unfolding written
-  written-is = ap (λ (n : ℕ). (sized n (imageLength f), cond (eqb n 0) (sets out 0 (imageBytes f b)) out)) e
+  written-is = ap (λ (n : ℕ). (sized n (imageLength f), ifDone n (sets out 0 (imageBytes f b)) out)) e
 
   pub refused-written : (n ≡ 0 → ⊥) → _≡_ {A = Size × List ℕ} (r, out) (written f b out)
-  refused-written h = ap₂ (λ (s : Size) (o : List ℕ). (s, o)) i (as-it-was n (sets out 0 (imageBytes f b)) out h) ∙ written-is
+  refused-written h = ap₂ (λ (s : Size) (o : List ℕ). (s, o)) i (sym (not-done h (sets out 0 (imageBytes f b)) out)) ∙ written-is
 
   pub accepted-written : n ≡ 0 → {after : List ℕ} → after ≡ sets out 0 (imageBytes f b) → _≡_ {A = Size × List ℕ} (r, after) (written f b out)
-  accepted-written z h = ap₂ (λ (s : Size) (o : List ℕ). (s, o)) i (h ∙ as-done n (sets out 0 (imageBytes f b)) out z) ∙ written-is
+  accepted-written z h = ap₂ (λ (s : Size) (o : List ℕ). (s, o)) i (h ∙ sym (is-done z (sets out 0 (imageBytes f b)) out)) ∙ written-is
 
 -- s written from the first byte on, and t over the k bytes behind it
 pub in-part : (out s t : List ℕ) (start k : ℕ) → start ≡ length s → length t ≡ k → start + k ≤ length out

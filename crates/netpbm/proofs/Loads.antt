@@ -1,14 +1,16 @@
 -- The number of reading as the code comes to it, test by test, what it says that it is 0, and the answer. Assumes nothing.
-use mathlib.Core.Path.{_≡_, refl, ap, _∙_}
-use mathlib.Core.Bool.{true, false, cond, not}
+use mathlib.Core.Path.{_≡_, refl, sym, ap, _∙_}
+use mathlib.Core.Bool.{true, false, not}
 use mathlib.Core.List.{List, [], _∷_}
 use Prim.Native.Nat.{ℕ, _+_, _≤_, _<_}
 use lib.Dec.{eqb}
 use lib.ListN.{length}
 use borrow.Author.Tests.{lt-ltb, le-ltb, ltb-false, eqb-true, not-false}
 use Rattle.whole.proofs.Tests.{and-true}
+use Rattle.refusals.specs.Answer.{ifDone}
+use Rattle.refusals.proofs.Answer.{not-done, is-done}
 use Rattle.refusals.specs.First.{Tests, first}
-use Rattle.refusals.proofs.First.{exactly-0, both-pass, refused, passed, stops, goes-on, as-it-was, as-done}
+use Rattle.refusals.proofs.First.{exactly-0, both-pass, refused, passed, stops, goes-on}
 use Rattle.headers.specs.declared.Header.{Header}
 use Rattle.headers.specs.Header.{headerOf}
 use Rattle.layout.specs.Layout.{rendered}
@@ -97,12 +99,12 @@ module _ (f : Frame) (len : ℕ) (s : List ℕ) where
 
 -- ---- the answer and the frame's bytes
 module _ (f : Frame) (s b : List ℕ) {n : ℕ} (e : n ≡ first (loadTests f (length b) s)) where
-  loaded-is : _≡_ {A = ℕ × List ℕ} (n, cond (eqb n 0) (rendered (raster f) (filePicture f s) b) b) (loaded f s b)
+  loaded-is : _≡_ {A = ℕ × List ℕ} (n, ifDone n (rendered (raster f) (filePicture f s) b) b) (loaded f s b)
   unfolding loaded
-  loaded-is = ap (λ (n : ℕ). (n, cond (eqb n 0) (rendered (raster f) (filePicture f s) b) b)) e
+  loaded-is = ap (λ (n : ℕ). (n, ifDone n (rendered (raster f) (filePicture f s) b) b)) e
 
   pub refused-loaded : (n ≡ 0 → ⊥) → _≡_ {A = ℕ × List ℕ} (n, b) (loaded f s b)
-  refused-loaded h = ap (λ (o : List ℕ). (n, o)) (as-it-was n (rendered (raster f) (filePicture f s) b) b h) ∙ loaded-is
+  refused-loaded h = ap (λ (o : List ℕ). (n, o)) (sym (not-done h (rendered (raster f) (filePicture f s) b) b)) ∙ loaded-is
 
   pub accepted-loaded : n ≡ 0 → {after : List ℕ} → after ≡ rendered (raster f) (filePicture f s) b → _≡_ {A = ℕ × List ℕ} (n, after) (loaded f s b)
-  accepted-loaded z h = ap (λ (o : List ℕ). (n, o)) (h ∙ as-done n (rendered (raster f) (filePicture f s) b) b z) ∙ loaded-is
+  accepted-loaded z h = ap (λ (o : List ℕ). (n, o)) (h ∙ sym (is-done z (rendered (raster f) (filePicture f s) b) b)) ∙ loaded-is

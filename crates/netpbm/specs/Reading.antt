@@ -1,9 +1,10 @@
 -- 02, T-06: when a file is read into a frame, and what a call answers and leaves.
-use mathlib.Core.Bool.{Bool, cond, not, _&&_}
+use mathlib.Core.Bool.{Bool, not, _&&_}
 use mathlib.Core.List.{List, [], _∷_, _++_}
 use Prim.Native.Nat.{ℕ, _+_}
 use lib.Dec.{eqb, ltb}
 use lib.ListN.{length, drop}
+use Rattle.refusals.specs.Answer.{ifDone}
 use Rattle.refusals.specs.First.{Tests, first}
 use Rattle.headers.specs.declared.Header.{Header}
 use Rattle.headers.specs.Header.{headerOf}
@@ -37,4 +38,4 @@ filePicture f s = shown (raster (bigFirst f)) (drop (headerOf (f .depth) s .star
 
 -- the number, and the frame's bytes: with a refusal as they were, else with every pixel set, "padding in the frame kept"
 unfoldable pub loaded : Frame → List ℕ → List ℕ → ℕ × List ℕ
-loaded f s b = let n = first (loadTests f (length b) s) in (n, cond (eqb n 0) (rendered (raster f) (filePicture f s) b) b)
+loaded f s b = let n = first (loadTests f (length b) s) in (n, ifDone n (rendered (raster f) (filePicture f s) b) b)

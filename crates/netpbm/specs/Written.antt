@@ -1,11 +1,12 @@
 -- 02, T-01: when a frame is written, and what a call answers and leaves.
 use mathlib.Core.Path.{_≡_}
-use mathlib.Core.Bool.{Bool, false, cond, not, _||_}
+use mathlib.Core.Bool.{Bool, false, not, _||_}
 use mathlib.Core.List.{List, [], _∷_, _++_}
 use Prim.Native.Nat.{ℕ}
 use lib.Dec.{eqb, ltb}
 use lib.ListN.{length}
 use lib.Seq.{sets}
+use Rattle.refusals.specs.Answer.{ifDone}
 use Rattle.refusals.specs.First.{Tests, first}
 use Rattle.framebuffer.specs.declared.Frame.{Frame}
 use Rattle.framebuffer.specs.declared.Size.{Size}
@@ -34,7 +35,7 @@ writeTests f len room = frameTests f len ++ ((10, noFormat f) ∷ (9, noRoom f r
 unfoldable pub written : Frame → List ℕ → List ℕ → Size × List ℕ
 written f b out =
     let n = first (writeTests f (length b) (length out)) in
-    (sized n (imageLength f), cond (eqb n 0) (sets out 0 (imageBytes f b)) out)
+    (sized n (imageLength f), ifDone n (sets out 0 (imageBytes f b)) out)
 
 -- what is known of a frame over len bytes that has a format
 pub record Writable (f : Frame) (len : ℕ) : Type 0 where

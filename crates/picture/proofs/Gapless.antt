@@ -6,11 +6,12 @@ use mathlib.Core.List.{List, [], _∷_, _++_}
 use Prim.Native.Nat.{ℕ, zero, suc, _^_, _≤_}
 use native.Mathlib.Nat.{le-refl}
 use native.Mathlib.Omega.{arith}
-use lib.Dec.{eqb, ltb, leb}
+use lib.Dec.{ltb, leb}
 use lib.IntN.{natAbs}
 use lib.ListN.{length}
-use borrow.Author.Tests.{ltb-false, le-ltb, ne-eqb, not-false}
+use borrow.Author.Tests.{ltb-false, le-ltb, not-false}
 use Rattle.whole.proofs.Tests.{or-false}
+use Rattle.refusals.specs.Answer.{ifDone}
 use Rattle.refusals.specs.First.{Tests, first}
 use Rattle.refusals.proofs.First.{exactly-0, both-pass}
 use Rattle.geometry.specs.declared.Point.{Point}
@@ -93,14 +94,11 @@ module _ (w h d : ℕ) (big : Bool) where
   pub same-outcome : (dr : Drawing) (b : List ℕ) → outcome f dr b ≡ outcomeBefore w h d big dr b
   unfolding descriptionTests frameTests outcome
   same-outcome dr b =
-      same-value {P = ℕ × List ℕ} {A = Drawn × List ℕ} (λ n m. (drawn n (m .0), cond (eqb n 0) (m .1) b)) (λ n p q. left n p ∙ sym (left n q))
+      same-value {P = ℕ × List ℕ} {A = Drawn × List ℕ} (λ n m. (drawn n (m .0), ifDone n (m .1) b)) (λ n p q. refl)
       ((3, tooShort f (length b)) ∷ (4, leb (2 ^ d) (dr .colour)) ∷ dr .own) ((3, ltb (length b) (sizeBefore w h d)) ∷ (4, leb (2 ^ d) (dr .colour)) ∷ dr .own)
       (λ p q. ap (λ (t : Bool). first ((3, t) ∷ (4, leb (2 ^ d) (dr .colour)) ∷ dr .own)) (short-same (length b) p q))
       (marked (raster f) (dr .figure) (dr .colour) b) (marked (rasterBefore w h d big) (dr .figure) (dr .colour) b)
       (λ p q. ap (λ (l : Layout). marked l (dr .figure) (dr .colour) b) (same-raster p q))
-    where
-      left : (n : ℕ) (m : ℕ × List ℕ) → _≡_ {A = Drawn × List ℕ} (drawn (suc n) (m .0), cond (eqb (suc n) 0) (m .1) b) (drawn (suc n) 0, b)
-      left n m = ap (λ (t : Bool). (drawn (suc n) 0, cond t (m .1) b)) (ne-eqb (suc n) 0 (λ e. omega arith))
 
   pub same-read : (p : Point) (b : List ℕ) → read (first (readTests f (length b) p)) (colourAt f p b) ≡ readBefore w h d big p b
   unfolding descriptionTests frameTests readTests

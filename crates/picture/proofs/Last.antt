@@ -2,10 +2,10 @@
 use mathlib.Core.Path.{_≡_, refl, ap, _∙_}
 use mathlib.Core.Bool.{Bool, true, false, cond}
 use mathlib.Core.List.{List, [], _∷_, _++_}
-use Prim.Native.Nat.{ℕ}
-use lib.Dec.{eqb}
+use Prim.Native.Nat.{ℕ, zero, suc}
 use lib.IntN.{pos}
-use borrow.Author.Tests.{eq-eqb, eqb-true}
+use Rattle.refusals.specs.Answer.{ifDone}
+use Rattle.refusals.proofs.Answer.{is-done}
 use Rattle.layout.specs.Layout.{Picture}
 use Rattle.framebuffer.specs.declared.Frame.{Frame}
 use Rattle.framebuffer.specs.Drawing.{Drawing}
@@ -28,11 +28,11 @@ module _ (f : Frame) (n x y : ℕ) where
 
   calls-leave : (os : List Call) (g : Picture) → AllLeave os → pictureAfter f n os g x y ≡ g x y
   calls-leave [] g a = refl
-  calls-leave (o ∷ os) g a = calls-leave os (shownAfter f n o g) (a .1) ∙ by (eqb (numberOf f n o) 0) refl
+  calls-leave (o ∷ os) g a = calls-leave os (shownAfter f n o g) (a .1) ∙ by (numberOf f n o) refl
     where
-      by : (t : Bool) → eqb (numberOf f n o) 0 ≡ t → cond t (changeOf o .changes f g x y) (g x y) ≡ g x y
-      by true e = a .0 (eqb-true (numberOf f n o) 0 e) g
-      by false e = refl
+      by : (k : ℕ) → numberOf f n o ≡ k → ifDone k (changeOf o .changes f g x y) (g x y) ≡ g x y
+      by zero e = a .0 e g
+      by (suc k) e = refl
 
   after-both : (xs ys : List Call) (g : Picture) → pictureAfter f n (xs ++ ys) g ≡ pictureAfter f n ys (pictureAfter f n xs g)
   after-both [] ys g = refl
@@ -45,7 +45,7 @@ module _ (f : Frame) (n x y : ℕ) where
       let before = pictureAfter f n xs g in
       ap (λ (k : Picture). k x y) (after-both xs (o ∷ ys) g)
       ∙ calls-leave ys (shownAfter f n o before) a
-      ∙ ap (λ (t : Bool). cond t (changeOf o .changes f before x y) (before x y)) (eq-eqb (numberOf f n o) 0 z)
+      ∙ is-done z (changeOf o .changes f before x y) (before x y)
 
   -- the last accepted call whose figure contains the pixel gives it its colour
   pub last-colour : (xs ys : List Call) (o : Call) (d : Drawing) → changeOf o ≡ draws d → numberOf f n o ≡ 0 → d .figure (pos x) (pos y) ≡ true → AllLeave ys

@@ -1,11 +1,12 @@
 -- ONE PICTURE, WHATEVER THE DISTANCE AND THE ORDER: two accepted frames of one size and depth show the same picture after the same calls (02, T-07).
 -- Assumes nothing.
 use mathlib.Core.Path.{_≡_, refl, sym, ap, subst, _∙_}
-use mathlib.Core.Bool.{Bool, true, false, cond}
+use mathlib.Core.Bool.{true}
 use mathlib.Core.List.{List, [], _∷_, _++_}
-use Prim.Native.Nat.{ℕ, _^_, _<_}
-use lib.Dec.{eqb, leb}
+use Prim.Native.Nat.{ℕ, zero, suc, _^_, _<_}
+use lib.Dec.{leb}
 use lib.ListN.{length}
+use Rattle.refusals.specs.Answer.{ifDone}
 use Rattle.refusals.specs.First.{Tests, first}
 use Rattle.refusals.proofs.First.{first-append}
 use Rattle.layout.specs.Layout.{Picture, shown}
@@ -53,13 +54,13 @@ module _ (f g : Frame) (E : OneSize f g) where
   module _ (m n : ℕ) (F : first (frameTests f m) ≡ 0) (G : first (frameTests g n) ≡ 0) where
     -- a call on an accepted frame answers by its own tests
     by-own : (k : Frame) (len : ℕ) → first (frameTests k len) ≡ 0 → (ts : Tests) → first (frameTests k len ++ ts) ≡ first ts
-    by-own k len z ts = first-append (frameTests k len) ts (frame-numbered k len) ∙ ap (λ (i : ℕ). cond (eqb i 0) (first ts) i) z
+    by-own k len z ts = first-append (frameTests k len) ts (frame-numbered k len) ∙ ap (λ (i : ℕ). ifDone i (first ts) i) z
 
     pub same-number : (o : Call) → numberOf f m o ≡ numberOf g n o
     same-number o = by-own f m F (changeOf o .own f) ∙ ap first (common o .own) ∙ sym (by-own g n G (changeOf o .own g))
 
     same-shown : (o : Call) (p : Picture) → shownAfter f m o p ≡ shownAfter g n o p
-    same-shown o p i x y = cond (eqb (same-number o i) 0) (common o .changes p i x y) (p x y)
+    same-shown o p i x y = ifDone (same-number o i) (common o .changes p i x y) (p x y)
 
     pub same-picture : (os : List Call) (p : Picture) → pictureAfter f m os p ≡ pictureAfter g n os p
     same-picture [] p = refl
@@ -68,11 +69,11 @@ module _ (f g : Frame) (E : OneSize f g) where
     -- calls on pictures that agree on the frame leave such pictures
     agree-after : (os : List Call) (p q : Picture) → Agree (raster f) p q → Agree (raster f) (pictureAfter f m os p) (pictureAfter f m os q)
     agree-after [] p q a = a
-    agree-after (o ∷ os) p q a = agree-after os (shownAfter f m o p) (shownAfter f m o q) (by (eqb (numberOf f m o) 0))
+    agree-after (o ∷ os) p q a = agree-after os (shownAfter f m o p) (shownAfter f m o q) (by (numberOf f m o))
       where
-        by : (t : Bool) → Agree (raster f) (λ x y. cond t (changeOf o .changes f p x y) (p x y)) (λ x y. cond t (changeOf o .changes f q x y) (q x y))
-        by true = lawful f o .local p q a
-        by false = a
+        by : (k : ℕ) → Agree (raster f) (λ x y. ifDone k (changeOf o .changes f p x y) (p x y)) (λ x y. ifDone k (changeOf o .changes f q x y) (q x y))
+        by zero = lawful f o .local p q a
+        by (suc k) = a
 
     -- any two runs of the same calls, from buffers that show the same picture
     pub same-after-runs : {os : List Call} {a b c e : List ℕ} → length a ≡ m → length b ≡ n → Run f os a c → Run g os b e

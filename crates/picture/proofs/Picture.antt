@@ -4,13 +4,15 @@ use mathlib.Core.Path.{_≡_, refl, sym, ap, subst, _∙_}
 use mathlib.Core.Bool.{Bool, true, false, cond}
 use mathlib.Core.List.{List, [], _∷_}
 use mathlib.Core.Logic.{_↔_}
-use Prim.Native.Nat.{ℕ, _^_, _≤_, _<_}
+use Prim.Native.Nat.{ℕ, zero, suc, _^_, _≤_, _<_}
 use native.Mathlib.Nat.{one-le-pow}
-use lib.Dec.{eqb}
+use native.Mathlib.Omega.{arith}
 use lib.IntN.{pos}
 use lib.ListN.{length, drop, replicate, length-replicate}
 use lib.Pow.{pow-pos}
-use borrow.Author.Tests.{eqb-true, eqb-false, ne-eqb, leb-false}
+use borrow.Author.Tests.{leb-false}
+use Rattle.refusals.specs.Answer.{ifDone}
+use Rattle.refusals.proofs.Answer.{not-done}
 use Rattle.refusals.specs.First.{first}
 use Rattle.refusals.proofs.First.{refused, both-pass, fails-alone}
 use Rattle.layout.specs.Layout.{Picture, shown, rendered}
@@ -91,25 +93,25 @@ module _ (f : Frame) (n : ℕ) where
     after-rendered : (o : Call) (g : Picture) (b : List ℕ) → length b ≡ n → Colours f g
         → afterCall f o (rendered (raster f) g b) ≡ rendered (raster f) (shownAfter f n o g) b
     after-rendered o g b e c =
-        ap (λ (k : ℕ). cond (eqb (numberOf f k o) 0) (rendered (raster f) (changeOf o .changes f (shown (raster f) a)) a) a) (rendered-length (raster f) P g b ∙ e)
-        ∙ by (eqb (numberOf f n o) 0)
+        ap (λ (k : ℕ). ifDone (numberOf f k o) (rendered (raster f) (changeOf o .changes f (shown (raster f) a)) a) a) (rendered-length (raster f) P g b ∙ e)
+        ∙ by (numberOf f n o)
       where
         a : List ℕ
         a = rendered (raster f) g b
 
-        by : (t : Bool)
-            → cond t (rendered (raster f) (changeOf o .changes f (shown (raster f) a)) a) a ≡ rendered (raster f) (λ x y. cond t (changeOf o .changes f g x y) (g x y)) b
-        by true =
+        by : (k : ℕ)
+            → ifDone k (rendered (raster f) (changeOf o .changes f (shown (raster f) a)) a) a ≡ rendered (raster f) (λ x y. ifDone k (changeOf o .changes f g x y) (g x y)) b
+        by zero =
             rendered-again (raster f) P (changeOf o .changes f (shown (raster f) a)) g b
             ∙ rendered-cong (raster f) P _ _ b (lawful f o .local (shown (raster f) a) g (λ x y hx hy. shown-rendered (raster f) P g b (room b e) x y hx hy (c x y hx hy)))
-        by false = refl
+        by (suc k) = refl
 
     colours-after : (o : Call) (g : Picture) → Colours f g → Colours f (shownAfter f n o g)
-    colours-after o g c x y hx hy = by (eqb (numberOf f n o) 0) refl
+    colours-after o g c x y hx hy = by (numberOf f n o) refl
       where
-        by : (t : Bool) → eqb (numberOf f n o) 0 ≡ t → Colour (raster f) (cond t (changeOf o .changes f g x y) (g x y))
-        by true e = lawful f o .colours (A .described) (both-pass (frameTests f n) (changeOf o .own f) (frame-numbered f n) (eqb-true _ 0 e) .1) g c x y hx hy
-        by false e = c x y hx hy
+        by : (k : ℕ) → numberOf f n o ≡ k → Colour (raster f) (ifDone k (changeOf o .changes f g x y) (g x y))
+        by zero e = lawful f o .colours (A .described) (both-pass (frameTests f n) (changeOf o .own f) (frame-numbered f n) e .1) g c x y hx hy
+        by (suc k) e = c x y hx hy
 
     pub colours-after-calls : (os : List Call) (g : Picture) → Colours f g → Colours f (pictureAfter f n os g)
     colours-after-calls [] g c = c
@@ -143,26 +145,26 @@ module _ (f : Frame) (n : ℕ) where
 
   -- ---- another description, or too short a buffer: every call is refused
   module _ (no : first (frameTests f n) ≡ 0 → ⊥) where
-    refuses : (o : Call) → eqb (numberOf f n o) 0 ≡ false
-    refuses o = ne-eqb (numberOf f n o) 0 (λ z. no (refused (frameTests f n) (changeOf o .own f) refl no ∙ z))
+    refuses : (o : Call) → numberOf f n o ≡ 0 → ⊥
+    refuses o z = no (refused (frameTests f n) (changeOf o .own f) refl no ∙ z)
 
     pub no-bytes : (os : List Call) (b : List ℕ) → length b ≡ n → afterCalls f os b ≡ b
     no-bytes [] b e = refl
     no-bytes (o ∷ os) b e =
         let after = rendered (raster f) (changeOf o .changes f (shown (raster f) b)) b in
-        ap (afterCalls f os) (ap (λ (t : Bool). cond t after b) (ap (λ (k : ℕ). eqb (numberOf f k o) 0) e ∙ refuses o)) ∙ no-bytes os b e
+        ap (afterCalls f os) (ap (λ (k : ℕ). ifDone (numberOf f k o) after b) e ∙ not-done (refuses o) after b) ∙ no-bytes os b e
 
     pub no-pixels : (os : List Call) (before : Picture) (x y : ℕ) → pictureAfter f n os before x y ≡ before x y
     no-pixels [] before x y = refl
-    no-pixels (o ∷ os) before x y = no-pixels os (shownAfter f n o before) x y ∙ ap (λ (t : Bool). cond t (changeOf o .changes f before x y) (before x y)) (refuses o)
+    no-pixels (o ∷ os) before x y = no-pixels os (shownAfter f n o before) x y ∙ not-done (refuses o) (changeOf o .changes f before x y) (before x y)
 
   -- a description is accepted over n bytes, or every call is refused
   pub either-way : {Q : Type 0} → (Accepted f n → Q) → ((first (frameTests f n) ≡ 0 → ⊥) → Q) → Q
-  either-way {Q = Q} accepted refusing = by (eqb (first (frameTests f n)) 0) refl
+  either-way {Q = Q} accepted refusing = by (first (frameTests f n)) refl
     where
-      by : (t : Bool) → eqb (first (frameTests f n)) 0 ≡ t → Q
-      by true t = accepted (is-accepted f n (eqb-true (first (frameTests f n)) 0 t))
-      by false t = refusing (eqb-false (first (frameTests f n)) 0 t)
+      by : (k : ℕ) → first (frameTests f n) ≡ k → Q
+      by zero e = accepted (is-accepted f n e)
+      by (suc k) e = refusing (λ z. omega (arith, e, z))
 
   -- ---- ONE PICTURE, ONE FRAME, for every description, every length and any two lists of calls
   pub one-picture-one-frame : (xs ys : List Call)

@@ -1,15 +1,14 @@
 -- What a count says (02, T-02: "How much of it could be seen"): of any call that draws, over the outcome that each contract is equal to. Assumes nothing.
 use mathlib.Core.Path.{_≡_, refl, sym, ap, subst, _∙_}
-use mathlib.Core.Bool.{Bool, false, cond}
+use mathlib.Core.Bool.{false}
 use mathlib.Core.List.{List}
 use mathlib.Core.Logic.{_↔_}
 use Prim.Native.Nat.{ℕ, zero, suc, _*_, _^_, _≤_, _<_}
 use native.Mathlib.Nat.{mul-le-mul}
 use native.Mathlib.Omega.{arith}
-use lib.Dec.{eqb}
 use lib.IntN.{pos}
 use lib.ListN.{length}
-use borrow.Author.Tests.{ne-eqb}
+use Rattle.refusals.specs.Answer.{ifDone}
 use Rattle.refusals.specs.First.{first}
 use Rattle.layout.specs.Count.{pixelsIn, litIn, marked}
 use Rattle.layout.specs.Figure.{everywhere}
@@ -43,9 +42,9 @@ module _ (f : Frame) (d : Drawing) (b : List ℕ) where
   may-draw z = drawable f (length b) d refl z
 
   -- by the number
-  by-number : (n : ℕ) → number ≡ n → outcome f d b ≡ (drawn n (made .0), cond (eqb n 0) (made .1) b)
+  by-number : (n : ℕ) → number ≡ n → outcome f d b ≡ (drawn n (made .0), ifDone n (made .1) b)
   unfolding outcome
-  by-number n z = ap (λ (n : ℕ). (drawn n (made .0), cond (eqb n 0) (made .1) b)) z
+  by-number n z = ap (λ (n : ℕ). (drawn n (made .0), ifDone n (made .1) b)) z
 
   -- an accepted call: the frame's pixels that are in the figure are counted, and get the colour
   pub accepted-count : number ≡ 0 → outcome f d b ≡ (drawn 0 (pixelsIn (raster f) (d .figure)), painted (raster f) (d .figure) (d .colour) b)
@@ -62,7 +61,7 @@ module _ (f : Frame) (d : Drawing) (b : List ℕ) where
           (ap (λ (p : Drawn × List ℕ). p .0 .count) e, ap (λ (p : Drawn × List ℕ). p .1) e)
       go (suc n) z =
           let e = by-number (suc n) z in
-          (ap (λ (p : Drawn × List ℕ). p .0 .count) e, ap (λ (p : Drawn × List ℕ). p .1) e ∙ ap (λ (t : Bool). cond t (made .1) b) (ne-eqb (suc n) 0 (λ q. omega arith)))
+          (ap (λ (p : Drawn × List ℕ). p .0 .count) e, ap (λ (p : Drawn × List ℕ). p .1) e)
 
   -- the count of an accepted call is 0 exactly if no pixel of the frame is in its figure
   pub none-seen : number ≡ 0 → outcome f d b .0 .count ≡ 0 ↔ Unseen f d

@@ -1,73 +1,58 @@
 -- The calls of the theorem are the library's: what each public drawing call promises, as its source states it, is the number and the bytes of its
 -- case. Assumes nothing.
-use mathlib.Core.Path.{_≡_, refl, sym, ap, _∙_}
-use mathlib.Core.Bool.{Bool, true, false, cond}
-use mathlib.Core.List.{List, _++_}
+use mathlib.Core.Path.{_≡_, refl, ap, _∙_}
+use mathlib.Core.List.{List}
 use Prim.Native.Nat.{ℕ, zero, suc}
-use lib.Dec.{eqb}
 use lib.ListN.{length}
-use borrow.Author.Tests.{eqb-true}
-use denote.Ref.{now}
+use Rattle.refusals.specs.Answer.{ifDone}
 use Rattle.refusals.specs.First.{first}
-use Rattle.refusals.proofs.First.{both-pass}
 use Rattle.geometry.specs.declared.Point.{Point}
 use Rattle.layout.specs.Layout.{painted, shown, coloured, rendered}
 use Rattle.layout.proofs.Pictures.{painted-rendered}
 use Rattle.framebuffer.specs.declared.Frame.{Frame}
 use Rattle.framebuffer.specs.declared.Drawn.{Drawn}
 use Rattle.framebuffer.specs.declared.Placed.{Placed}
-use Rattle.framebuffer.specs.Answer.{drawn, wasInside}
-use Rattle.framebuffer.specs.Description.{raster, frameTests}
-use Rattle.framebuffer.specs.Drawing.{Drawing, pixelDrawing, callTests, outcome, pixelOutcome}
+use Rattle.framebuffer.specs.Description.{raster}
+use Rattle.framebuffer.specs.Drawing.{Drawing, callTests, outcome, pixelOutcome}
 use Rattle.framebuffer.proofs.Calls.{drawable}
-use Rattle.framebuffer.proofs.Refusals.{is-accepted, frame-numbered, sound}
+use Rattle.framebuffer.proofs.Refusals.{sound}
 use Rattle.netpbm.specs.Reading.{loadTests, loaded}
 use Rattle.drawing.specs.declared.Figure.{Figure}
 use Rattle.drawing.specs.declared.Figure.the-variants.{Pixel}
 use Rattle.drawing.specs.Drawing.{inFigure, figureDrawing}
 use Rattle.picture.specs.Calls.{Call, draw, readImage}
-use Rattle.picture.specs.Calls.{Change, draws, changeOf, numberOf, afterCall}
+use Rattle.picture.specs.Calls.{numberOf, afterCall}
 
 -- what a call o on the frame f is to do: its answer's number, and the bytes afterwards
 pub record Does (f : Frame) (o : Call) (before : List ℕ) (n : ℕ) (after : List ℕ) : Type 0 where
   pub number : n ≡ numberOf f (length before) o
   pub bytes : after ≡ afterCall f o before
 
--- an answer's number is the one that it is made by
-drawn-number : (n m : ℕ) → drawn n m .number ≡ n
-drawn-number zero m = refl
-drawn-number (suc n) m = refl
-
-placed-number : (n : ℕ) (t : Bool) → wasInside n t .number ≡ n
-placed-number zero t = refl
-placed-number (suc n) t = refl
-
 -- ---- a call that draws
 module _ (f : Frame) (g : Figure) (colour : ℕ) (b : List ℕ) where
   abbrev d : Drawing
   d = figureDrawing g colour
 
-  bytes-are : (t : Bool) → eqb (first (callTests f (length b) d)) 0 ≡ t
-      → cond t (painted (raster f) (inFigure g) colour b) b ≡ cond t (rendered (raster f) (coloured (inFigure g) colour (shown (raster f) b)) b) b
-  bytes-are true e = painted-rendered (raster f) (sound f (drawable f (length b) d refl (eqb-true _ 0 e) .accepted .described)) (inFigure g) colour b
-  bytes-are false e = refl
+  bytes-are : (n : ℕ) → first (callTests f (length b) d) ≡ n
+      → ifDone n (painted (raster f) (inFigure g) colour b) b ≡ ifDone n (rendered (raster f) (coloured (inFigure g) colour (shown (raster f) b)) b) b
+  bytes-are zero e = painted-rendered (raster f) (sound f (drawable f (length b) d refl e .accepted .described)) (inFigure g) colour b
+  bytes-are (suc n) e = refl
 
   draws-does : {n : ℕ} {after : List ℕ} → n ≡ first (callTests f (length b) d) → after ≡ outcome f d b .1 → Does f (draw g colour) b n after
   unfolding outcome
-  draws-does h k = record { number = h; bytes = k ∙ bytes-are (eqb (first (callTests f (length b) d)) 0) refl }
+  draws-does h k = record { number = h; bytes = k ∙ bytes-are (first (callTests f (length b) d)) refl }
 
   -- with a count
   pub counts-does : {r : Drawn} {after : List ℕ} → _≡_ {A = Drawn × List ℕ} (r, after) (outcome f d b) → Does f (draw g colour) b (r .number) after
   unfolding outcome
-  counts-does h = draws-does (ap (λ (p : Drawn × List ℕ). p .0 .number) h ∙ drawn-number (first (callTests f (length b) d)) _) (ap (λ (p : Drawn × List ℕ). p .1) h)
+  counts-does h = draws-does (ap (λ (p : Drawn × List ℕ). p .0 .number) h) (ap (λ (p : Drawn × List ℕ). p .1) h)
 
 -- a pixel set
 pub places-does : (f : Frame) (p : Point) (colour : ℕ) (b : List ℕ) {r : Placed} {after : List ℕ} → _≡_ {A = Placed × List ℕ} (r, after) (pixelOutcome f p colour b)
     → Does f (draw (Pixel p) colour) b (r .number) after
 unfolding pixelOutcome
 places-does f p colour b h =
-    draws-does f (Pixel p) colour b
-    (ap (λ (q : Placed × List ℕ). q .0 .number) h ∙ placed-number (first (callTests f (length b) (pixelDrawing p colour))) _) (ap (λ (q : Placed × List ℕ). q .1) h)
+    draws-does f (Pixel p) colour b (ap (λ (q : Placed × List ℕ). q .0 .number) h) (ap (λ (q : Placed × List ℕ). q .1) h)
 
 -- a read, which is such a change by its definition
 pub loads-does : (f : Frame) (s b : List ℕ) {n : ℕ} {after : List ℕ} → _≡_ {A = ℕ × List ℕ} (n, after) (loaded f s b) → Does f (readImage s) b n after

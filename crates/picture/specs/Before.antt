@@ -1,11 +1,12 @@
 -- 01's frames as they were before rows had a distance (02, T-07): each row follows the one before, and no number stands between 2 and 3.
-use mathlib.Core.Bool.{Bool, cond, not, _&&_, _||_}
+use mathlib.Core.Bool.{Bool, not, _&&_, _||_}
 use mathlib.Core.List.{List, [], _∷_, _++_}
 use Prim.Native.Nat.{ℕ, _*_, _^_}
-use lib.Dec.{eqb, leb, ltb}
+use lib.Dec.{leb, ltb}
 use lib.IntN.{pos, natAbs}
 use lib.ListN.{length}
 use Rattle.refusals.specs.First.{Tests, first}
+use Rattle.refusals.specs.Answer.{ifDone}
 use Rattle.geometry.specs.declared.Point.{Point}
 use Rattle.whole.specs.Interval.{between}
 use Rattle.layout.specs.Layout.{Layout, shown}
@@ -47,7 +48,7 @@ module _ (width height depth : ℕ) where
     outcomeBefore d b =
         let n = first (frameBefore (length b) ++ ((4, leb (2 ^ depth) (d .colour)) ∷ d .own)) in
         let m = marked rasterBefore (d .figure) (d .colour) b in
-        (drawn n (m .0), cond (eqb n 0) (m .1) b)
+        (drawn n (m .0), ifDone n (m .1) b)
 
     -- what reading a pixel answered
     abbrev pub readBefore : Point → List ℕ → Read

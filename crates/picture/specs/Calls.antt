@@ -1,10 +1,9 @@
 -- Lists of calls and of reads on one frame: what each tests and changes, the picture that a list leaves, and the bytes ("One picture, one frame").
-use mathlib.Core.Bool.{cond}
 use mathlib.Core.List.{List, [], _∷_, _++_}
 use Prim.Native.Nat.{ℕ}
-use lib.Dec.{eqb}
 use lib.ListN.{length}
 use Rattle.refusals.specs.First.{Tests, first}
+use Rattle.refusals.specs.Answer.{ifDone}
 use Rattle.layout.specs.Layout.{Picture, shown, coloured, rendered}
 use Rattle.framebuffer.specs.declared.Frame.{Frame}
 use Rattle.framebuffer.specs.Description.{raster, noColour, frameTests}
@@ -46,7 +45,7 @@ blank x y = 0
 
 -- after an accepted call a picture is the changed one; a refused call changes nothing
 abbrev pub shownAfter : Frame → ℕ → Call → Picture → Picture
-shownAfter f n o before x y = cond (eqb (numberOf f n o) 0) (changeOf o .changes f before x y) (before x y)
+shownAfter f n o before x y = ifDone (numberOf f n o) (changeOf o .changes f before x y) (before x y)
 
 -- after calls, the first of the list first
 abbrev pub pictureAfter : Frame → ℕ → List Call → Picture → Picture
@@ -56,7 +55,7 @@ pictureAfter f n (o ∷ os) before = pictureAfter f n os (shownAfter f n o befor
 -- ---- bytes
 -- after an accepted call every pixel of the frame has its colour in the changed picture; a refused call changes no byte
 abbrev pub afterCall : Frame → Call → List ℕ → List ℕ
-afterCall f o b = cond (eqb (numberOf f (length b) o) 0) (rendered (raster f) (changeOf o .changes f (shown (raster f) b)) b) b
+afterCall f o b = ifDone (numberOf f (length b) o) (rendered (raster f) (changeOf o .changes f (shown (raster f) b)) b) b
 
 abbrev pub afterCalls : Frame → List Call → List ℕ → List ℕ
 afterCalls f [] b = b

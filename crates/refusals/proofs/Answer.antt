@@ -1,5 +1,5 @@
--- An operation that refuses has no value to answer. Assumes nothing.
-use mathlib.Core.Path.{_≡_, refl}
+-- An operation answers its values where it is done, and else none. Assumes nothing.
+use mathlib.Core.Path.{_≡_, refl, ap}
 use Prim.Native.Nat.{ℕ, zero, suc}
 use Rattle.refusals.specs.Answer.{ifDone}
 
@@ -7,3 +7,6 @@ use Rattle.refusals.specs.Answer.{ifDone}
 pub not-done : {n : ℕ} → (n ≡ 0 → ⊥) → {A : Type 0} (v none : A) → ifDone n v none ≡ none
 not-done {n = zero} h v none = absurd (h refl)
 not-done {n = suc n} h v none = refl
+
+pub is-done : {n : ℕ} → n ≡ 0 → {A : Type 0} (v none : A) → ifDone n v none ≡ v
+is-done z v none = ap (λ (n : ℕ). ifDone n v none) z

@@ -4,12 +4,14 @@ use mathlib.Core.Path.{_≡_, refl, sym, ap, _∙_}
 use mathlib.Core.Bool.{Bool, true, false, cond, not, _&&_, true≢false}
 use mathlib.Core.List.{[], _∷_, _++_}
 use mathlib.Core.Logic.{_↔_}
-use Prim.Native.Nat.{ℕ, suc}
+use Prim.Native.Nat.{ℕ, zero, suc}
 use native.Mathlib.Omega.{arith}
 use lib.Dec.{eqb}
 use borrow.Author.Tests.{eqb-true, eqb-false, eq-eqb, ne-eqb, not-true}
 use Rattle.whole.proofs.Tests.{and-true}
 use Rattle.refusals.specs.First.{Tests, first, numbered}
+use Rattle.refusals.specs.Answer.{ifDone}
+use Rattle.refusals.proofs.Answer.{not-done, is-done}
 
 -- the first number is not 0, and neither are the others
 some : (n : ℕ) (ts : Tests) → not (eqb n 0) && numbered ts ≡ true → (n ≡ 0 → ⊥) × (numbered ts ≡ true)
@@ -67,9 +69,9 @@ pub first-wins : (ts : Tests) → numbered ts ≡ true → Exact ts
 first-wins ts h = record { done = exactly-0 ts h; when = λ n k. exactly n ts k }
 
 -- ---- tests after tests
-pub first-append : (xs ys : Tests) → numbered xs ≡ true → first (xs ++ ys) ≡ cond (eqb (first xs) 0) (first ys) (first xs)
+pub first-append : (xs ys : Tests) → numbered xs ≡ true → first (xs ++ ys) ≡ ifDone (first xs) (first ys) (first xs)
 first-append [] ys h = refl
-first-append ((m, true) ∷ xs) ys h = sym (ap (λ (t : Bool). cond t (first ys) m) (ne-eqb m 0 (some m xs h .0)))
+first-append ((m, true) ∷ xs) ys h = sym (not-done (some m xs h .0) (first ys) m)
 first-append ((m, false) ∷ xs) ys h = first-append xs ys (some m xs h .1)
 
 module _ (xs ys : Tests) where
@@ -84,18 +86,17 @@ module _ (xs ys : Tests) where
 
   -- it answered z, which is 0, and the second decides
   pub passed : {r z : ℕ} → numbered xs ≡ true → z ≡ first xs → z ≡ 0 → r ≡ first ys → r ≡ first (xs ++ ys)
-  passed h a z e = e ∙ sym (first-append xs ys h ∙ ap (λ (t : Bool). cond t (first ys) (first xs)) (eq-eqb (first xs) 0 (sym a ∙ z)))
+  passed h a z e = e ∙ sym (first-append xs ys h ∙ is-done (sym a ∙ z) (first ys) (first xs))
 
   -- neither refuses
   pub both-pass : numbered xs ≡ true → first (xs ++ ys) ≡ 0 → (first xs ≡ 0) × (first ys ≡ 0)
-  both-pass h z = go (eqb (first xs) 0) refl
+  both-pass h z = go (first xs) refl
     where
-      go : (t : Bool) → eqb (first xs) 0 ≡ t → (first xs ≡ 0) × (first ys ≡ 0)
-      go true e =
-          (eqb-true (first xs) 0 e, sym (ap (λ (t : Bool). cond t (first ys) (first xs)) e) ∙ sym (first-append xs ys h) ∙ z)
-      go false e =
-          let n : first xs ≡ 0 → ⊥ = eqb-false (first xs) 0 e in
-          absurd (n (refused refl n ∙ z))
+      go : (n : ℕ) → first xs ≡ n → (first xs ≡ 0) × (first ys ≡ 0)
+      go zero e = (e, sym (is-done e (first ys) (first xs)) ∙ sym (first-append xs ys h) ∙ z)
+      go (suc n) e =
+          let some : first xs ≡ 0 → ⊥ = λ y. omega (arith, e, y) in
+          absurd (some (refused refl some ∙ z))
 
 -- ---- one test, as code asks it: `if test { return n; }`, and the rest
 module _ (n : ℕ) (t : Bool) (ts : Tests) where
@@ -109,11 +110,3 @@ module _ (n : ℕ) (t : Bool) (ts : Tests) where
 pub fails-alone : (n : ℕ) (t : Bool) → cond t (suc n) 0 ≡ 0 → t ≡ false
 fails-alone n true e = absurd (let z : suc n ≡ 0 = e in omega arith)
 fails-alone n false e = refl
-
--- ---- what is left, by the number: with a refusal what there was, else what is done
-module _ {A : Type 0} (n : ℕ) (done before : A) where
-  pub as-it-was : (n ≡ 0 → ⊥) → before ≡ cond (eqb n 0) done before
-  as-it-was h = sym (ap (λ (t : Bool). cond t done before) (ne-eqb n 0 h))
-
-  pub as-done : n ≡ 0 → done ≡ cond (eqb n 0) done before
-  as-done z = sym (ap (λ (t : Bool). cond t done before) (eq-eqb n 0 z))

@@ -9,23 +9,19 @@ use mir.Val.{toZ, ofZ}
 use borrow.Author.Needs.{needs}
 use borrow.Author.Tests.{not-true, not-false}
 use Rattle.whole.proofs.Machine.{field-back}
+use Rattle.refusals.proofs.Answer.{not-done}
 use Rattle.layout.specs.Layout.{getPixel, shown}
 use Rattle.framebuffer.specs.Answer.{read}
 use Rattle.framebuffer.specs.Canvas.{keeps, behind, readOn}
 use Rattle.framebuffer.specs.Window.{inWindow}
-use Rattle.framebuffer.proofs.Refusals.{refused-read}
 use Rattle.framebuffer.proofs.Windows.{within-small, window-pos, cast-fits, point-in}
-use Rattle.framebuffer.proofs.Calls.{behind-0, behind-n}
+use Rattle.framebuffer.proofs.Calls.{behind-0}
 use Rattle.framebuffer.proofs.pixel_on.Statement.{statement}
 use Rattle.framebuffer.proofs.pixel_on.Tie as tie
 
 returns : tie.Need-returns
 unfolding readOn
-returns c =
-    let a = c .before .before .args in
-    refused-read (a .canvas .number) (shown (keeps (a .canvas)) (a .buf .now) (natAbs (a .p .0)) (natAbs (a .p .1))) (c .if1 .taken)
-    ∙ ap (λ (n : ℕ). read n (shown (keeps (a .canvas)) (a .buf .now) (natAbs (a .p .0)) (natAbs (a .p .1))))
-    (behind-n (a .canvas .number) ((8, not (inWindow (a .canvas .window) (a .p .0) (a .p .1))) ∷ []) (c .if1 .taken))
+returns c = simp (not-done (c .if1 .taken))
 
 holds-requires : tie.Need-holds-requires
 holds-requires c κs =

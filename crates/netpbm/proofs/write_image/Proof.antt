@@ -7,10 +7,10 @@ use lib.ListN.{length, take, drop, length-drop}
 use lib.Seq.{length-take-le}
 use borrow.Author.Needs.{needs}
 use Rattle.refusals.specs.First.{first}
+use Rattle.refusals.proofs.Answer.{not-done}
 use Rattle.framebuffer.specs.declared.Frame.{Frame}
 use Rattle.framebuffer.specs.Answer.{sized}
 use Rattle.framebuffer.specs.Description.{size}
-use Rattle.framebuffer.proofs.Refusals.{refused-size}
 use Rattle.netpbm.specs.Image.{header, bigFirst, pixels, imageBytes, imageLength}
 use Rattle.netpbm.specs.Written.{imageSizeTests, writeTests, Writable}
 use Rattle.netpbm.specs.Words.{Alike, transferred, maskedRows}
@@ -81,7 +81,7 @@ returns c =
     let a = c .before .before .before .before .args in
     let r = c .before .frame-refusal in
     refused-written (a .frame) (a .buf .now) (a .out .now) (by-frame (a .frame) (length (a .buf .now)) (length (a .out .now)) (r .ensures) (c .if1 .taken))
-    (refused-size (r .result) (imageLength (a .frame)) (c .if1 .taken)) (c .if1 .taken)
+    (λ i. record { number = r .result; bytes = sym (not-done (c .if1 .taken) (imageLength (a .frame)) 0) i }) (c .if1 .taken)
 
 image-size-requires : tie.Need-image-size-requires
 image-size-requires c κs = search needs

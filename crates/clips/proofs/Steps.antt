@@ -7,7 +7,7 @@ use Prim.Native.Nat.{ℕ, _+_, _-_, _≤_, _<_, max, min}
 use native.Mathlib.Omega.{arith}
 use borrow.Author.Tests.{leb-true, leb-false, ltb-true, le-leb, lt-leb, lt-ltb, le-ltb}
 use lib.Dec.{leb, ltb}
-use lib.IntN.{ℤ, pos, natAbs, _+ℤ_, _-ℤ_, _*ℤ_}
+use lib.IntN.{ℤ, pos, _+ℤ_, _*ℤ_}
 use lib.Signed.{leZ, ltZ}
 use mir.Syntax.{w32}
 use mir.Val.{toZ, ofZ}
@@ -17,9 +17,9 @@ use Rattle.whole.proofs.Tests.{same-test, and-true, true-and, lt-or-ge}
 use Rattle.geometry.specs.declared.Point.{Point}
 use Rattle.geometry.specs.Bound.{Coord}
 use Rattle.geometry.proofs.Bound.{coord}
-use Rattle.line.specs.Line.{toward, moves, wide, high, steep, major, points, pointAt}
+use Rattle.line.specs.Line.{toward, moves, wide, high, steep, major, minor, xMoves, yMoves, points, pointAt}
 use Rattle.line.specs.Reach.{reachFrom}
-use Rattle.line.proofs.Lengths.{major-by, x-by, y-by}
+use Rattle.line.proofs.Lengths.{major-by, minor-by, x-by, y-by}
 use Rattle.line.proofs.Moves.{moves-minor}
 use Rattle.line.proofs.Reach.{from-wide, from-exactly}
 use Rattle.connected.specs.Connected.{besideBoth, indexOf, lastIndex, connectedPoints, pointsBefore, alike, extraAt, connectedAt}
@@ -29,26 +29,20 @@ use Rattle.framebuffer.specs.declared.Window.{Window}
 use Rattle.framebuffer.specs.Interval.{onFrom, come, stays}
 use Rattle.framebuffer.specs.Window.{inWindow}
 use Rattle.framebuffer.proofs.Interval.{isStep, held-exactly, one-interval, step-before, step-after}
-use Rattle.clips.specs.Steps.{axisOf, axisFrom, axisPast, AxisSteps, LineSteps, Common, comeAlong, staysAlong, InnerSteps}
+use Rattle.clips.specs.declared.Axes.{Axes}
+use Rattle.clips.specs.Steps.{axisOf, axisFrom, axisPast, AxisSteps, AxesOf, LineSteps, Common, comeAlong, staysAlong, InnerSteps}
 
 -- ---- a coordinate as it is read
 pub coord-read : {z : ℤ} → Coord z → Coord (toZ w32 (ofZ w32 z))
 coord-read h = subst Coord (sym (back (coord h) .is)) h
 
--- ---- how many moves are made along an axis
-abbrev pub axisLength : Bool → Point → Point → ℕ
-axisLength b s e = natAbs (axisOf b e -ℤ axisOf b s)
-
-pub axis-length : (b : Bool) (s e : Point) → axisLength b s e ≡ cond b (high s e) (wide s e)
-unfolding wide high
-axis-length true s e = refl
-axis-length false s e = refl
-
--- ---- the steps along the axis that was found
-pub line-steps : (q : Window) (s e : Point) (b : Bool) → steep s e ≡ b → {t : Steps} → AxisSteps b q s e (axisLength b s e + 1) t → LineSteps q s e t
-line-steps q s e b axis {t} h =
-    let found = subst (λ (b : Bool). AxisSteps b q s e (axisLength b s e + 1) t) (sym axis) h in
-    record { held = subst (λ (n : ℕ). AxisSteps (steep s e) q s e (n + 1) t) (axis-length (steep s e) s e ∙ sym (major-by s e (steep s e) refl)) found }
+-- ---- the moves along both axes, b being the one that was found to be the major
+pub axes-of : (q : Window) (s e : Point) (b : Bool) → steep s e ≡ b → {r : Axes} → r .major ≡ cond b (high s e) (wide s e) → r .minor ≡ cond b (wide s e) (high s e)
+    → AxisSteps b q s e (cond b (high s e) (wide s e) + 1) (r .along) → AxisSteps (not b) q s e (cond b (wide s e) (high s e) + 1) (r .across) → AxesOf q s e r
+axes-of q s e b axis M n h g =
+    let long = major-by s e b axis in
+    let short = minor-by s e b axis in
+    record { length = M ∙ sym long; breadth = n ∙ sym short; along = rw (axis, long) h; across = rw (axis, short) g }
 
 -- ---- along the major axis one step is one place
 place-on : (s e : Point) (b : Bool) → steep s e ≡ b → (k : ℕ) → axisOf b (pointAt s e k) ≡ onFrom (leZ (axisOf b s) (axisOf b e)) (axisOf b s) k
@@ -215,38 +209,37 @@ in-order f false = refl
 
 -- after k moves along it, there are so many along the other
 minor-on : (s e : Point) (b : Bool) → steep s e ≡ b → (k : ℕ)
-    → axisOf (not b) (pointAt s e k) ≡ onFrom (leZ (axisOf (not b) s) (axisOf (not b) e)) (axisOf (not b) s) (moves (axisLength b s e) (axisLength (not b) s e) k)
-unfolding pointAt wide high
-minor-on s e true axis k = ap (λ (n : ℕ). s .0 +ℤ toward (s .0) (e .0) *ℤ pos n) (x-by s e true axis k)
-minor-on s e false axis k = ap (λ (n : ℕ). s .1 +ℤ toward (s .1) (e .1) *ℤ pos n) (y-by s e false axis k)
+    → axisOf (not b) (pointAt s e k) ≡ onFrom (leZ (axisOf (not b) s) (axisOf (not b) e)) (axisOf (not b) s) (moves (major s e) (minor s e) k)
+unfolding pointAt xMoves yMoves
+minor-on s e true axis k = ap (λ (b : Bool). s .0 +ℤ toward (s .0) (e .0) *ℤ pos (cond b (moves (major s e) (minor s e) k) k)) axis
+minor-on s e false axis k = ap (λ (b : Bool). s .1 +ℤ toward (s .1) (e .1) *ℤ pos (cond b k (moves (major s e) (minor s e) k))) axis
 
-module _ (q : Window) (s e : Point) (b : Bool) (axis : steep s e ≡ b) where
-  pub inner-steps : {along across t : Steps} → AxisSteps b q s e (axisLength b s e + 1) along → AxisSteps (not b) q s e (axisLength (not b) s e + 1) across
-      → Common (axisLength b s e) (axisLength (not b) s e) along across t → InnerSteps q s e t
-  inner-steps {along} {across} h g both =
+module _ {q : Window} {s e : Point} {r : Axes} (A : AxesOf q s e r) where
+  abbrev b : Bool
+  b = steep s e
+
+  pub inner-steps : {t : Steps} → Common (r .major) (r .minor) (r .along) (r .across) t → InnerSteps q s e t
+  inner-steps {t} common =
       record {
-        first = omega (arith, both .first, length);
-        most = omega (arith, both .most, length);
+        first = omega (arith, both .first);
+        most = omega (arith, both .most);
         begins =
-            λ k few. both .begins k (on few)
-            ∙ ap₂ _&&_ (h .begins k (omega (arith, on few)) ∙ ap (come (leZ (axisOf b s) (axisOf b e)) (axisFrom b q) (axisPast b q)) (sym (place-on s e b axis k)))
-            (g .begins _ (made few) ∙ ap (come (leZ (axisOf (not b) s) (axisOf (not b) e)) (axisFrom (not b) q) (axisPast (not b) q)) (sym (minor-on s e b axis k)))
+            λ k few. both .begins k (omega arith)
+            ∙ ap₂ _&&_ (A .along .begins k few ∙ ap (come (leZ (axisOf b s) (axisOf b e)) (axisFrom b q) (axisPast b q)) (sym (place-on s e b refl k)))
+            (A .across .begins _ (made few) ∙ ap (come (leZ (axisOf (not b) s) (axisOf (not b) e)) (axisFrom (not b) q) (axisPast (not b) q)) (sym (minor-on s e b refl k)))
             ∙ in-order (λ c. comeAlong c q s e (pointAt s e k)) b;
         ends =
-            λ k few. both .ends k (on few)
-            ∙ ap₂ _&&_ (h .ends k (omega (arith, on few)) ∙ ap (stays (leZ (axisOf b s) (axisOf b e)) (axisFrom b q) (axisPast b q)) (sym (place-on s e b axis k)))
-            (g .ends _ (made few) ∙ ap (stays (leZ (axisOf (not b) s) (axisOf (not b) e)) (axisFrom (not b) q) (axisPast (not b) q)) (sym (minor-on s e b axis k)))
+            λ k few. both .ends k (omega arith)
+            ∙ ap₂ _&&_ (A .along .ends k few ∙ ap (stays (leZ (axisOf b s) (axisOf b e)) (axisFrom b q) (axisPast b q)) (sym (place-on s e b refl k)))
+            (A .across .ends _ (made few) ∙ ap (stays (leZ (axisOf (not b) s) (axisOf (not b) e)) (axisFrom (not b) q) (axisPast (not b) q)) (sym (minor-on s e b refl k)))
             ∙ in-order (λ c. staysAlong c q s e (pointAt s e k)) b;
       }
     where
-      length : axisLength b s e ≡ major s e
-      length = axis-length b s e ∙ sym (major-by s e b axis)
+      both : Common (major s e) (minor s e) (r .along) (r .across) t
+      both = rw (A .length, A .breadth) at common
 
-      on : {k : ℕ} → k < points s e → k ≤ axisLength b s e
-      on few = omega (arith, length)
-
-      made : {k : ℕ} → k < points s e → moves (axisLength b s e) (axisLength (not b) s e) k < axisLength (not b) s e + 1
-      made {k} few = omega (arith, moves-minor (axisLength b s e) (axisLength (not b) s e) k (on few))
+      made : {k : ℕ} → k < points s e → moves (major s e) (minor s e) k < minor s e + 1
+      made {k} few = omega (arith, moves-minor (major s e) (minor s e) k (omega arith))
 
 -- ---- exactly these steps lead into the rectangle
 come-stays : (g : Bool) (low high : ℕ) (z : ℤ) → (come g low high z && stays g low high z) ≡ between (pos low) (pos high) z

@@ -1,15 +1,16 @@
 -- The steps of a line that a rectangle holds: both coordinates move one way only, and the major one by one place at each step, so that these are an interval.
 use mathlib.Core.Path.{_≡_}
-use mathlib.Core.Bool.{Bool, true, false, cond, _&&_}
+use mathlib.Core.Bool.{Bool, true, false, cond, not, _&&_}
 use Prim.Native.Nat.{ℕ, _+_, _≤_, _<_}
 use lib.Dec.{leb, ltb}
 use lib.IntN.{ℤ}
 use lib.Signed.{leZ}
 use Rattle.geometry.specs.declared.Point.{Point}
-use Rattle.line.specs.Line.{moves, steep, points, pointAt}
+use Rattle.line.specs.Line.{moves, steep, major, minor, points, pointAt}
 use Rattle.framebuffer.specs.declared.Steps.{Steps}
 use Rattle.framebuffer.specs.declared.Window.{Window}
 use Rattle.framebuffer.specs.Interval.{come, stays, Held}
+use Rattle.clips.specs.declared.Axes.{Axes}
 
 -- along an axis, that of rows if b and else that of columns: the coordinate of a place
 abbrev pub axisOf : Bool → Point → ℤ
@@ -25,6 +26,13 @@ axisPast b q = cond b (q .bottom) (q .right)
 -- the steps of count from s to e at which a rectangle has the coordinate
 abbrev pub AxisSteps : Bool → Window → Point → Point → ℕ → Steps → Type 0
 AxisSteps b q s e count t = Held (axisOf b s) (leZ (axisOf b s) (axisOf b e)) (axisFrom b q) (axisPast b q) count t
+
+-- r are a line's moves along both axes
+pub record AxesOf (q : Window) (s e : Point) (r : Axes) : Type 0 where
+  pub length : r .major ≡ major s e
+  pub breadth : r .minor ≡ minor s e
+  pub along : AxisSteps (steep s e) q s e (major s e + 1) (r .along)
+  pub across : AxisSteps (not (steep s e)) q s e (minor s e + 1) (r .across)
 
 -- t are exactly the line's steps at which it has that of the major axis
 pub record LineSteps (q : Window) (s e : Point) (t : Steps) : Type 0 where

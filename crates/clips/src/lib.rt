@@ -8,10 +8,18 @@ ghost use lib.Signed.{leZ};
 ghost use Rattle.geometry.specs.Bound.{Coord, Bounded};
 ghost use Rattle.line.specs.Line.{moves};
 ghost use Rattle.framebuffer.specs.Interval.{Held};
-ghost use Rattle.clips.specs.Steps.{LineSteps, Common, InnerSteps};
+ghost use Rattle.clips.specs.Steps.{AxesOf, LineSteps, Common, InnerSteps};
 use framebuffer::Steps;
 use framebuffer::Window;
 use geometry::Point;
+
+// The moves of a line along its major axis and those across it, along the minor one: how many, and those that lead to a coordinate of the rectangle's.
+struct Axes {
+    major: u32,
+    minor: u32,
+    along: Steps,
+    across: Steps,
+}
 
 // Of the moves of a coordinate from a to b, one place each, those that lead to a place from low to one before high.
 fn axis_steps(a: i32, b: i32, low: u32, high: u32) -> Steps
@@ -21,21 +29,42 @@ fn axis_steps(a: i32, b: i32, low: u32, high: u32) -> Steps
     framebuffer::held(a, a <= b, low, high, line::distance(a, b) as u32 + 1)
 }
 
-// Inside the library: the steps of an accepted line on which its major coordinate is one of the rectangle's. No other step leads into the rectangle.
-pub fn line_steps(window: Window, start: Point, end: Point) -> Steps
+// The moves of an accepted line along both axes.
+fn axes_of(window: Window, start: Point, end: Point) -> Axes
     requires { ⌜ ((window .left ≤ window .right) × (window .right ≤ 2048) × (window .top ≤ window .bottom) × (window .bottom ≤ 2048)) × (Bounded start × Bounded end) ⌝ }
-    ensures { λ r. ⌜ LineSteps window start end r ⌝ }
+    ensures { λ r. ⌜ AxesOf window start end r ⌝ }
 {
     let x0 = start.0;
     let y0 = start.1;
     let x1 = end.0;
     let y1 = end.1;
-    let wide = line::distance(x0, x1);
-    let high = line::distance(y0, y1);
+    let wide = line::distance(x0, x1) as u32;
+    let high = line::distance(y0, y1) as u32;
+    let columns = axis_steps(x0, x1, window.left, window.right);
+    let rows = axis_steps(y0, y1, window.top, window.bottom);
     if wide <= high {
-        return axis_steps(y0, y1, window.top, window.bottom);
+        return Axes {
+            major: high,
+            minor: wide,
+            along: rows,
+            across: columns,
+        };
     }
-    axis_steps(x0, x1, window.left, window.right)
+    Axes {
+        major: wide,
+        minor: high,
+        along: columns,
+        across: rows,
+    }
+}
+
+// Inside the library: the steps of an accepted line on which its major coordinate is one of the rectangle's. No other step leads into the rectangle.
+pub fn line_steps(window: Window, start: Point, end: Point) -> Steps
+    requires { ⌜ ((window .left ≤ window .right) × (window .right ≤ 2048) × (window .top ≤ window .bottom) × (window .bottom ≤ 2048)) × (Bounded start × Bounded end) ⌝ }
+    ensures { λ r. ⌜ LineSteps window start end r ⌝ }
+{
+    let axes = axes_of(window, start, end);
+    axes.along
 }
 
 fn larger(a: u32, b: u32) -> u32
@@ -80,16 +109,8 @@ pub fn inner_steps(window: Window, start: Point, end: Point) -> Steps
     requires { ⌜ ((window .left ≤ window .right) × (window .right ≤ 2048) × (window .top ≤ window .bottom) × (window .bottom ≤ 2048)) × (Bounded start × Bounded end) ⌝ }
     ensures { λ r. ⌜ InnerSteps window start end r ⌝ }
 {
-    let x0 = start.0;
-    let y0 = start.1;
-    let x1 = end.0;
-    let y1 = end.1;
-    let wide = line::distance(x0, x1) as u32;
-    let high = line::distance(y0, y1) as u32;
-    let columns = axis_steps(x0, x1, window.left, window.right);
-    let rows = axis_steps(y0, y1, window.top, window.bottom);
-    if wide <= high {
-        return common_steps(high, wide, rows, columns);
-    }
-    common_steps(wide, high, columns, rows)
+    let axes = axes_of(window, start, end);
+    let along = axes.along;
+    let across = axes.across;
+    common_steps(axes.major, axes.minor, along, across)
 }

@@ -33,7 +33,7 @@ use Rattle.framebuffer.specs.declared.Read.{Read}
 use Rattle.framebuffer.specs.Answer.{wasInside, read}
 use Rattle.framebuffer.specs.Description.{described, raster, noColour, isOutside, frameTests, readTests, colourAt}
 use Rattle.framebuffer.specs.Drawing.{Drawing, pixelDrawing, fillDrawing, behindThose, callTests, madeOf, outcome, pixelOutcome}
-use Rattle.framebuffer.specs.Judged.{Drawable, overBytes, Judged, Ready, brushOf, brushed}
+use Rattle.framebuffer.specs.Judged.{Described, Drawable, overBytes, Judged, Ready, brushOf, brushed}
 use Rattle.framebuffer.specs.Canvas.{keeps, behind, numberOn, onCanvas, pixelOn, readOn, hasAll}
 use Rattle.framebuffer.specs.Window.{inWindow, heldBy, wholeWindow}
 use Rattle.framebuffer.proofs.Refusals.{sound, frame-numbered, is-accepted}
@@ -87,6 +87,10 @@ pixel-apart f p colour b e h k said =
     said ∙ (λ i. pixelOutcome (described (f .width) (f .height) (sym e i) (f .big) (f .distance)) (field-back w32 (p .0) h i, field-back w32 (p .1) k i) colour b)
 
 -- ---- on a canvas
+-- of a canvas that was judged the frame is described where its number is 0
+pub described-on : {c : Canvas} {len : ℕ} → Judged c len → c .number ≡ 0 → Described (c .frame)
+described-on J z = J .accepted z .described
+
 -- its number, or further tests
 pub behind-0 : (n : ℕ) (ts : Tests) {r : ℕ} → n ≡ 0 → r ≡ first ts → r ≡ behind n ts
 behind-0 n ts z e = e ∙ sym (is-done z (first ts) n)
@@ -249,5 +253,7 @@ judged-read f p b e h =
     h ∙ ap (λ (c : Canvas). readOn c p b) e
     ∙ ap (λ (n : ℕ). read n (colourAt f p b)) (sym (first-append (frameTests f (length b)) ((8, isOutside f p) ∷ []) (frame-numbered f (length b))))
 
--- what answers the needs of a call
-pub ruleset calls = (first-on, own-on, ready-on, passed-on, refused-on, brushed-on)
+-- what answers the needs of a call on a canvas, and of one that judges its frame first
+pub ruleset calls = (described-on, first-on, own-on, drawable-on, ready-on, passed-on, refused-on, brushed-on, refused-placed-on, placed-on)
+
+pub ruleset judging = (is-judged, judged-outcome, judged-placed, judged-read)

@@ -19,11 +19,11 @@ use Rattle.drawing.proofs.circle_on.Statement.{statement}
 use Rattle.drawing.proofs.circle_on.Tie as tie
 
 circle-number-requires : tie.Need-circle-number-requires
-circle-number-requires c κs = λ z. c .before .pre .accepted z .described
+circle-number-requires c κs = search calls
 
 -- refused
 returns : tie.Need-returns
-returns c = let n = c .before .circle-number .ensures in search calls
+returns c = search calls
 
 -- accepted: the tests of the frame, the colour and the circle are passed
 accepted-covers-requires : tie.Need-accepted-covers-requires
@@ -38,13 +38,13 @@ brush-requires : tie.Need-brush-requires
 brush-requires c κs = search needs
 
 fill-circle-requires : tie.Need-fill-circle-requires
-fill-circle-requires c κs = let n = c .before .before .before .before .before .before .circle-number .ensures in (search calls, is-accepted _ _ (search calls))
+fill-circle-requires c κs = (search calls, is-accepted _ _ (search calls))
 
 same-length : tie.Need-same-length
 same-length c = search needs
 
 returns-2 : tie.Need-returns-2
-returns-2 c = let n = c .before .before .before .before .before .before .before .before .before .circle-number .ensures in search calls
+returns-2 c = search calls
 
 -- it contains the whole frame
 fill-on-requires : tie.Need-fill-on-requires

@@ -5,25 +5,5 @@ use Rattle.framebuffer.proofs.Calls.{calls}
 use Rattle.drawing.proofs.outline_on.Statement.{statement}
 use Rattle.drawing.proofs.outline_on.Tie as tie
 
-triangle-number-requires : tie.Need-triangle-number-requires
-triangle-number-requires c κs = λ z. c .before .pre .accepted z .described
-
--- refused
-returns : tie.Need-returns
-returns c = let n = c .before .triangle-number .ensures in search calls
-
-brush-requires : tie.Need-brush-requires
-brush-requires c κs = search needs
-
-draw-edges-requires : tie.Need-draw-edges-requires
-draw-edges-requires c κs = let n = c .before .before .before .triangle-number .ensures in (search calls, is-accepted _ _ _ (search calls))
-
-same-length : tie.Need-same-length
-same-length c = search needs
-
--- accepted
-returns-2 : tie.Need-returns-2
-returns-2 c = let n = c .before .before .before .before .before .before .triangle-number .ensures in search calls
-
 pub outline-on-spec : {M : Type 1} → statement M
-outline-on-spec = tie.close (tie.spec triangle-number-requires returns brush-requires draw-edges-requires same-length returns-2)
+outline-on-spec = tie.close (tie.spec (λ c κs. search calls) (λ c. search calls) (λ c κs. search needs) (λ c κs. (search calls, is-accepted _ _ _ (search calls))) (λ c. search needs) (λ c. search calls))

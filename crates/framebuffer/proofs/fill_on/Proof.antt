@@ -1,23 +1,18 @@
 -- `framebuffer::fill_on` answers its number, and where that is 0 fills the rectangle, the whole frame at once. Assumes nothing.
 use mathlib.Core.Path.{refl, sym, _∙_}
-use mathlib.Core.List.{[]}
 use native.Mathlib.Omega.{arith}
 use borrow.Author.Needs.{needs}
 use borrow.Author.Tests.{not-false}
-use Rattle.framebuffer.specs.Drawing.{fillDrawing}
-use Rattle.framebuffer.proofs.Calls.{drawable-on, ready-on, refused-on, brushed-on, whole-fits, filled-on}
+use Rattle.framebuffer.proofs.Calls.{calls, whole-fits, filled-on}
 use Rattle.framebuffer.proofs.fill_on.Statement.{statement}
 use Rattle.framebuffer.proofs.fill_on.Tie as tie
 
 colour-refusal-requires : tie.Need-colour-refusal-requires
-colour-refusal-requires c κs = λ z. c .before .pre .accepted z .described
+colour-refusal-requires c κs = search calls
 
 -- refused
 returns : tie.Need-returns
-returns c =
-    let n = c .before in
-    let a = n .before .before .args in
-    refused-on (a .canvas) (fillDrawing (a .colour)) (a .buf .now) (n .colour-refusal .ensures) (c .if1 .taken)
+returns c = search calls
 
 is-whole-requires : tie.Need-is-whole-requires
 is-whole-requires c κs = search needs
@@ -27,30 +22,17 @@ brush-requires : tie.Need-brush-requires
 brush-requires c κs = search needs
 
 fill-rows-requires : tie.Need-fill-rows-requires
-fill-rows-requires c κs =
-    let go = c .before .before .before .before in
-    let n = go .before in
-    let s = n .before .before in
-    ready-on (s .args .canvas) (s .args .colour) [] (s .pre) (c .brush .ensures) (n .colour-refusal .ensures) (go .if1 .left)
+fill-rows-requires c κs = search calls
 
 same-length : tie.Need-same-length
 same-length c = search needs
 
 returns-2 : tie.Need-returns-2
-returns-2 c =
-    let fill = c .before .before in
-    let go = fill .before .before .before .before .before in
-    let n = go .before in
-    let a = n .before .before .args in
-    brushed-on (a .canvas) (fillDrawing (a .colour)) (a .buf .now) (n .colour-refusal .ensures) (go .if1 .left) (fill .before .brush .ensures) (fill .fill-rows .ensures)
+returns-2 c = search calls
 
 -- all of it
 fill-frame-requires : tie.Need-fill-frame-requires
-fill-frame-requires c κs =
-    let go = c .before .before .before .before in
-    let n = go .before in
-    let s = n .before .before in
-    drawable-on (s .args .canvas) (s .args .colour) [] (s .pre) (n .colour-refusal .ensures) (go .if1 .left)
+fill-frame-requires c κs = search calls
 
 mul-t15 : tie.Need-mul-t15
 mul-t15 c = omega (arith, whole-fits (fill-frame-requires (c .before .before .before .before) (c .before .before .before .before .before .before .before .before .before .before .before .κs)))

@@ -31,12 +31,12 @@ use Rattle.framebuffer.specs.declared.Drawn.{Drawn}
 use Rattle.framebuffer.specs.declared.Placed.{Placed}
 use Rattle.framebuffer.specs.declared.Read.{Read}
 use Rattle.framebuffer.specs.Answer.{wasInside, read}
-use Rattle.framebuffer.specs.Description.{described, raster, noColour, isOutside, frameTests, readTests, colourAt}
+use Rattle.framebuffer.specs.Description.{atDepth, raster, noColour, isOutside, frameTests, readTests, colourAt}
 use Rattle.framebuffer.specs.Drawing.{Drawing, pixelDrawing, fillDrawing, behindThose, callTests, madeOf, outcome, pixelOutcome}
 use Rattle.framebuffer.specs.Judged.{Described, Drawable, overBytes, Judged, Ready, brushOf, brushed}
 use Rattle.framebuffer.specs.Canvas.{keeps, behind, numberOn, onCanvas, pixelOn, readOn, hasAll}
 use Rattle.framebuffer.specs.Window.{inWindow, heldBy, wholeWindow}
-use Rattle.framebuffer.proofs.Refusals.{sound, frame-numbered, is-accepted}
+use Rattle.framebuffer.proofs.Refusals.{sound, same-depth, frame-numbered, is-accepted}
 use Rattle.framebuffer.proofs.Windows.{all-within, marked-all}
 
 -- ---- what a number makes of a figure
@@ -81,10 +81,10 @@ module _ (f : Frame) (d : Drawing) (b : List ℕ) {r : ℕ} (e : r ≡ first (ca
 -- a pixel set, with the frame's depth and the place's coordinates handed on by themselves
 pub pixel-apart : (f : Frame) (p : Point) (colour : ℕ) (b : List ℕ) {d : ℕ} {r : Placed} {after : List ℕ} → f .depth ≡ d → mag (p .0) < 2 ^ hbits w32 → mag (p .1) < 2 ^ hbits w32
     → _≡_ {A = Placed × List ℕ} (r, after)
-    (pixelOutcome (described (f .width) (f .height) d (f .big) (f .distance)) (toZ w32 (ofZ w32 (p .0)), toZ w32 (ofZ w32 (p .1))) colour b)
+    (pixelOutcome (atDepth d f) (toZ w32 (ofZ w32 (p .0)), toZ w32 (ofZ w32 (p .1))) colour b)
     → _≡_ {A = Placed × List ℕ} (r, after) (pixelOutcome f p colour b)
 pixel-apart f p colour b e h k said =
-    said ∙ (λ i. pixelOutcome (described (f .width) (f .height) (sym e i) (f .big) (f .distance)) (field-back w32 (p .0) h i, field-back w32 (p .1) k i) colour b)
+    said ∙ (λ i. pixelOutcome (same-depth f (sym e) i) (field-back w32 (p .0) h i, field-back w32 (p .1) k i) colour b)
 
 -- ---- on a canvas
 -- of a canvas that was judged the frame is described where its number is 0

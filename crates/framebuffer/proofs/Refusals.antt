@@ -15,7 +15,7 @@ use Rattle.layout.proofs.Placing.{Placing}
 use Rattle.layout.proofs.Places.{Sound, placing, depth-le, pixel-in}
 use Rattle.framebuffer.specs.declared.Canvas.{Canvas}
 use Rattle.framebuffer.specs.declared.Frame.{Frame}
-use Rattle.framebuffer.specs.Description.{packedDistance, arranged, raster, size, noDistance, tooShort, sizeTests, descriptionTests, frameTests}
+use Rattle.framebuffer.specs.Description.{atDepth, packedDistance, arranged, raster, size, noDistance, tooShort, sizeTests, descriptionTests, frameTests}
 use Rattle.framebuffer.specs.Judged.{Described, Accepted, overBytes, Over}
 
 -- ---- no number is 0
@@ -30,6 +30,10 @@ frame-numbered f len = refl
 -- ---- a frame that was judged over len bytes
 pub judged : (f : Frame) (len : ℕ) {c : Canvas} → c ≡ overBytes f len → Over c len
 judged f len e = e ∙ ap (λ (g : Frame). overBytes g len) (sym (ap (λ (c : Canvas). c .frame) e))
+
+-- ---- at the depth that it has
+pub same-depth : (f : Frame) {d : ℕ} → d ≡ f .depth → atDepth d f ≡ f
+same-depth f e = λ i. atDepth (e i) f
 
 -- ---- a depth that is none of the seven
 pub no-depth : (f : Frame) (len : ℕ) → goodDepth (f .depth) ≡ false → 1 ≡ first (frameTests f len)

@@ -15,6 +15,10 @@ use Rattle.framebuffer.specs.Window.{inWindow, wholeWindow}
 abbrev pub described : ℕ → ℕ → ℕ → Bool → ℕ → Frame
 described w h d big distance = record { width = w; height = h; depth = d; big = big; distance = distance }
 
+-- the same at a depth
+abbrev pub atDepth : ℕ → Frame → Frame
+atDepth d f = described (f .width) (f .height) d (f .big) (f .distance)
+
 -- rows without a gap: the distance is "the bytes a row now takes", or 0 where 32 bits do not hold them, which 1 or 2 refuses
 unfoldable pub packedDistance : ℕ → ℕ → ℕ
 packedDistance w d = let n = rowBytes w d in cond (leb n 4294967295) n 0

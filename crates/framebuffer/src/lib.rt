@@ -14,7 +14,7 @@ ghost use Rattle.layout.specs.Layout.{putPixel, getPixel, painted};
 ghost use Rattle.layout.specs.Packed.{goodDepth};
 ghost use Rattle.framebuffer.specs.Answer.{sized, read};
 ghost use Rattle.framebuffer.specs.Window.{inWindow, heldBy, wholeWindow, clipped};
-ghost use Rattle.framebuffer.specs.Description.{described, packedDistance, packed, raster, noDistance, size, sizeTests, descriptionTests, frameTests, readTests, colourAt};
+ghost use Rattle.framebuffer.specs.Description.{described, atDepth, packedDistance, packed, raster, noDistance, size, sizeTests, descriptionTests, frameTests, readTests, colourAt};
 ghost use Rattle.framebuffer.specs.Judged.{Described, Accepted, Drawable, overBytes, Judged, JudgedSome, Within, Ready, brushOf, brushed, onTop};
 ghost use Rattle.framebuffer.specs.Drawing.{fillDrawing, outcome, pixelOutcome};
 ghost use Rattle.framebuffer.specs.Interval.{Held};
@@ -116,6 +116,13 @@ impl Frame {
         ensures { λ r. ⌜ r ≡ packed width height depth big ⌝ }
     {
         Self::new(width, height, depth, big, packed_distance(width, depth))
+    }
+
+    // The same frame at a depth. Where that is a constant the compiler works out what goes by it: the bytes of a row and of a pixel, the mask, each shift.
+    fn at_depth(self, depth: u32) -> Self
+        ensures { λ r. ⌜ r ≡ atDepth depth self ⌝ }
+    {
+        Self::new(self.width, self.height, depth, self.big, self.distance)
     }
 
     // The rectangle of the whole frame.
@@ -376,19 +383,11 @@ pub fn set_pixel_on(buf: &mut [u8], canvas: Canvas, p: geometry::Point, colour: 
     }
 }
 
-// A pixel set on a frame of this depth. Where that is a constant the compiler works out what goes by it: the bytes of a row and of a pixel, the mask, each shift. The place comes as
-// two numbers, of which it knows more than of a point.
+// A pixel set on a frame of this depth. The place comes as two numbers, of which the compiler knows more than of a point.
 fn set_at_depth(buf: &mut [u8], depth: u32, frame: Frame, x: i32, y: i32, colour: u32) -> Placed
-    ensures { λ r. ⌜ (r, now (buf .exit)) ≡
-        pixelOutcome (described (frame .width) (frame .height) depth (frame .big) (frame .distance)) (x, y) colour (now (buf .entry)) ⌝ }
+    ensures { λ r. ⌜ (r, now (buf .exit)) ≡ pixelOutcome (atDepth depth frame) (x, y) colour (now (buf .entry)) ⌝ }
 {
-    let known = Frame {
-        width: frame.width,
-        height: frame.height,
-        depth,
-        big: frame.big,
-        distance: frame.distance,
-    };
+    let known = frame.at_depth(depth);
     set_pixel_on(buf, known.over(buf.len()), geometry::Point(x, y), colour)
 }
 
@@ -521,14 +520,7 @@ fn fields_at_depth(
         × (Drawable frame (length (now buf)) colour × (frame .depth < 8) × (y < frame .height) × (from < past) × (past ≤ frame .width)) ⌝ }
     ensures { λ r. ⌜ now (buf .exit) ≡ painted (raster frame) (spanFigure (pos y) (pos from) (pos past)) colour (now (buf .entry)) ⌝ }
 {
-    let known = Frame {
-        width: frame.width,
-        height: frame.height,
-        depth,
-        big: frame.big,
-        distance: frame.distance,
-    };
-    paint_fields(buf, known, y, from, past, colour);
+    paint_fields(buf, frame.at_depth(depth), y, from, past, colour);
 }
 
 fn paint_by_depth(buf: &mut [u8], frame: Frame, y: u32, from: u32, past: u32, colour: u32)

@@ -1,35 +1,18 @@
 -- `framebuffer::fields_at_depth` hands on the same frame. Assumes nothing.
-use mathlib.Core.Path.{_≡_, sym, ap, subst, _∙_}
-use Prim.Native.Nat.{_≤_, _<_}
-use lib.IntN.{pos}
-use lib.ListN.{length}
+use mathlib.Core.Path.{_≡_, _∙_}
 use borrow.Author.Needs.{needs}
-use Rattle.layout.specs.Figure.{spanFigure}
-use Rattle.layout.specs.Layout.{painted}
-use Rattle.framebuffer.specs.declared.Frame.{Frame}
-use Rattle.framebuffer.specs.Description.{described, raster}
-use Rattle.framebuffer.specs.Judged.{Drawable}
+use Rattle.framebuffer.proofs.Refusals.{same-depth}
 use Rattle.framebuffer.proofs.fields_at_depth.Statement.{statement}
 use Rattle.framebuffer.proofs.fields_at_depth.Tie as tie
 
-same : (c : tie.Start) → (let f = c .args .frame in described (f .width) (f .height) (c .args .depth) (f .big) (f .distance) ≡ f)
-same c = let f = c .args .frame in λ i. described (f .width) (f .height) (c .pre .0 i) (f .big) (f .distance)
+same : (c : tie.After-at-depth) → c .at-depth .result ≡ c .before .before .before .args .frame
+same c = let s = c .before .before .before in c .at-depth .ensures ∙ same-depth (s .args .frame) (s .pre .0)
 
 paint-fields-requires : tie.Need-paint-fields-requires
-paint-fields-requires c κs =
-    let s = c .before .before in
-    let a = s .args in
-    subst (λ (f : Frame). Drawable f (length (a .buf .now)) (a .colour) × (f .depth < 8) × (a .y < f .height) × (a .from < a .past) × (a .past ≤ f .width)) (sym (same s)) (s .pre .1)
-
-same-length : tie.Need-same-length
-same-length c = search needs
+paint-fields-requires c κs = rw (same c) (c .before .before .before .pre .1)
 
 returns : tie.Need-returns
-returns c =
-    let s = c .before .before .before .before .before in
-    let a = s .args in
-    c .before .before .paint-fields .ensures
-    ∙ ap (λ (f : Frame). painted (raster f) (spanFigure (pos (a .y)) (pos (a .from)) (pos (a .past))) (a .colour) (a .buf .now)) (same s)
+returns c = let paint = c .before .before in rw (same (paint .before)) at (paint .paint-fields .ensures)
 
 pub fields-at-depth-spec : {M : Type 1} → statement M
-fields-at-depth-spec = tie.close (tie.spec paint-fields-requires same-length returns)
+fields-at-depth-spec = tie.close (tie.spec (λ c κs. search needs) paint-fields-requires (λ c. search needs) returns)

@@ -21,10 +21,11 @@ use Rattle.whole.proofs.Tests.{same-test, fails, and-true, true-and, eqZ-true}
 use Rattle.layout.proofs.Placing.{Placing}
 use Rattle.layout.proofs.Painted.{painted-cong, painted-none, put-single}
 use Rattle.layout.proofs.Pixels.{marked-cong, pixels-cong, pixels-none, pixels-one}
+use Rattle.framebuffer.specs.declared.Brush.{Brush}
 use Rattle.framebuffer.specs.declared.Frame.{Frame}
 use Rattle.framebuffer.specs.declared.Window.{Window}
 use Rattle.framebuffer.specs.Window.{inWindow, heldBy, allOf}
-use Rattle.framebuffer.specs.Judged.{Described, Within}
+use Rattle.framebuffer.specs.Judged.{Described, Within, Ready}
 
 -- ---- what a range and a rectangle say
 -- a number of a range is not negative
@@ -59,9 +60,15 @@ window-pos q x y e =
 pub all-within : (w h : ℕ) → Within (allOf w h) w h
 all-within w h = record { across = omega arith; down = omega arith; right = le-refl w; bottom = le-refl h }
 
--- its ends are few enough for a signed number
-pub within-small : {q : Window} {f : Frame} → Within q (f .width) (f .height) → Described f → (q .left ≤ q .right) × (q .right ≤ 2048) × (q .top ≤ q .bottom) × (q .bottom ≤ 2048)
+-- its ends are in order, and few enough for a signed number
+abbrev pub Small : Window → Type 0
+Small q = (q .left ≤ q .right) × (q .right ≤ 2048) × (q .top ≤ q .bottom) × (q .bottom ≤ 2048)
+
+pub within-small : {q : Window} {f : Frame} → Within q (f .width) (f .height) → Described f → Small q
 within-small W D = let r = W .right in let b = W .bottom in let w = D .width in let h = D .height in (W .across, omega arith, W .down, omega arith)
+
+pub ready-small : {q : Brush} {len : ℕ} → Ready q len → Small (q .window)
+ready-small R = within-small (R .within) (R .drawable .accepted .described)
 
 -- a place that it holds lies within the width and the height
 pub point-in : (q : Window) (x y : ℤ) {w h : ℕ} → Within q w h → inWindow q x y ≡ true → (natAbs x < w) × (natAbs y < h)

@@ -12,7 +12,7 @@ use Rattle.circle.proofs.Refusals.{is-accepted}
 use Rattle.framebuffer.proofs.Calls.{calls, ready-on, everywhere-on}
 use Rattle.framebuffer.specs.Judged.{brushOf}
 use Rattle.framebuffer.specs.Window.{inWindow}
-use Rattle.framebuffer.proofs.Windows.{window-in, within-small}
+use Rattle.framebuffer.proofs.Windows.{window-in, ready-small}
 use Rattle.drawing.specs.Drawing.{circleDrawing}
 use Rattle.drawing.specs.Figure.{circleFigure}
 use Rattle.drawing.proofs.circle_on.Statement.{statement}
@@ -31,7 +31,7 @@ accepted-covers-requires c κs =
     let s = c .before .before .before .before in
     let n = c .before .before .circle-number .ensures in
     let R = ready-on (s .args .canvas) (s .args .colour) (circleTests (s .args .topleft) (s .args .diameter)) {q = brushOf (s .args .canvas) (s .args .colour)} (s .pre) refl n (omega arith) in
-    let w = within-small (R .within) (R .drawable .accepted .described) in
+    let w = ready-small R in
     (is-accepted _ _ (search calls), omega (arith, w .0, w .1), omega (arith, w .2, w .3), w .1, w .3)
 
 brush-requires : tie.Need-brush-requires

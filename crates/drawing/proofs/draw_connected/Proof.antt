@@ -15,7 +15,7 @@ use Rattle.connected.proofs.Indices.{last-size, index-last, index-more, before-
 use Rattle.connected.proofs.Members.{distinct}
 use Rattle.framebuffer.specs.declared.Steps.{Steps}
 use Rattle.framebuffer.specs.Judged.{Ready}
-use Rattle.framebuffer.proofs.Windows.{within-small}
+use Rattle.framebuffer.proofs.Windows.{ready-small}
 use Rattle.clips.specs.Steps.{LineSteps}
 use Rattle.drawing.proofs.Figures.{connected-walked, inside-adds, inside-one, Along, along-start, along-turn, along-skip, none, along-all}
 use Rattle.clips.proofs.Steps.{connected-before, connected-after, connected-none}
@@ -33,7 +33,7 @@ abbrev μ-loop : tie.MeasureT-loop
 μ-loop buf₀ brush first past walker₀ seen₀ i₀ buf walker seen i = past - i
 
 line-steps-requires : tie.Need-line-steps-requires Inv-loop μ-loop
-line-steps-requires c κs = let s = c .before in (within-small (s .pre .0 .within) (s .pre .0 .drawable .accepted .described), s .pre .1)
+line-steps-requires c κs = (ready-small (c .before .pre .0), c .before .pre .1)
 
 -- the steps beside which points are set
 module _ (c : tie.After-line-steps Inv-loop μ-loop) where

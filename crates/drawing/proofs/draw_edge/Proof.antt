@@ -1,96 +1,56 @@
 -- `drawing::draw_edge` sets the points that the walker hands out, one a turn, from the first step that leads into the rectangle to the last: before step k those of the
 -- steps below k are set, and those that no earlier edge has are counted. No step leads where one before it led. Assumes nothing.
-use mathlib.Core.Path.{_≡_, refl, sym, subst, ap, _∙_}
+use mathlib.Core.Path.{_≡_, refl, ap, _∙_}
 use mathlib.Core.Bool.{Bool, not}
-use Prim.Native.Nat.{ℕ, _-_, _≤_}
+use Prim.Native.Nat.{_-_, _≤_}
 use native.Mathlib.Omega.{arith}
 use lib.ListN.{length}
 use mir.Val.{boolByte}
 use borrow.Author.Needs.{needs}
-use Rattle.geometry.specs.declared.Point.{Point}
-use Rattle.line.specs.Line.{pointAt}
-use Rattle.line.specs.Walk.{WalkerAt}
-use Rattle.line.proofs.Apart.{steps-apart}
 use Rattle.layout.specs.Count.{oneIf}
 use Rattle.layout.proofs.Counts.{one-small}
-use Rattle.framebuffer.specs.declared.Steps.{Steps}
-use Rattle.framebuffer.specs.Judged.{Ready}
-use Rattle.framebuffer.specs.Window.{inWindow}
-use Rattle.framebuffer.proofs.Windows.{within-small}
-use Rattle.clips.specs.Steps.{InnerSteps}
+use Rattle.framebuffer.proofs.Windows.{ready-small}
 use Rattle.drawing.specs.Earlier.{earlierFigure}
-use Rattle.drawing.proofs.Figures.{new-one, Along, along-inside}
-use Rattle.drawing.proofs.Lines.{line-begun, edge-ended, edge-none, few-inner}
-use Rattle.clips.proofs.Steps.{inner-in}
+use Rattle.drawing.proofs.Figures.{new-one}
+use Rattle.drawing.proofs.Lines.{LineWalk, few-steps, edge-ended, edge-none, Walks, walks-begun, walks-on, walks-set, walks-turn}
 use Rattle.drawing.proofs.draw_edge.Statement.{statement}
 use Rattle.drawing.proofs.draw_edge.Tie as tie
 
 abbrev Inv-loop : tie.InvT-loop
 Inv-loop buf₀ brush earlier past k₀ walker₀ seen₀ buf k walker seen =
     (length buf ≡ length buf₀) × (k₀ ≤ k) × (k ≤ past) × (seen ≤ k)
-    × ((s e : Point) → InnerSteps (brush .window) s e (record { from = k₀; past = past }) → Ready brush (length buf₀) → WalkerAt s e k₀ walker₀
-    → Along brush (earlierFigure earlier) (pointAt s e) buf₀ k₀ 0 buf₀ → WalkerAt s e k walker × Along brush (earlierFigure earlier) (pointAt s e) buf₀ k seen buf)
+    × Walks brush (earlierFigure earlier) buf₀ (record { from = k₀; past = past }) walker₀ k seen walker buf
 
 abbrev μ-loop : tie.MeasureT-loop
 μ-loop buf₀ brush earlier past k₀ walker₀ seen₀ buf k walker seen = past - k
 
 inner-steps-requires : tie.Need-inner-steps-requires Inv-loop μ-loop
-inner-steps-requires c κs = let s = c .before in (within-small (s .pre .0 .within) (s .pre .0 .drawable .accepted .described), s .pre .2)
+inner-steps-requires c κs = (ready-small (c .before .pre .0), c .before .pre .2)
 
--- the steps that are walked
-module _ (c : tie.After-inner-steps Inv-loop μ-loop) where
-  abbrev entry : tie.Start Inv-loop μ-loop
-  entry = c .before .before
-
-  abbrev steps : Steps
-  steps = c .inner-steps .result
-
-  inner : InnerSteps (entry .args .brush .window) (entry .args .start) (entry .args .end) steps
-  inner = c .inner-steps .ensures
-
-  few-steps : steps .past ≤ 262144
-  few-steps = few-inner (entry .pre .0) inner (entry .args .buf .now) (entry .pre .2 .0) (entry .pre .2 .1)
+-- what is known of the walk
+walk : (c : tie.After-inner-steps Inv-loop μ-loop) → (let a = c .before .before .args in LineWalk (a .brush) (length (a .buf .now)) (a .start) (a .end) (c .inner-steps .result))
+walk c = let s = c .before .before in record { ready = s .pre .0; ends = s .pre .2; inner = c .inner-steps .ensures }
 
 returns : tie.Need-returns Inv-loop μ-loop
-returns c = let l = c .before in edge-none (entry l .pre .0) (inner l) (entry l .args .buf .now) (earlierFigure (entry l .args .earlier)) (c .if1 .taken)
+returns c = edge-none (walk (c .before)) (earlierFigure (c .before .before .before .args .earlier)) _ (c .if1 .taken)
 
 at-requires : tie.Need-at-requires Inv-loop μ-loop
-at-requires c κs = (entry (c .before) .pre .2, omega (arith, inner (c .before) .most, c .if1 .left))
+at-requires c κs = let W = walk (c .before) in (W .ends, omega (arith, W .inner .most, c .if1 .left))
 
 loop-holds : tie.Need-loop-holds Inv-loop μ-loop
-loop-holds c = (refl, omega arith, omega (arith, c .before .if1 .left), omega arith, λ s e i ok at a. (at, a))
+loop-holds c = (refl, omega arith, omega (arith, c .before .if1 .left), omega arith, walks-begun refl)
 
--- at the loop's head the walker stands at step k, and the steps below it are set and counted
-module _ (c : tie.At-loop Inv-loop μ-loop) where
-  abbrev l : tie.After-inner-steps Inv-loop μ-loop
-  l = c .before .before .before
-
-  head : WalkerAt (entry l .args .start) (entry l .args .end) (c .loop .k) (c .loop .walker)
-      × Along (entry l .args .brush) (earlierFigure (entry l .args .earlier)) (pointAt (entry l .args .start) (entry l .args .end)) (entry l .args .buf .now) (c .loop .k) (c .loop .seen) (c .loop .buf)
-  head =
-      let s = entry l in
-      let a = s .args in
-      c .loop .inv .4 (a .start) (a .end) (inner l) (s .pre .0) (c .before .at .ensures) (line-begun (s .pre .0) (inner l) (a .buf .now) (earlierFigure (a .earlier)))
-
+-- at the loop's head the walker stands at step k
 step-requires : tie.Need-step-requires Inv-loop μ-loop
-step-requires c κs =
-    let h = c .before in
-    let s = entry (l h) in
-    record { s = s .args .start; e = s .args .end; k = h .loop .k; more = omega (arith, inner (l h) .most); here = head h .0 }
+step-requires c κs = let h = c .before in walks-on (walk (h .before .before .before)) (h .before .at .ensures) (omega arith) (h .loop .inv .4)
 
 set-point-requires : tie.Need-set-point-requires Inv-loop μ-loop
 set-point-requires c κs =
-    let step = c .before in
-    let h = step .before .before in
-    let s = entry (l h) in
-    let a = s .args in (
-      subst (Ready (a .brush)) (sym (h .loop .inv .0)) (s .pre .0),
-      ap (λ (p : Point). inWindow (a .brush .window) (p .0) (p .1)) (step .step .ensures (a .start) (a .end) (h .loop .k) (omega (arith, inner (l h) .most)) (head h .0) .0)
-          ∙ inner-in (inner (l h)) (h .loop .k) (h .loop .inv .1) (omega arith),
-    )
+    let h = c .before .before .before in
+    walks-set (walk (h .before .before .before)) (h .before .at .ensures) (h .loop .inv .0) (h .loop .inv .1) (omega arith) (c .before .step .ensures) (h .loop .inv .4)
 
 has-requires : tie.Need-has-requires Inv-loop μ-loop
-has-requires c κs = entry (l (c .before .before .before .before .before .before)) .pre .1
+has-requires c κs = c .before .before .before .before .before .before .before .before .before .before .before .pre .1
 
 cast-seen : tie.Need-cast-seen Inv-loop μ-loop
 cast-seen c = tt
@@ -102,10 +62,10 @@ one had = one-small (not had) (new-one had)
 add-seen : tie.Need-add-seen Inv-loop μ-loop
 add-seen c =
     let h = c .before .before .before .before .before .before .before in
-    omega (arith, few-steps (l h), h .loop .inv .2, h .loop .inv .3, one (c .has .result))
+    omega (arith, few-steps (walk (h .before .before .before)), h .loop .inv .2, h .loop .inv .3, one (c .has .result))
 
 add-k : tie.Need-add-k Inv-loop μ-loop
-add-k c = let h = c .before .before .before .before .before .before .before .before in omega (arith, few-steps (l h), h .loop .inv .2)
+add-k c = let h = c .before .before .before .before .before .before .before .before in omega (arith, few-steps (walk (h .before .before .before)), h .loop .inv .2)
 
 loop-less : tie.Need-loop-less Inv-loop μ-loop
 loop-less c = search needs
@@ -115,20 +75,13 @@ loop-again c =
     let has = c .before in
     let put = has .before .before .before in
     let step = put .before .before in
-    let h = step .before .before in
-    let a = entry (l h) .args in (
+    let h = step .before .before in (
       put .set-point .kept .0 ∙ h .loop .inv .0,
       omega (arith, h .loop .inv .1),
       omega arith,
       omega (arith, h .loop .inv .3, one (has .has .result)),
-      λ s e i ok at b.
-          let j = h .loop .inv .4 s e i ok at b in
-          let g = step .step .ensures s e (h .loop .k) (omega (arith, i .most)) (j .0) in (
-            g .1,
-            along-inside ok (earlierFigure (a .earlier)) (pointAt s e) (a .buf .now) (j .1) (g .0)
-                (λ j l e′. let z = steps-apart s e (h .loop .k) j e′ in omega arith)
-                (inner-in i (h .loop .k) (h .loop .inv .1) (omega arith)) (new-one (has .has .result) ∙ ap (λ (t : Bool). oneIf (not t)) (has .has .ensures)) (put .set-point .ensures),
-          ),
+      walks-turn (h .loop .inv .1) (omega arith) (step .step .ensures) (new-one (has .has .result) ∙ ap (λ (t : Bool). oneIf (not t)) (has .has .ensures)) (put .set-point .ensures) refl
+          (h .loop .inv .4),
     )
 
 same-length : tie.Need-same-length Inv-loop μ-loop
@@ -137,11 +90,8 @@ same-length c = c .before .loop .inv .0
 returns-2 : tie.Need-returns-2 Inv-loop μ-loop
 returns-2 c =
     let h = c .before in
-    let s = entry (l h) in
-    let a = s .args in
-    let all : h .loop .k ≡ steps (l h) .past = omega (arith, h .loop .inv .2) in
-    edge-ended (s .pre .0) (inner (l h)) (a .buf .now) (earlierFigure (a .earlier))
-    (subst (λ (n : ℕ). Along (a .brush) (earlierFigure (a .earlier)) (pointAt (a .start) (a .end)) (a .buf .now) n (h .loop .seen) (h .loop .buf)) all (head h .1))
+    let W = walk (h .before .before .before) in
+    edge-ended W _ _ (omega (arith, h .loop .inv .2)) (h .loop .inv .4 _ _ W (h .before .at .ensures) .1)
 
 pub draw-edge-spec : {M : Type 1} → statement M
 draw-edge-spec =

@@ -1,7 +1,7 @@
 -- `drawing::draw_upright` sets the points of one column, one a turn, from the first step that leads into the rectangle to the last: before step k those of the steps below k
 -- are set and counted. Assumes nothing.
-use mathlib.Core.Path.{_≡_, refl, sym, ap, ap₂, subst, _∙_}
-use Prim.Native.Nat.{ℕ, _+_, _-_, _≤_}
+use mathlib.Core.Path.{_≡_, refl, sym, ap₂, _∙_}
+use Prim.Native.Nat.{ℕ, _-_, _≤_}
 use native.Mathlib.Omega.{arith}
 use lib.IntN.{pos, _+ℤ_, _*ℤ_}
 use lib.ListN.{length}
@@ -13,16 +13,10 @@ use Rattle.geometry.specs.declared.Point.{Point}
 use Rattle.geometry.specs.Bound.{Bounded}
 use Rattle.geometry.proofs.Bound.{coord, coord-size}
 use Rattle.line.specs.Line.{toward, major, pointAt}
-use Rattle.line.proofs.Apart.{steps-apart}
 use Rattle.line.proofs.Lengths.{toward-size}
-use Rattle.framebuffer.specs.declared.Steps.{Steps}
-use Rattle.framebuffer.specs.Judged.{Ready}
-use Rattle.framebuffer.specs.Window.{inWindow}
-use Rattle.framebuffer.proofs.Windows.{within-small}
-use Rattle.clips.specs.Steps.{InnerSteps}
-use Rattle.drawing.proofs.Figures.{Along, along-inside, along-count, none}
-use Rattle.drawing.proofs.Lines.{line-begun, line-ended, line-none, few-inner}
-use Rattle.clips.proofs.Steps.{inner-in}
+use Rattle.framebuffer.proofs.Windows.{ready-small}
+use Rattle.drawing.proofs.Figures.{Along, none}
+use Rattle.drawing.proofs.Lines.{LineWalk, few-steps, may-set, line-begun, line-turn, line-ended, line-none}
 use Rattle.drawing.proofs.Level.{upright-at}
 use Rattle.drawing.proofs.draw_upright.Statement.{statement}
 use Rattle.drawing.proofs.draw_upright.Tie as tie
@@ -30,7 +24,6 @@ use Rattle.drawing.proofs.draw_upright.Tie as tie
 -- the locals are the column, the first row and the way of an upright line
 record Column (s e : Point) (x from on : ℕ) : Type 0 where
   start : Bounded s
-  end : Bounded e
   upright : s .0 ≡ e .0
   column : toZ w32 x ≡ s .0
   row : toZ w32 from ≡ s .1
@@ -47,31 +40,20 @@ module _ {s e : Point} {x from on : ℕ} (line : Column s e x from on) (k : ℕ)
 abbrev Inv-loop : tie.InvT-loop
 Inv-loop buf₀ brush first past x from on k₀ buf k =
     (length buf ≡ length buf₀) × (first ≤ k) × (k ≤ past)
-    × ((s e : Point) → InnerSteps (brush .window) s e (record { from = first; past = past }) → Column s e x from on → Ready brush (length buf₀)
-    → Along brush none (pointAt s e) buf₀ first 0 buf₀ → Along brush none (pointAt s e) buf₀ k (k - first) buf)
+    × ((s e : Point) → LineWalk brush (length buf₀) s e (record { from = first; past = past }) → Column s e x from on → Along brush none (pointAt s e) buf₀ k (k - first) buf)
 
 abbrev μ-loop : tie.MeasureT-loop
 μ-loop buf₀ brush first past x from on k₀ buf k = past - k
 
 inner-steps-requires : tie.Need-inner-steps-requires Inv-loop μ-loop
-inner-steps-requires c κs = let s = c .before in (within-small (s .pre .0 .within) (s .pre .0 .drawable .accepted .described), s .pre .1)
+inner-steps-requires c κs = (ready-small (c .before .pre .0), c .before .pre .1)
 
--- the steps that are walked
-module _ (c : tie.After-inner-steps Inv-loop μ-loop) where
-  abbrev entry : tie.Start Inv-loop μ-loop
-  entry = c .before .before
-
-  abbrev steps : Steps
-  steps = c .inner-steps .result
-
-  inner : InnerSteps (entry .args .brush .window) (entry .args .start) (entry .args .end) steps
-  inner = c .inner-steps .ensures
-
-  few-steps : steps .past ≤ 262144
-  few-steps = few-inner (entry .pre .0) inner (entry .args .buf .now) (entry .pre .1 .0) (entry .pre .1 .1)
+-- what is known of the walk
+walk : (c : tie.After-inner-steps Inv-loop μ-loop) → (let a = c .before .before .args in LineWalk (a .brush) (length (a .buf .now)) (a .start) (a .end) (c .inner-steps .result))
+walk c = let s = c .before .before in record { ready = s .pre .0; ends = s .pre .1; inner = c .inner-steps .ensures }
 
 returns : tie.Need-returns Inv-loop μ-loop
-returns c = let l = c .before in line-none (entry l .pre .0) (inner l) (entry l .args .buf .now) (c .if1 .taken)
+returns c = line-none (walk (c .before)) _ (c .if1 .taken)
 
 direction-requires : tie.Need-direction-requires Inv-loop μ-loop
 direction-requires c κs = search needs
@@ -81,27 +63,26 @@ module _ (c : tie.After-direction Inv-loop μ-loop) where
   abbrev l : tie.After-inner-steps Inv-loop μ-loop
   l = c .before .before .before .before .before
 
-  it : Column (entry l .args .start) (entry l .args .end) (ofZ w32 (entry l .args .start .0)) (ofZ w32 (entry l .args .start .1)) (ofZ w32 (c .direction .result))
+  abbrev s : tie.Start Inv-loop μ-loop
+  s = l .before .before
+
+  it : Column (s .args .start) (s .args .end) (ofZ w32 (s .args .start .0)) (ofZ w32 (s .args .start .1)) (ofZ w32 (c .direction .result))
   it =
-      let b = entry l .pre .1 in
+      let b = s .pre .1 in
       let kept : toZ w32 (ofZ w32 (c .direction .result)) ≡ c .direction .result = search needs in
       record {
         start = b .0;
-        end = b .1;
-        upright = entry l .pre .2;
+        upright = s .pre .2;
         column = back (coord (b .0 .x)) .is;
         row = back (coord (b .0 .y)) .is;
         way = kept ∙ c .direction .ensures ∙ ap₂ toward (back (coord (b .0 .y)) .is) (back (coord (b .1 .y)) .is);
       }
 
 loop-holds : tie.Need-loop-holds Inv-loop μ-loop
-loop-holds c =
-    let first = steps (l c) .from in
-    let none-yet : 0 ≡ first - first = omega arith in
-    (refl, omega arith, omega (arith, c .before .before .before .before .if1 .left), λ s e i line ok a. along-count none-yet a)
+loop-holds c = (refl, omega arith, omega (arith, c .before .before .before .before .if1 .left), λ s e W line. line-begun W none _ (omega arith))
 
 few-now : (c : tie.In-loop Inv-loop μ-loop) → c .before .loop .k ≤ 262143
-few-now c = omega (arith, few-steps (l (c .before .before)))
+few-now c = omega (arith, few-steps (walk (l (c .before .before))))
 
 cast-y : tie.Need-cast-y Inv-loop μ-loop
 cast-y c = record { sfits = omega (arith, few-now c) }
@@ -121,13 +102,8 @@ set-point-requires : tie.Need-set-point-requires Inv-loop μ-loop
 set-point-requires c κs =
     let turn = c .before in
     let h = turn .before in
-    let d = h .before in
-    let s = entry (l d) in
-    let a = s .args in (
-      subst (Ready (a .brush)) (sym (h .loop .inv .0)) (s .pre .0),
-      ap (λ (p : Point). inWindow (a .brush .window) (p .0) (p .1)) (here (it d) (h .loop .k) (omega (arith, inner (l d) .most)) (omega (arith, few-now turn)))
-          ∙ inner-in (inner (l d)) (h .loop .k) (h .loop .inv .1) (omega arith),
-    )
+    let W = walk (l (h .before)) in
+    may-set W (h .loop .inv .0) (h .loop .inv .1) (omega arith) (here (it (h .before)) (h .loop .k) (omega (arith, W .inner .most)) (omega (arith, few-now turn)))
 
 add-k : tie.Need-add-k Inv-loop μ-loop
 add-k c = omega (arith, few-now (c .before .before .before .before))
@@ -139,17 +115,13 @@ loop-again : tie.Need-loop-again Inv-loop μ-loop
 loop-again c =
     let put = c .before .before in
     let turn = put .before .before in
-    let h = turn .before in
-    let a = entry (l (h .before)) .args in
-    let more : h .loop .k - steps (l (h .before)) .from + 1 ≡ h .loop .k + 1 - steps (l (h .before)) .from = omega (arith, h .loop .inv .1) in (
+    let h = turn .before in (
       put .set-point .kept .0 ∙ h .loop .inv .0,
       omega (arith, h .loop .inv .1),
       omega arith,
-      λ s e i line ok b.
-          along-count more
-          (along-inside ok none (pointAt s e) (a .buf .now) (h .loop .inv .3 s e i line ok b) (here line (h .loop .k) (omega (arith, i .most)) (omega (arith, few-now turn)))
-          (λ j l e′. let z = steps-apart s e (h .loop .k) j e′ in omega arith)
-          (inner-in i (h .loop .k) (h .loop .inv .1) (omega arith)) refl (put .set-point .ensures)),
+      λ s e W line.
+          line-turn W none _ (h .loop .inv .1) (omega arith) (here line (h .loop .k) (omega (arith, W .inner .most)) (omega (arith, few-now turn))) refl (put .set-point .ensures)
+          (omega (arith, h .loop .inv .1)) (h .loop .inv .3 s e W line),
     )
 
 sub-result : tie.Need-sub-result Inv-loop μ-loop
@@ -161,13 +133,8 @@ same-length c = c .before .loop .inv .0
 returns-2 : tie.Need-returns-2 Inv-loop μ-loop
 returns-2 c =
     let h = c .before in
-    let d = h .before in
-    let s = entry (l d) in
-    let a = s .args in
-    let all : h .loop .k ≡ steps (l d) .past = omega (arith, h .loop .inv .2) in
-    line-ended (s .pre .0) (inner (l d)) (a .buf .now)
-    (subst (λ (n : ℕ). Along (a .brush) none (pointAt (a .start) (a .end)) (a .buf .now) n (n - steps (l d) .from) (h .loop .buf)) all
-    (h .loop .inv .3 (a .start) (a .end) (inner (l d)) (it d) (s .pre .0) (line-begun (s .pre .0) (inner (l d)) (a .buf .now) none)))
+    let W = walk (l (h .before)) in
+    line-ended W _ (omega (arith, h .loop .inv .2)) (omega (arith, h .loop .inv .2)) (h .loop .inv .3 _ _ W (it (h .before)))
 
 pub draw-upright-spec : {M : Type 1} → statement M
 draw-upright-spec =

@@ -6,14 +6,14 @@ use Rattle.whole.proofs.Machine.{back}
 use Rattle.geometry.specs.Bound.{Coord}
 use Rattle.geometry.proofs.Bound.{coord}
 use Rattle.circle.proofs.Refusals.{widest}
-use Rattle.framebuffer.proofs.Windows.{within-small}
+use Rattle.framebuffer.proofs.Windows.{ready-small}
 use Rattle.drawing.proofs.fill_circle.Statement.{statement}
 use Rattle.drawing.proofs.fill_circle.Tie as tie
 
 held-requires : tie.Need-held-requires
 held-requires c κs =
     let s = c .before .before .before in
-    let w = within-small (s .pre .0 .within) (s .pre .0 .drawable .accepted .described) in
+    let w = ready-small (s .pre .0) in
     let top = s .pre .1 .corner .y in
     (subst Coord (sym (back (coord top) .is)) top, omega (arith, w .2, w .3), w .3, widest (s .pre .1))
 

@@ -11,7 +11,7 @@ use Rattle.whole.proofs.Machine.{same-bits}
 use Rattle.layout.specs.Figure.{spanFigure, everywhere}
 use Rattle.framebuffer.specs.Judged.{Ready, brushed, onTop}
 use Rattle.framebuffer.proofs.Rows.{brush-sound, few-pixels, above, rows-start, rows-turn, rows-end, above-top, below-bottom}
-use Rattle.framebuffer.proofs.Windows.{between-in, within-small}
+use Rattle.framebuffer.proofs.Windows.{between-in, ready-small}
 use Rattle.framebuffer.proofs.fill_rows.Statement.{statement}
 use Rattle.framebuffer.proofs.fill_rows.Tie as tie
 
@@ -40,9 +40,7 @@ loop-holds c = (refl, λ ok begun. begun)
 
 -- the row of a turn
 few : (c : tie.In-loop Inv-loop μ-loop) → c .before .loop .y ≤ 2048
-few c =
-    let s = c .before .before .before .before .before .before in
-    omega (arith, within-small (s .pre .within) (s .pre .drawable .accepted .described) .3)
+few c = omega (arith, ready-small (c .before .before .before .before .before .before .pre) .3)
 
 cast-paint-more : tie.Need-cast-paint-more Inv-loop μ-loop
 cast-paint-more c = record { sfits = omega (arith, few (c .before)) }

@@ -15,7 +15,7 @@ use Rattle.layout.proofs.Spans.{columns}
 use Rattle.framebuffer.specs.Window.{clipped}
 use Rattle.framebuffer.specs.Judged.{Described, ground, onTop}
 use Rattle.framebuffer.proofs.Refusals.{sound}
-use Rattle.framebuffer.proofs.Windows.{within-small, cast-fits, between-pos, in-between}
+use Rattle.framebuffer.proofs.Windows.{Small, ready-small, cast-fits, between-pos, in-between}
 use Rattle.framebuffer.proofs.Clips.{row-off, clip-bounds, span-left, span-gone}
 use Rattle.framebuffer.proofs.paint_more.Statement.{statement}
 use Rattle.framebuffer.proofs.paint_more.Tie as tie
@@ -28,8 +28,8 @@ at : (c : tie.Start) → Placing (ground (c .args .brush))
 at c = sound (c .args .brush .frame) (ok c)
 
 -- the rectangle's ends
-small : (c : tie.Start) → (let q = c .args .brush .window in (q .left ≤ q .right) × (q .right ≤ 2048) × (q .top ≤ q .bottom) × (q .bottom ≤ 2048))
-small c = within-small (c .pre .0 .within) (ok c)
+small : (c : tie.Start) → Small (c .args .brush .window)
+small c = ready-small (c .pre .0)
 
 is-between-requires : tie.Need-is-between-requires
 is-between-requires c κs = let h = small (c .before .before) in (h .2, h .3)

@@ -8,8 +8,8 @@ use Rattle.protocol.specs.declared.reply.Reply.{Reply}
 use Rattle.protocol.specs.declared.reply.Reply.the-variants.{One}
 use Rattle.protocol.specs.declared.reply.Value.the-variants.{Natural}
 use Rattle.protocol.specs.Reply.{verdictReply}
-use Rattle.protocol.proofs.Letters.{choices}
-use Rattle.protocol.proofs.Replies.{readings}
+use Rattle.readers.proofs.Letters.{choices}
+use Rattle.readers.proofs.Readings.{readings}
 use Rattle.calls.specs.Draw.{placedSaid, drawnSaid}
 
 -- a reply beside bytes that stay

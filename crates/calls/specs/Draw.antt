@@ -11,9 +11,9 @@ use Rattle.text.specs.Fields.{nextU32}
 use Rattle.protocol.specs.declared.reply.Reply.{Reply}
 use Rattle.protocol.specs.declared.reply.Reply.the-variants.{Bad, One}
 use Rattle.protocol.specs.declared.reply.Value.the-variants.{Natural}
-use Rattle.protocol.specs.Fields.{isLast, ofOne, ofTwo, nextPoint, nextEnds, nextVertices, nextCircle}
+use Rattle.readers.specs.Figures.{isLast, ofOne, ofTwo, nextPoint, nextEnds, nextVertices, nextCircle}
 use Rattle.protocol.specs.Reply.{verdictReply}
-use Rattle.protocol.specs.Words.{meant}
+use Rattle.readers.specs.Words.{meant}
 use Rattle.questions.specs.Ask.{askReply}
 use Rattle.calls.specs.Words.{pixelWord, fillWord, lineWord, triangleWord, outlineWord, circleWord, traceWord}
 

@@ -5,14 +5,14 @@ use framebuffer::Frame;
 use geometry::Verdict;
 use protocol::Reply;
 use protocol::Value;
-use protocol::ends_at;
-use protocol::next_circle;
-use protocol::next_ends;
-use protocol::next_point;
-use protocol::next_vertices;
-use protocol::place_in;
 use protocol::verdict_reply;
 use questions::ask;
+use readers::ends_at;
+use readers::next_circle;
+use readers::next_ends;
+use readers::next_point;
+use readers::next_vertices;
+use readers::place_in;
 
 fn pixel(said: &[u8], at: usize, buf: &mut [u8], frame: Frame) -> Reply
     ensures { λ r. ⌜ (r, now (buf .exit)) ≡ pixelCall (now (said .entry)) at frame (now (buf .entry)) ⌝ }

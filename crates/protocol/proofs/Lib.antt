@@ -1,4 +1,2 @@
-pub mod Letters
-pub mod Replies
 pub mod Writes
 pub mod Hexadecimal

@@ -6,7 +6,7 @@ use lib.Dec.{leb, ltb}
 use lib.ListN.{length, take, drop}
 use Rattle.text.specs.declared.NextU32.{NextU32}
 use Rattle.text.specs.Fields.{nextU32}
-use Rattle.protocol.specs.Fields.{isLast, ofTwo}
+use Rattle.readers.specs.Figures.{isLast, ofTwo}
 use Rattle.protocol.specs.Reply.{badLine}
 
 -- a hexadecimal digit, in lower case

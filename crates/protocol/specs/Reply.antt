@@ -4,7 +4,7 @@ use mathlib.Core.List.{List, [], _∷_, _++_}
 use Prim.Native.Nat.{ℕ}
 use Rattle.geometry.specs.declared.Verdict.{Verdict}
 use Rattle.text.specs.Show.{shown, numberField}
-use Rattle.protocol.specs.Fields.{isLast}
+use Rattle.readers.specs.Figures.{isLast}
 use Rattle.protocol.specs.declared.reply.Reply.{Reply}
 use Rattle.protocol.specs.declared.reply.Reply.the-variants.{Bad, Number, One, Two}
 use Rattle.protocol.specs.declared.reply.Value.{Value}

@@ -6,8 +6,8 @@ ghost use lib.ListN.{length};
 ghost use lib.Seq.{sets};
 ghost use Rattle.protocol.specs.Bytes.{hexValue, allHex, isHex, hexBytes, hexPut};
 ghost use Rattle.protocol.specs.Dump.{hexDigit, hexText, dumpLine};
-use crate::fields::ends_within;
 use crate::reply::write_bad;
+use readers::ends_within;
 
 fn digit(v: u8) -> u8
     requires { ⌜ v < 16 ⌝ }

@@ -7,13 +7,13 @@ use Rattle.geometry.specs.declared.Verdict.{Verdict}
 use Rattle.line.specs.declared.Length.{Length}
 use Rattle.line.specs.declared.Step.{Step}
 use Rattle.triangle.specs.declared.RowRange.{RowRange}
-use Rattle.protocol.specs.declared.fields.NextVertices.{NextVertices}
-use Rattle.protocol.specs.declared.fields.NextCircle.{NextCircle}
+use Rattle.readers.specs.declared.figures.NextVertices.{NextVertices}
+use Rattle.readers.specs.declared.figures.NextCircle.{NextCircle}
 use Rattle.protocol.specs.declared.reply.Reply.{Reply}
 use Rattle.protocol.specs.declared.reply.Reply.the-variants.{One, Two}
 use Rattle.protocol.specs.declared.reply.Value.the-variants.{Natural, Whole}
 use Rattle.protocol.specs.Reply.{verdictReply}
-use Rattle.protocol.proofs.Replies.{readings}
+use Rattle.readers.proofs.Readings.{readings}
 use Rattle.questions.specs.Ask.{lengthSaid, stepSaid, spanSaid, rowsSaid, spanOf, discspanOf}
 
 pub length-said : {a found : Length} → a ≡ found → One (a .number) (Natural (a .points)) ≡ lengthSaid found

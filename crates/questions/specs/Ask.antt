@@ -18,14 +18,14 @@ use Rattle.triangle.specs.Row.{rowSpan, firstRow, rowCount}
 use Rattle.circle.specs.Refusal.{circleTests}
 use Rattle.circle.specs.Circle as circle
 use Rattle.text.specs.Fields.{nextU32, nextI32}
-use Rattle.protocol.specs.declared.fields.NextVertices.{NextVertices}
-use Rattle.protocol.specs.declared.fields.NextCircle.{NextCircle}
+use Rattle.readers.specs.declared.figures.NextVertices.{NextVertices}
+use Rattle.readers.specs.declared.figures.NextCircle.{NextCircle}
 use Rattle.protocol.specs.declared.reply.Reply.{Reply}
 use Rattle.protocol.specs.declared.reply.Reply.the-variants.{Bad, One, Two}
 use Rattle.protocol.specs.declared.reply.Value.the-variants.{Natural, Whole}
-use Rattle.protocol.specs.Fields.{ofOne, ofTwo, nextPoint, nextEnds, nextVertices, nextCircle}
+use Rattle.readers.specs.Figures.{ofOne, ofTwo, nextPoint, nextEnds, nextVertices, nextCircle}
 use Rattle.protocol.specs.Reply.{ifLast, verdictReply}
-use Rattle.protocol.specs.Words.{meant}
+use Rattle.readers.specs.Words.{meant}
 use Rattle.questions.specs.Words.{lengthWord, pointWord, onlineWord, insideWord, spanWord, rowsWord, discWord, discspanWord, tracelengthWord, tracepointWord, ontraceWord}
 
 -- ---- answers, put into a reply

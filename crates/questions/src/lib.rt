@@ -4,13 +4,13 @@ ghost use Rattle.questions.specs.Ask.{lengthReply, pointReply, onlineRep
 ghost use Rattle.questions.specs.Ask.{insideReply, spanReply, rowsReply, discReply, discspanReply, askReply};
 use protocol::Reply;
 use protocol::Value;
-use protocol::ends_at;
-use protocol::next_circle;
-use protocol::next_ends;
-use protocol::next_point;
-use protocol::next_vertices;
-use protocol::place_in;
 use protocol::verdict_reply;
+use readers::ends_at;
+use readers::next_circle;
+use readers::next_ends;
+use readers::next_point;
+use readers::next_vertices;
+use readers::place_in;
 
 fn length(said: &[u8], at: usize) -> Reply
     ensures { λ r. ⌜ r ≡ lengthReply (now (said .entry)) at ⌝ }

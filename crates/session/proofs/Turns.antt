@@ -17,11 +17,11 @@ use Rattle.text.proofs.Numbers.{rest-is}
 use Rattle.protocol.specs.declared.reply.Reply.{Reply}
 use Rattle.protocol.specs.declared.reply.Reply.the-variants.{Bad, Number, One}
 use Rattle.protocol.specs.declared.reply.Value.the-variants.{Natural}
-use Rattle.protocol.specs.Fields.{isLast}
+use Rattle.readers.specs.Figures.{isLast}
 use Rattle.protocol.specs.Bytes.{isHex, hexPut}
 use Rattle.protocol.proofs.Hexadecimal.{put-other}
-use Rattle.protocol.proofs.Letters.{choices}
-use Rattle.protocol.proofs.Replies.{is-within, readings}
+use Rattle.readers.proofs.Letters.{choices}
+use Rattle.readers.proofs.Readings.{is-within, readings}
 use Rattle.session.specs.declared.screen.Described.{Described}
 use Rattle.session.specs.declared.screen.Screen.{Screen}
 use Rattle.session.specs.declared.screen.Turn.{Turn}

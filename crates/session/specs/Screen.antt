@@ -22,8 +22,8 @@ use Rattle.protocol.specs.declared.reply.Reply.{Reply}
 use Rattle.protocol.specs.declared.reply.Reply.the-variants.{Bad, Number, One}
 use Rattle.protocol.specs.declared.reply.Value.the-variants.{Natural}
 use Rattle.protocol.specs.Reply.{ifLast}
-use Rattle.protocol.specs.Fields.{isLast, ofOne, ofTwo, nextPoint}
-use Rattle.protocol.specs.Words.{meant}
+use Rattle.readers.specs.Figures.{isLast, ofOne, ofTwo, nextPoint}
+use Rattle.readers.specs.Words.{meant}
 use Rattle.session.specs.declared.screen.Described.{Described}
 use Rattle.session.specs.declared.screen.Screen.{Screen}
 use Rattle.session.specs.declared.screen.Turn.{Turn}

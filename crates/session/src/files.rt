@@ -10,9 +10,9 @@ use crate::screen::respond;
 use framebuffer::Frame;
 use protocol::Reply;
 use protocol::Value;
-use protocol::ends_within;
-use protocol::place_in;
 use protocol::put_hex;
+use readers::ends_within;
+use readers::place_in;
 
 fn image(said: &[u8], at: usize, buf: &[u8], frame: Frame, file: &mut [u8]) -> Reply
     requires { ⌜ length (now file) ≡ 65536 ⌝ }

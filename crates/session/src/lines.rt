@@ -6,9 +6,9 @@ ghost use Rattle.session.specs.Lines.{answered, afterAll};
 use crate::files::take_turn;
 use crate::screen::Screen;
 use protocol::dump;
-use protocol::place_in;
 use protocol::write_bad;
 use protocol::write_reply;
+use readers::place_in;
 
 // What a line leaves: the screen, and how far the output is filled.
 pub struct Answered {

@@ -7,10 +7,10 @@ use calls::draw;
 use framebuffer::Frame;
 use protocol::Reply;
 use protocol::Value;
-use protocol::ends_at;
-use protocol::ends_within;
-use protocol::next_point;
-use protocol::place_in;
+use readers::ends_at;
+use readers::ends_within;
+use readers::next_point;
+use readers::place_in;
 
 // The description, and how many bytes of the buffer are lent to drawing calls.
 pub struct Screen {

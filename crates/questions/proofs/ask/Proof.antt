@@ -1,6 +1,6 @@
 -- `questions::ask` answers the question at whose place in the table the word is. Assumes nothing.
 use borrow.Author.Needs.{needs}
-use Rattle.protocol.proofs.Letters.{choices}
+use Rattle.readers.proofs.Letters.{choices}
 use Rattle.questions.proofs.ask.Statement.{statement}
 use Rattle.questions.proofs.ask.Tie as tie
 

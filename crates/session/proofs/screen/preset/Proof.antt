@@ -1,7 +1,7 @@
 -- `session::screen::preset` sets every byte, where the line is the value alone. Assumes nothing.
 use native.Mathlib.Omega.{arith}
 use borrow.Author.Needs.{needs}
-use Rattle.protocol.proofs.Replies.{is-within}
+use Rattle.readers.proofs.Readings.{is-within}
 use Rattle.session.specs.Screen.{presetCall}
 use Rattle.session.proofs.Turns.{turns}
 use Rattle.session.proofs.screen.preset.Statement.{statement}

@@ -1,11 +1,11 @@
--- `protocol::fields::ends_within` makes the second test where the first passes. Assumes nothing.
+-- `readers::figures::ends_within` makes the second test where the first passes. Assumes nothing.
 use mathlib.Core.Path.{sym, ap, _∙_}
 use mathlib.Core.Bool.{Bool, _&&_}
 use lib.Dec.{leb}
 use borrow.Author.Needs.{needs}
 use borrow.Author.Tests.{not-true, not-false}
-use Rattle.protocol.proofs.fields.ends_within.Statement.{statement}
-use Rattle.protocol.proofs.fields.ends_within.Tie as tie
+use Rattle.readers.proofs.figures.ends_within.Statement.{statement}
+use Rattle.readers.proofs.figures.ends_within.Tie as tie
 
 ends-at-requires : tie.Need-ends-at-requires
 ends-at-requires c κs = search needs

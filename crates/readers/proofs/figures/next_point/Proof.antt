@@ -1,10 +1,10 @@
--- `protocol::fields::next_point` reads two coordinates, one behind the other. Assumes nothing.
+-- `readers::figures::next_point` reads two coordinates, one behind the other. Assumes nothing.
 use borrow.Author.Needs.{needs}
 use Rattle.whole.proofs.Machine.{field-back}
-use Rattle.protocol.specs.Fields.{nextPoint}
-use Rattle.protocol.proofs.Replies.{two-read}
-use Rattle.protocol.proofs.fields.next_point.Statement.{statement}
-use Rattle.protocol.proofs.fields.next_point.Tie as tie
+use Rattle.readers.specs.Figures.{nextPoint}
+use Rattle.readers.proofs.Readings.{two-read}
+use Rattle.readers.proofs.figures.next_point.Statement.{statement}
+use Rattle.readers.proofs.figures.next_point.Tie as tie
 
 next-i32-requires : tie.Need-next-i32-requires
 next-i32-requires c κs = search needs

@@ -7,10 +7,10 @@ use lib.ListN.{length}
 use Rattle.text.specs.declared.NextI32.{NextI32}
 use Rattle.text.specs.declared.NextU32.{NextU32}
 use Rattle.text.specs.Fields.{nextU32, nextI32}
-use Rattle.protocol.specs.declared.fields.NextPoint.{NextPoint}
-use Rattle.protocol.specs.declared.fields.NextEnds.{NextEnds}
-use Rattle.protocol.specs.declared.fields.NextVertices.{NextVertices}
-use Rattle.protocol.specs.declared.fields.NextCircle.{NextCircle}
+use Rattle.readers.specs.declared.figures.NextPoint.{NextPoint}
+use Rattle.readers.specs.declared.figures.NextEnds.{NextEnds}
+use Rattle.readers.specs.declared.figures.NextVertices.{NextVertices}
+use Rattle.readers.specs.declared.figures.NextCircle.{NextCircle}
 
 -- the place behind the last field: every field was what was asked for, and there are no more
 abbrev pub isLast : List ℕ → ℕ → Bool

@@ -1,9 +1,9 @@
--- `protocol::fields::next_vertices` reads two places, and a third behind them. Assumes nothing.
+-- `readers::figures::next_vertices` reads two places, and a third behind them. Assumes nothing.
 use borrow.Author.Needs.{needs}
-use Rattle.protocol.specs.Fields.{nextVertices}
-use Rattle.protocol.proofs.Replies.{two-read}
-use Rattle.protocol.proofs.fields.next_vertices.Statement.{statement}
-use Rattle.protocol.proofs.fields.next_vertices.Tie as tie
+use Rattle.readers.specs.Figures.{nextVertices}
+use Rattle.readers.proofs.Readings.{two-read}
+use Rattle.readers.proofs.figures.next_vertices.Statement.{statement}
+use Rattle.readers.proofs.figures.next_vertices.Tie as tie
 
 next-ends-requires : tie.Need-next-ends-requires
 next-ends-requires c κs = search needs

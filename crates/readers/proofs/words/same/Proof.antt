@@ -1,13 +1,13 @@
--- `protocol::words::same` compares a byte a turn; what is left is at each turn the same as the whole words are. Assumes nothing.
+-- `readers::words::same` compares a byte a turn; what is left is at each turn the same as the whole words are. Assumes nothing.
 use mathlib.Core.Path.{_≡_, refl, _∙_}
 use Prim.Native.Nat.{_-_, _≤_}
 use native.Mathlib.Omega.{arith}
 use lib.ListN.{length, drop}
 use borrow.Author.Needs.{needs}
-use Rattle.protocol.specs.Words.{sameWord}
-use Rattle.protocol.proofs.Letters.{other-length, same-turn, other-byte, same-end}
-use Rattle.protocol.proofs.words.same.Statement.{statement}
-use Rattle.protocol.proofs.words.same.Tie as tie
+use Rattle.readers.specs.Words.{sameWord}
+use Rattle.readers.proofs.Letters.{other-length, same-turn, other-byte, same-end}
+use Rattle.readers.proofs.words.same.Statement.{statement}
+use Rattle.readers.proofs.words.same.Tie as tie
 
 abbrev Inv-loop : tie.InvT-loop
 Inv-loop a b i₀ i = (i ≤ length a) × (length a ≡ length b) × (sameWord (drop i a) (drop i b) ≡ sameWord a b)

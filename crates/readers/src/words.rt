@@ -1,7 +1,7 @@
 // Telling words apart.
 ghost use mathlib.Core.Path.{_≡_};
 ghost use Rattle.text.specs.Fields.{fields};
-ghost use Rattle.protocol.specs.Words.{sameWord, placeOf};
+ghost use Rattle.readers.specs.Words.{sameWord, placeOf};
 
 // Whether two words have the same letters.
 fn same(a: &[u8], b: &[u8]) -> bool

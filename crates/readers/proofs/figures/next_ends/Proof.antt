@@ -1,9 +1,9 @@
--- `protocol::fields::next_ends` reads two places, one behind the other. Assumes nothing.
+-- `readers::figures::next_ends` reads two places, one behind the other. Assumes nothing.
 use borrow.Author.Needs.{needs}
-use Rattle.protocol.specs.Fields.{nextEnds}
-use Rattle.protocol.proofs.Replies.{two-read}
-use Rattle.protocol.proofs.fields.next_ends.Statement.{statement}
-use Rattle.protocol.proofs.fields.next_ends.Tie as tie
+use Rattle.readers.specs.Figures.{nextEnds}
+use Rattle.readers.proofs.Readings.{two-read}
+use Rattle.readers.proofs.figures.next_ends.Statement.{statement}
+use Rattle.readers.proofs.figures.next_ends.Tie as tie
 
 next-point-requires : tie.Need-next-point-requires
 next-point-requires c κs = search needs

@@ -4,7 +4,7 @@ ghost use mathlib.Core.Bool.{_&&_};
 ghost use Prim.Native.Nat.{_+_};
 ghost use lib.Dec.{eqb, leb};
 ghost use lib.ListN.{length};
-ghost use Rattle.protocol.specs.Fields.{isLast, nextPoint, nextEnds, nextVertices, nextCircle};
+ghost use Rattle.readers.specs.Figures.{isLast, nextPoint, nextEnds, nextVertices, nextCircle};
 use geometry::Point;
 
 // What reading two coordinates finds, and the place of the next field.

@@ -11,7 +11,7 @@ use lib.Seq.{drop-cons}
 use borrow.Author.Tests.{eq-eqb, ne-eqb}
 use Rattle.text.specs.Fields.{until, fieldAt, fieldEnd}
 use Rattle.text.proofs.Parting.{fieldsFrom, from-field, from-past}
-use Rattle.protocol.specs.Words.{sameWord, placeOf, meant}
+use Rattle.readers.specs.Words.{sameWord, placeOf, meant}
 
 -- ---- a turn of the comparison, and its ends
 pub other-length : (s t : List ℕ) → (length s ≡ length t → ⊥) → false ≡ sameWord s t

@@ -1,9 +1,9 @@
--- `protocol::fields::next_circle` reads a place, and the diameter behind it. Assumes nothing.
+-- `readers::figures::next_circle` reads a place, and the diameter behind it. Assumes nothing.
 use borrow.Author.Needs.{needs}
-use Rattle.protocol.specs.Fields.{nextCircle}
-use Rattle.protocol.proofs.Replies.{two-read}
-use Rattle.protocol.proofs.fields.next_circle.Statement.{statement}
-use Rattle.protocol.proofs.fields.next_circle.Tie as tie
+use Rattle.readers.specs.Figures.{nextCircle}
+use Rattle.readers.proofs.Readings.{two-read}
+use Rattle.readers.proofs.figures.next_circle.Statement.{statement}
+use Rattle.readers.proofs.figures.next_circle.Tie as tie
 
 next-point-requires : tie.Need-next-point-requires
 next-point-requires c κs = search needs

@@ -6,7 +6,7 @@ use Prim.Native.Nat.{ℕ, _≤_}
 use lib.Dec.{leb}
 use borrow.Author.Tests.{not-true, not-false, leb-true}
 use Rattle.text.proofs.And.{and-second}
-use Rattle.protocol.specs.Fields.{isLast, ofOne, ofTwo}
+use Rattle.readers.specs.Figures.{isLast, ofOne, ofTwo}
 
 module _ {A : Type 0} (r bad : A) {t last : Bool} (d : t ≡ last) where
   at-last : {b : Bool} → t ≡ b → cond b r bad ≡ cond last r bad

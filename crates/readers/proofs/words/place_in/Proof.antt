@@ -1,4 +1,4 @@
--- `protocol::words::place_in` compares a word a turn; those before it and the place among the rest are at each turn the place among all. Assumes nothing.
+-- `readers::words::place_in` compares a word a turn; those before it and the place among the rest are at each turn the place among all. Assumes nothing.
 use mathlib.Core.Path.{_≡_, sym, ap, _∙_}
 use Prim.Native.Nat.{ℕ, _+_, _-_, _≤_}
 use native.Mathlib.Omega.{arith}
@@ -6,10 +6,10 @@ use lib.ListN.{length}
 use borrow.Author.Needs.{needs}
 use Rattle.text.specs.Fields.{fields, fieldEnd}
 use Rattle.text.proofs.Parting.{fieldsFrom, from-start, part-end-within}
-use Rattle.protocol.specs.Words.{placeOf}
-use Rattle.protocol.proofs.Letters.{word-here, word-other, word-none, compared}
-use Rattle.protocol.proofs.words.place_in.Statement.{statement}
-use Rattle.protocol.proofs.words.place_in.Tie as tie
+use Rattle.readers.specs.Words.{placeOf}
+use Rattle.readers.proofs.Letters.{word-here, word-other, word-none, compared}
+use Rattle.readers.proofs.words.place_in.Statement.{statement}
+use Rattle.readers.proofs.words.place_in.Tie as tie
 
 abbrev Inv-loop : tie.InvT-loop
 Inv-loop table word at₀ before₀ at before =

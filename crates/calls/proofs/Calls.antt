@@ -4,12 +4,12 @@ use mathlib.Core.List.{List}
 use Prim.Native.Nat.{ℕ}
 use Rattle.framebuffer.specs.declared.Drawn.{Drawn}
 use Rattle.framebuffer.specs.declared.Placed.{Placed}
+use Rattle.readers.proofs.Letters.{choices}
+use Rattle.readers.proofs.Readings.{readings}
 use Rattle.protocol.specs.declared.reply.Reply.{Reply}
 use Rattle.protocol.specs.declared.reply.Reply.the-variants.{One}
 use Rattle.protocol.specs.declared.reply.Value.the-variants.{Natural}
 use Rattle.protocol.specs.Reply.{verdictReply}
-use Rattle.readers.proofs.Letters.{choices}
-use Rattle.readers.proofs.Readings.{readings}
 use Rattle.calls.specs.Draw.{placedSaid, drawnSaid}
 
 -- a reply beside bytes that stay

@@ -8,12 +8,12 @@ use Rattle.framebuffer.specs.declared.Placed.{Placed}
 use Rattle.framebuffer.specs.Drawing.{Drawing, fillDrawing, outcome, pixelOutcome}
 use Rattle.drawing.specs.Drawing.{lineDrawing, triangleDrawing, outlineDrawing, circleDrawing, connectedDrawing}
 use Rattle.text.specs.Fields.{nextU32}
+use Rattle.readers.specs.Figures.{isLast, ofOne, ofTwo, nextPoint, nextEnds, nextCorners, nextCircle}
+use Rattle.readers.specs.Words.{meant}
 use Rattle.protocol.specs.declared.reply.Reply.{Reply}
 use Rattle.protocol.specs.declared.reply.Reply.the-variants.{Bad, One}
 use Rattle.protocol.specs.declared.reply.Value.the-variants.{Natural}
-use Rattle.readers.specs.Figures.{isLast, ofOne, ofTwo, nextPoint, nextEnds, nextVertices, nextCircle}
 use Rattle.protocol.specs.Reply.{verdictReply}
-use Rattle.readers.specs.Words.{meant}
 use Rattle.questions.specs.Ask.{askReply}
 use Rattle.calls.specs.Words.{pixelWord, fillWord, lineWord, triangleWord, outlineWord, circleWord, traceWord}
 
@@ -47,12 +47,12 @@ lineCall said at f b = ofTwo (λ l c. called said (c .next) f (lineDrawing (l .s
 -- `triangle X1 Y1 X2 Y2 X3 Y3 C`
 unfoldable pub triangleCall : List ℕ → ℕ → Frame → List ℕ → Reply × List ℕ
 triangleCall said at f b =
-    ofTwo (λ t c. called said (c .next) f (triangleDrawing (t .v1) (t .v2) (t .v3) (c .value)) b) (nextVertices said at) (λ t. nextU32 said (t .next))
+    ofTwo (λ t c. called said (c .next) f (triangleDrawing (t .corners .a) (t .corners .b) (t .corners .c) (c .value)) b) (nextCorners said at) (λ t. nextU32 said (t .next))
 
 -- `outline X1 Y1 X2 Y2 X3 Y3 C`
 unfoldable pub outlineCall : List ℕ → ℕ → Frame → List ℕ → Reply × List ℕ
 outlineCall said at f b =
-    ofTwo (λ t c. called said (c .next) f (outlineDrawing (t .v1) (t .v2) (t .v3) (c .value)) b) (nextVertices said at) (λ t. nextU32 said (t .next))
+    ofTwo (λ t c. called said (c .next) f (outlineDrawing (t .corners .a) (t .corners .b) (t .corners .c) (c .value)) b) (nextCorners said at) (λ t. nextU32 said (t .next))
 
 -- `circle L T D C`
 unfoldable pub circleCall : List ℕ → ℕ → Frame → List ℕ → Reply × List ℕ

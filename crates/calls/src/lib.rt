@@ -9,9 +9,9 @@ use protocol::verdict_reply;
 use questions::ask;
 use readers::ends_at;
 use readers::next_circle;
+use readers::next_corners;
 use readers::next_ends;
 use readers::next_point;
-use readers::next_vertices;
 use readers::place_in;
 
 fn pixel(said: &[u8], at: usize, buf: &mut [u8], frame: Frame) -> Reply
@@ -55,24 +55,26 @@ fn line(said: &[u8], at: usize, buf: &mut [u8], frame: Frame) -> Reply
 fn triangle(said: &[u8], at: usize, buf: &mut [u8], frame: Frame) -> Reply
     ensures { λ r. ⌜ (r, now (buf .exit)) ≡ triangleCall (now (said .entry)) at frame (now (buf .entry)) ⌝ }
 {
-    let t = next_vertices(said, at);
-    let colour = text::next_u32(said, t.next);
+    let read = next_corners(said, at);
+    let colour = text::next_u32(said, read.next);
     if !ends_at(said, colour.next) {
         return Reply::Bad;
     }
-    let drawn = drawing::draw_triangle(buf, frame, t.v1, t.v2, t.v3, colour.value);
+    let t = read.corners;
+    let drawn = drawing::draw_triangle(buf, frame, t.a, t.b, t.c, colour.value);
     Reply::One(drawn.number, Value::Natural(drawn.count))
 }
 
 fn outline(said: &[u8], at: usize, buf: &mut [u8], frame: Frame) -> Reply
     ensures { λ r. ⌜ (r, now (buf .exit)) ≡ outlineCall (now (said .entry)) at frame (now (buf .entry)) ⌝ }
 {
-    let t = next_vertices(said, at);
-    let colour = text::next_u32(said, t.next);
+    let read = next_corners(said, at);
+    let colour = text::next_u32(said, read.next);
     if !ends_at(said, colour.next) {
         return Reply::Bad;
     }
-    let drawn = drawing::draw_outline(buf, frame, t.v1, t.v2, t.v3, colour.value);
+    let t = read.corners;
+    let drawn = drawing::draw_outline(buf, frame, t.a, t.b, t.c, colour.value);
     Reply::One(drawn.number, Value::Natural(drawn.count))
 }
 

@@ -22,14 +22,14 @@ use Rattle.framebuffer.specs.Drawing.{Drawing, callTests}
 use Rattle.drawing.specs.Drawing.{circleDrawing}
 use Rattle.framebuffer.proofs.Calls.{none-holds}
 use Rattle.text.specs.declared.Place.{Place}
-use Rattle.text.specs.declared.Vertices.{Vertices}
 use Rattle.text.specs.Fields.{fields, lines, readPlace}
+use Rattle.readers.specs.declared.figures.Corners.{Corners}
+use Rattle.readers.specs.Figures.{pointOf}
 use Rattle.reports.specs.Minutes.{wedge, behindFirst, insideOne}
-use Rattle.reports.specs.Corners.{corner1, corner2, corner3}
 use Rattle.charts.specs.declared.Extent.{Extent}
 use Rattle.charts.specs.Scale.{extent}
 use Rattle.charts.specs.Picture.{picture, inside, outside, spot}
-use Rattle.charts.specs.Day.{onPicture, wedgeDrawing, under, isShown, discCorner, discColour, disc, discs, day}
+use Rattle.charts.specs.Day.{wedgeDrawing, under, isShown, discCorner, discColour, disc, discs, day}
 use Rattle.charts.proofs.Scaling.{spot-near}
 
 -- each call answers 0
@@ -54,11 +54,11 @@ near-edge (negsuc n) h = by (ltb 3 (suc n)) (suc n - 4) (3 - suc n) (omega arith
     by true a b k = refl
     by false a b k = le-ltb 131072 b k
 
-spot-within : (e : Extent) (x y : ℤ) → inBounds (spot e x y) ≡ true
-spot-within e x y =
-    let n = spot-near e x y refl in
-    let h = near-coord (spot e x y .0) (omega arith) in
-    let k = near-coord (spot e x y .1) (omega arith) in
+spot-within : (e : Extent) (p : Point) → inBounds (spot e p) ≡ true
+spot-within e p =
+    let n = spot-near e p refl in
+    let h = near-coord (spot e p .0) (omega arith) in
+    let k = near-coord (spot e p .1) (omega arith) in
     rw (h, k)
 
 -- ---- a call
@@ -71,12 +71,12 @@ three-within : (p q r : Point) → inBounds p ≡ true → inBounds q ≡ true �
 unfolding vertexTests
 three-within p q r f g h = rw (f, g, h)
 
-disc-within : (e : Extent) (p : Place) → first (circleTests (discCorner e p) 3) ≡ 0
+disc-within : (e : Extent) (p : Point) → first (circleTests (discCorner e p) 3) ≡ 0
 unfolding circleTests
 disc-within e p =
-    let n = spot-near e (p .x) (p .y) refl in
-    let x : natAbs (spot e (p .x) (p .y) .0 -ℤ pos 1) ≤ 130500 = omega (arith, add-size (spot e (p .x) (p .y) .0) (negℤ (pos 1)), n .0) in
-    let y : natAbs (spot e (p .x) (p .y) .1 -ℤ pos 1) ≤ 130500 = omega (arith, add-size (spot e (p .x) (p .y) .1) (negℤ (pos 1)), n .1) in
+    let n = spot-near e p refl in
+    let x : natAbs (spot e p .0 -ℤ pos 1) ≤ 130500 = omega (arith, add-size (spot e p .0) (negℤ (pos 1)), n .0) in
+    let y : natAbs (spot e p .1 -ℤ pos 1) ≤ 130500 = omega (arith, add-size (spot e p .1) (negℤ (pos 1)), n .1) in
     rw (near-coord (discCorner e p .0) x, near-coord (discCorner e p .1) y, near-edge (discCorner e p .0) x, near-edge (discCorner e p .1) y)
 
 either : (t : Bool) → noColour picture (cond t outside inside) ≡ false
@@ -84,25 +84,25 @@ either true = refl
 either false = refl
 
 -- ---- the day
-under-done : (e : Extent) (v : Vertices) → Done (under e v)
+under-done : (e : Extent) (t : Corners) → Done (under e t)
 unfolding under frameTests descriptionTests size packedDistance rowBytes vertexTests endTests
-under-done e v =
+under-done e t =
     one refl
-    (one (accepted (wedgeDrawing e v) refl (three-within (onPicture e (corner1 v)) (onPicture e (corner2 v)) (onPicture e (corner3 v))
-    (spot-within e (v .x1) (v .y1)) (spot-within e (v .x2) (v .y2)) (spot-within e (v .x3) (v .y3))))
+    (one (accepted (wedgeDrawing e t) refl (three-within (spot e (t .a)) (spot e (t .b)) (spot e (t .c))
+    (spot-within e (t .a)) (spot-within e (t .b)) (spot-within e (t .c))))
     (one refl (one refl (one refl (one refl (one refl (one refl none)))))))
 
-disc-done : (e : Extent) (v : Vertices) (p : Place) → Done (disc e v p)
+disc-done : (e : Extent) (t : Corners) (p : Place) → Done (disc e t p)
 unfolding disc
-disc-done e v p = by (isShown p)
+disc-done e t p = by (isShown p) (pointOf p)
   where
-    by : (t : Bool) → Done (cond t (circleDrawing (discCorner e p) 3 (discColour v p) ∷ []) [])
-    by true = one (accepted (circleDrawing (discCorner e p) 3 (discColour v p)) (either (eqb (insideOne v p) 0)) (disc-within e p)) none
-    by false = none
+    by : (b : Bool) (q : Point) → Done (cond b (circleDrawing (discCorner e q) 3 (discColour t q) ∷ []) [])
+    by true q = one (accepted (circleDrawing (discCorner e q) 3 (discColour t q)) (either (eqb (insideOne t q) 0)) (disc-within e q)) none
+    by false q = none
 
-discs-done : (e : Extent) (v : Vertices) (ls : List (List ℕ)) → Done (discs e v ls)
-discs-done e v [] = none
-discs-done e v (l ∷ ls) = done-append (disc-done e v (readPlace (fields l))) (discs-done e v ls)
+discs-done : (e : Extent) (t : Corners) (ls : List (List ℕ)) → Done (discs e t ls)
+discs-done e t [] = none
+discs-done e t (l ∷ ls) = done-append (disc-done e t (readPlace (fields l))) (discs-done e t ls)
 
 pub none-refused : (s : List ℕ) → Done (day s)
 unfolding day

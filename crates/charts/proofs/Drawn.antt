@@ -8,9 +8,10 @@ use Rattle.framebuffer.specs.declared.Drawn.{Drawn}
 use Rattle.framebuffer.specs.Drawing.{Drawing, outcome}
 use Rattle.drawing.specs.Drawing.{circleDrawing}
 use Rattle.text.specs.declared.Place.{Place}
-use Rattle.text.specs.declared.Vertices.{Vertices}
 use Rattle.text.specs.Fields.{fields, readPlace}
 use Rattle.text.specs.Lines.{each}
+use Rattle.readers.specs.declared.figures.Corners.{Corners}
+use Rattle.readers.specs.Figures.{pointOf}
 use Rattle.charts.specs.declared.Extent.{Extent}
 use Rattle.charts.specs.Day.{leaves, isShown, discCorner, discColour, disc, discs}
 
@@ -24,23 +25,23 @@ module _ (f : Frame) where
   leaves-append (d ∷ ds) es b = leaves-append ds es (outcome f d b .1)
 
   -- a line's disc
-  abbrev pub sampled : Extent → Vertices → List ℕ → List ℕ → List ℕ
-  sampled e v b line = leaves f (disc e v (readPlace (fields line))) b
+  abbrev pub sampled : Extent → Corners → List ℕ → List ℕ → List ℕ
+  sampled e t b line = leaves f (disc e t (readPlace (fields line))) b
 
-  pub discs-each : (e : Extent) (v : Vertices) (ls : List (List ℕ)) (b : List ℕ) → each (sampled e v) b ls ≡ leaves f (discs e v ls) b
-  discs-each e v [] b = refl
-  discs-each e v (l ∷ ls) b =
-      discs-each e v ls (sampled e v b l) ∙ sym (leaves-append (disc e v (readPlace (fields l))) (discs e v ls) b)
+  pub discs-each : (e : Extent) (t : Corners) (ls : List (List ℕ)) (b : List ℕ) → each (sampled e t) b ls ≡ leaves f (discs e t ls) b
+  discs-each e t [] b = refl
+  discs-each e t (l ∷ ls) b =
+      discs-each e t ls (sampled e t b l) ∙ sym (leaves-append (disc e t (readPlace (fields l))) (discs e t ls) b)
 
   -- a sample's disc, where it is on the picture and where not
-  module _ (e : Extent) (v : Vertices) (p : Place) (b : List ℕ) where
-    pub shown : isShown p ≡ true → outcome f (circleDrawing (discCorner e p) 3 (discColour v p)) b .1 ≡ leaves f (disc e v p) b
+  module _ (e : Extent) (t : Corners) (p : Place) (b : List ℕ) where
+    pub shown : isShown p ≡ true → outcome f (circleDrawing (discCorner e (pointOf p)) 3 (discColour t (pointOf p))) b .1 ≡ leaves f (disc e t p) b
     unfolding disc
-    shown h = sym (ap (λ (t : Bool). leaves f (cond t (circleDrawing (discCorner e p) 3 (discColour v p) ∷ []) []) b) h)
+    shown h = sym (ap (λ (x : Bool). leaves f (cond x (circleDrawing (discCorner e (pointOf p)) 3 (discColour t (pointOf p)) ∷ []) []) b) h)
 
-    pub hidden : isShown p ≡ false → b ≡ leaves f (disc e v p) b
+    pub hidden : isShown p ≡ false → b ≡ leaves f (disc e t p) b
     unfolding disc
-    hidden h = sym (ap (λ (t : Bool). leaves f (cond t (circleDrawing (discCorner e p) 3 (discColour v p) ∷ []) []) b) h)
+    hidden h = sym (ap (λ (x : Bool). leaves f (cond x (circleDrawing (discCorner e (pointOf p)) 3 (discColour t (pointOf p)) ∷ []) []) b) h)
 
 -- ---- three tests, asked one after the other
 module _ (a b c : Bool) where

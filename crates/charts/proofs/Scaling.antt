@@ -8,9 +8,10 @@ use lib.Dec.{le→leb}
 use lib.IntN.{ℤ, pos, negsuc, negℤ, natAbs, _+ℤ_, _-ℤ_}
 use lib.Signed.{ltZ, _≤ℤ_, _<ℤ_}
 use borrow.Author.Tests.{ltb-true}
-use Rattle.text.specs.declared.Vertices.{Vertices}
 use Rattle.text.specs.Fields.{fields, readPlace}
 use Rattle.text.specs.Lines.{each}
+use Rattle.readers.specs.declared.figures.Corners.{Corners}
+use Rattle.readers.specs.Figures.{pointOf}
 use Rattle.whole.proofs.Machine.{neg-size, add-size}
 use Rattle.geometry.specs.declared.Point.{Point}
 use Rattle.charts.specs.declared.Extent.{Extent}
@@ -34,21 +35,17 @@ pub above : (n : ℕ) (x : ℤ) → pos n <ℤ x → pos 0 ≤ℤ x
 above n (pos m) h = record { le = le→leb 0 m (omega arith) }
 above n (negsuc m) h = absurd (h .lt)
 
--- the same place, from equal parts
-pub same-place : {e f : Extent} {x y z w : ℤ} → e ≡ f → x ≡ z → y ≡ w → withPlace e x y ≡ withPlace f z w
-same-place p q r = λ i. withPlace (p i) (q i) (r i)
+place-long : {e : Extent} (p : Point) → Long e → Long (withPlace e p)
+place-long {e} p h = (larger-long (e .second) (p .0) (h .0), larger-long (e .load) (p .1) (h .1))
 
-place-long : {e : Extent} (x y : ℤ) → Long e → Long (withPlace e x y)
-place-long {e} x y h = (larger-long (e .second) x (h .0), larger-long (e .load) y (h .1))
-
-pub wedge-long : (v : Vertices) → Long (ofWedge v)
+pub wedge-long : (t : Corners) → Long (ofWedge t)
 unfolding ofWedge
-wedge-long v = place-long (v .x3) (v .y3) (place-long (v .x2) (v .y2) (place-long (v .x1) (v .y1) (omega arith, omega arith)))
+wedge-long t = place-long (t .c) (place-long (t .b) (place-long (t .a) (omega arith, omega arith)))
 
 pub samples-long : {e : Extent} (ls : List (List ℕ)) → Long e → Long (each withSample e ls)
 unfolding withSample
 samples-long [] h = h
-samples-long (l ∷ ls) h = samples-long ls (place-long (readPlace (fields l) .x) (readPlace (fields l) .y) h)
+samples-long (l ∷ ls) h = samples-long ls (place-long (pointOf (readPlace (fields l))) h)
 
 -- ---- how far a place is
 pub away-size : (most size n : ℕ) → away most size n ≤ 130000
@@ -77,11 +74,11 @@ module _ (most size : ℕ) (x : ℤ) where
 pub near : {r z : ℤ} → r ≡ z → natAbs z ≤ 130000 → natAbs r ≤ 130000
 near e h = subst (λ (x : ℤ). natAbs x ≤ 130000) (sym e) h
 
-pub spot-near : {p : Point} (e : Extent) (x y : ℤ) → p ≡ spot e x y → (natAbs (p .0) ≤ 130400) × (natAbs (p .1) ≤ 130400)
-spot-near e x y h = subst (λ (p : Point). (natAbs (p .0) ≤ 130400) × (natAbs (p .1) ≤ 130400)) (sym h) (right, below)
+pub spot-near : {s : Point} (e : Extent) (p : Point) → s ≡ spot e p → (natAbs (s .0) ≤ 130400) × (natAbs (s .1) ≤ 130400)
+spot-near e p h = subst (λ (s : Point). (natAbs (s .0) ≤ 130400) × (natAbs (s .1) ≤ 130400)) (sym h) (right, below)
   where
-    right : natAbs (pos 24 +ℤ scaled (e .second) 600 x) ≤ 130400
-    right = omega (arith, add-size (pos 24) (scaled (e .second) 600 x), scaled-size (e .second) 600 x)
+    right : natAbs (pos 24 +ℤ scaled (e .second) 600 (p .0)) ≤ 130400
+    right = omega (arith, add-size (pos 24) (scaled (e .second) 600 (p .0)), scaled-size (e .second) 600 (p .0))
 
-    below : natAbs (pos 335 -ℤ scaled (e .load) 320 y) ≤ 130400
-    below = omega (arith, add-size (pos 335) (negℤ (scaled (e .load) 320 y)), neg-size (scaled (e .load) 320 y), scaled-size (e .load) 320 y)
+    below : natAbs (pos 335 -ℤ scaled (e .load) 320 (p .1)) ≤ 130400
+    below = omega (arith, add-size (pos 335) (negℤ (scaled (e .load) 320 (p .1))), neg-size (scaled (e .load) 320 (p .1)), scaled-size (e .load) 320 (p .1))

@@ -11,10 +11,10 @@ use Rattle.framebuffer.specs.declared.Frame.{Frame}
 use Rattle.framebuffer.specs.Drawing.{Drawing, fillDrawing, outcome}
 use Rattle.drawing.specs.Drawing.{lineDrawing, triangleDrawing, circleDrawing}
 use Rattle.text.specs.declared.Place.{Place}
-use Rattle.text.specs.declared.Vertices.{Vertices}
 use Rattle.text.specs.Fields.{fields, lines, readPlace}
+use Rattle.readers.specs.declared.figures.Corners.{Corners}
+use Rattle.readers.specs.Figures.{pointOf}
 use Rattle.reports.specs.declared.Count.{Count}
-use Rattle.reports.specs.Corners.{corner1, corner2, corner3}
 use Rattle.reports.specs.Minutes.{wedge, behindFirst, insideOne, counting, minutes}
 use Rattle.charts.specs.declared.Extent.{Extent}
 use Rattle.charts.specs.Scale.{extent}
@@ -30,12 +30,8 @@ leaves f (d ∷ ds) b = leaves f ds (outcome f d b .1)
 abbrev pub box : Point → Point → ℕ → List Drawing
 box p q colour = triangleDrawing p (q .0, p .1) q colour ∷ triangleDrawing p (p .0, q .1) q colour ∷ []
 
--- a corner of the wedge, scaled
-abbrev pub onPicture : Extent → Point → Point
-onPicture e p = spot e (p .0) (p .1)
-
-abbrev pub wedgeDrawing : Extent → Vertices → Drawing
-wedgeDrawing e v = triangleDrawing (onPicture e (corner1 v)) (onPicture e (corner2 v)) (onPicture e (corner3 v)) filling
+abbrev pub wedgeDrawing : Extent → Corners → Drawing
+wedgeDrawing e t = triangleDrawing (spot e (t .a)) (spot e (t .b)) (spot e (t .c)) filling
 
 -- what lies below 0 is off the picture
 abbrev pub margins : List Drawing
@@ -44,29 +40,29 @@ margins = box (pos 0, pos 0) (pos 23, pos 359) ground ++ box (pos 0, pos 336) (p
 abbrev pub axes : List Drawing
 axes = lineDrawing (pos 24, pos 335) (pos 624, pos 335) ink ∷ lineDrawing (pos 24, pos 335) (pos 24, pos 15) ink ∷ []
 
-unfoldable pub under : Extent → Vertices → List Drawing
-under e v = fillDrawing ground ∷ wedgeDrawing e v ∷ (margins ++ axes)
+unfoldable pub under : Extent → Corners → List Drawing
+under e t = fillDrawing ground ∷ wedgeDrawing e t ∷ (margins ++ axes)
 
 -- a sample: a disc of three pixels about its place, if that is on the picture
 abbrev pub isShown : Place → Bool
 isShown p = p .ok && (not (ltZ (p .x) (pos 0)) && not (ltZ (p .y) (pos 0)))
 
-abbrev pub discCorner : Extent → Place → Point
-discCorner e p = (spot e (p .x) (p .y) .0 -ℤ pos 1, spot e (p .x) (p .y) .1 -ℤ pos 1)
+abbrev pub discCorner : Extent → Point → Point
+discCorner e p = (spot e p .0 -ℤ pos 1, spot e p .1 -ℤ pos 1)
 
-abbrev pub discColour : Vertices → Place → ℕ
-discColour v p = cond (eqb (insideOne v p) 0) outside inside
+abbrev pub discColour : Corners → Point → ℕ
+discColour t p = cond (eqb (insideOne t p) 0) outside inside
 
-unfoldable pub disc : Extent → Vertices → Place → List Drawing
-disc e v p = cond (isShown p) (circleDrawing (discCorner e p) 3 (discColour v p) ∷ []) []
+unfoldable pub disc : Extent → Corners → Place → List Drawing
+disc e t p = cond (isShown p) (circleDrawing (discCorner e (pointOf p)) 3 (discColour t (pointOf p)) ∷ []) []
 
-abbrev pub discs : Extent → Vertices → List (List ℕ) → List Drawing
-discs e v [] = []
-discs e v (l ∷ ls) = disc e v (readPlace (fields l)) ++ discs e v ls
+abbrev pub discs : Extent → Corners → List (List ℕ) → List Drawing
+discs e t [] = []
+discs e t (l ∷ ls) = disc e t (readPlace (fields l)) ++ discs e t ls
 
 -- ---- the day
-abbrev pub dayOver : Extent → Vertices → List ℕ → List Drawing
-dayOver e v s = under e v ++ discs e v (lines (behindFirst s))
+abbrev pub dayOver : Extent → Corners → List ℕ → List Drawing
+dayOver e t s = under e t ++ discs e t (lines (behindFirst s))
 
 unfoldable pub day : List ℕ → List Drawing
 day s = dayOver (extent s) (wedge s) s

@@ -34,5 +34,5 @@ across e x = pos 24 +ℤ scaled (e .second) 600 x
 abbrev pub down : Extent → ℤ → ℤ
 down e y = pos 335 -ℤ scaled (e .load) 320 y
 
-abbrev pub spot : Extent → ℤ → ℤ → Point
-spot e x y = (across e x, down e y)
+abbrev pub spot : Extent → Point → Point
+spot e p = (across e (p .0), down e (p .1))

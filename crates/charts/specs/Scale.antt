@@ -4,9 +4,11 @@ use mathlib.Core.List.{List}
 use Prim.Native.Nat.{ℕ, _*_, _/_, min}
 use lib.IntN.{ℤ, pos, negℤ, natAbs}
 use lib.Signed.{ltZ}
-use Rattle.text.specs.declared.Vertices.{Vertices}
+use Rattle.geometry.specs.declared.Point.{Point}
 use Rattle.text.specs.Fields.{fields, lines, readPlace}
 use Rattle.text.specs.Lines.{each}
+use Rattle.readers.specs.declared.figures.Corners.{Corners}
+use Rattle.readers.specs.Figures.{pointOf}
 use Rattle.reports.specs.Minutes.{wedge, behindFirst}
 use Rattle.charts.specs.declared.Extent.{Extent}
 
@@ -14,17 +16,17 @@ use Rattle.charts.specs.declared.Extent.{Extent}
 abbrev pub larger : ℕ → ℤ → ℕ
 larger n x = cond (ltZ (pos n) x) (natAbs x) n
 
-abbrev pub withPlace : Extent → ℤ → ℤ → Extent
-withPlace e x y = record { second = larger (e .second) x; load = larger (e .load) y }
+abbrev pub withPlace : Extent → Point → Extent
+withPlace e p = record { second = larger (e .second) (p .0); load = larger (e .load) (p .1) }
 
 abbrev pub least : Extent
 least = record { second = 1; load = 1 }
 
-unfoldable pub ofWedge : Vertices → Extent
-ofWedge v = withPlace (withPlace (withPlace least (v .x1) (v .y1)) (v .x2) (v .y2)) (v .x3) (v .y3)
+unfoldable pub ofWedge : Corners → Extent
+ofWedge t = withPlace (withPlace (withPlace least (t .a)) (t .b)) (t .c)
 
 unfoldable pub withSample : Extent → List ℕ → Extent
-withSample e line = withPlace e (readPlace (fields line) .x) (readPlace (fields line) .y)
+withSample e line = withPlace e (pointOf (readPlace (fields line)))
 
 abbrev pub extent : List ℕ → Extent
 extent s = each withSample (ofWedge (wedge s)) (lines (behindFirst s))

@@ -16,9 +16,11 @@ use crate::reach::with_samples;
 use framebuffer::Canvas;
 use framebuffer::Frame;
 use geometry::Point;
+use readers::Corners;
+use readers::corners_of;
+use readers::point_of;
 use reports::Count;
 use text::Place;
-use text::Vertices;
 
 const GROUND: u32 = 0xFFFFFF;
 
@@ -39,13 +41,13 @@ fn draw_box(pane: &mut [u8], f: Frame, p: Point, q: Point, colour: u32)
 }
 
 // All but the samples. The margins go over what of the wedge lies below 0.
-fn draw_under(pane: &mut [u8], f: Frame, e: Extent, v: Vertices)
+fn draw_under(pane: &mut [u8], f: Frame, e: Extent, t: Corners)
     requires { ⌜ (0 < e .second) × (0 < e .load) ⌝ }
-    ensures { λ r. ⌜ now (pane .exit) ≡ leaves f (under e v) (now (pane .entry)) ⌝ }
+    ensures { λ r. ⌜ now (pane .exit) ≡ leaves f (under e t) (now (pane .entry)) ⌝ }
 {
-    let a = spot(e, v.x1, v.y1);
-    let b = spot(e, v.x2, v.y2);
-    let c = spot(e, v.x3, v.y3);
+    let a = spot(e, t.a);
+    let b = spot(e, t.b);
+    let c = spot(e, t.c);
     framebuffer::fill(pane, f, GROUND);
     drawing::draw_triangle(pane, f, a, b, c, FILLING);
     draw_box(pane, f, Point(0, 0), Point(23, 359), GROUND);
@@ -62,37 +64,38 @@ fn is_shown(p: Place) -> bool
 }
 
 // The colour of a sample's disc, by the numbers as they came.
-fn disc_colour(v: Vertices, p: Place) -> u32
-    ensures { λ r. ⌜ r ≡ discColour v p ⌝ }
+fn disc_colour(t: Corners, p: Point) -> u32
+    ensures { λ r. ⌜ r ≡ discColour t p ⌝ }
 {
-    if reports::inside_one(v, p) == 0 {
+    if reports::inside_one(t, p) == 0 {
         return OUTSIDE;
     }
     INSIDE
 }
 
 // A sample's disc. All samples go on one canvas, which is judged once.
-fn draw_sample(pane: &mut [u8], canvas: Canvas, e: Extent, v: Vertices, p: Place)
+fn draw_sample(pane: &mut [u8], canvas: Canvas, e: Extent, t: Corners, p: Place)
     requires { ⌜ Over canvas (length (now pane)) × (0 < e .second) × (0 < e .load) ⌝ }
-    ensures { λ r. ⌜ now (pane .exit) ≡ leaves (canvas .frame) (disc e v p) (now (pane .entry)) ⌝ }
+    ensures { λ r. ⌜ now (pane .exit) ≡ leaves (canvas .frame) (disc e t p) (now (pane .entry)) ⌝ }
 {
     if is_shown(p) {
-        let s = spot(e, p.x, p.y);
-        let colour = disc_colour(v, p);
+        let sample = point_of(p);
+        let s = spot(e, sample);
+        let colour = disc_colour(t, sample);
         drawing::circle_on(pane, canvas, Point(s.0 - 1, s.1 - 1), 3, colour);
     }
 }
 
 // The samples of the lines from a place on.
-fn draw_samples(pane: &mut [u8], canvas: Canvas, e: Extent, v: Vertices, input: &[u8], from: usize)
+fn draw_samples(pane: &mut [u8], canvas: Canvas, e: Extent, t: Corners, input: &[u8], from: usize)
     requires { ⌜ Over canvas (length (now pane)) × (0 < e .second) × (0 < e .load) ⌝ }
-    ensures { λ r. ⌜ now (pane .exit) ≡ leaves (canvas .frame) (discs e v (lines (drop from (now (input .entry))))) (now (pane .entry)) ⌝ }
+    ensures { λ r. ⌜ now (pane .exit) ≡ leaves (canvas .frame) (discs e t (lines (drop from (now (input .entry))))) (now (pane .entry)) ⌝ }
 {
     let mut at = from;
     while at < input.len() {
         let end = line_end(input, at);
         let p = text::read_place(&input[at..end]);
-        draw_sample(pane, canvas, e, v, p);
+        draw_sample(pane, canvas, e, t, p);
         at = end + 1;
     }
 }
@@ -101,7 +104,7 @@ fn draw_samples(pane: &mut [u8], canvas: Canvas, e: Extent, v: Vertices, input: 
 fn draw_good(pane: &mut [u8], input: &[u8])
     ensures { λ r. ⌜ now (pane .exit) ≡ leaves picture (day (now (input .entry))) (now (pane .entry)) ⌝ }
 {
-    let wedge = text::first_vertices(input);
+    let wedge = corners_of(text::first_vertices(input));
     let from = text::find(input, b'\n') + 1;
     let e = with_samples(of_wedge(wedge), input, from);
     let f = frame();

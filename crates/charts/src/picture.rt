@@ -39,9 +39,12 @@ fn scaled(x: i32, most: u32, size: u32) -> i32
 }
 
 // Inside the library: where a second and a load stand. Loads grow upwards.
-pub fn spot(e: Extent, x: i32, y: i32) -> Point
+pub fn spot(e: Extent, p: Point) -> Point
     requires { ⌜ (0 < e .second) × (0 < e .load) ⌝ }
-    ensures { λ r. ⌜ r ≡ spot e x y ⌝ }
+    ensures { λ r. ⌜ r ≡ spot e p ⌝ }
 {
-    Point(24 + scaled(x, e.second, 600), 335 - scaled(y, e.load, 320))
+    Point(
+        24 + scaled(p.0, e.second, 600),
+        335 - scaled(p.1, e.load, 320),
+    )
 }

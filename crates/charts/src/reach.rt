@@ -6,7 +6,9 @@ ghost use Rattle.text.specs.Lines.{each};
 ghost use Rattle.charts.specs.Scale.{larger, withPlace, ofWedge, withSample};
 use crate::Extent;
 use crate::lines::line_end;
-use text::Vertices;
+use geometry::Point;
+use readers::Corners;
+use readers::point_of;
 
 // The larger of two numbers, of which the first is not negative.
 fn larger(n: u32, x: i32) -> u32
@@ -19,31 +21,30 @@ fn larger(n: u32, x: i32) -> u32
 }
 
 // With a place more.
-fn with_place(e: Extent, x: i32, y: i32) -> Extent
-    ensures { λ r. ⌜ r ≡ withPlace e x y ⌝ }
+fn with_place(e: Extent, p: Point) -> Extent
+    ensures { λ r. ⌜ r ≡ withPlace e p ⌝ }
 {
     Extent {
-        second: larger(e.second, x),
-        load: larger(e.load, y),
+        second: larger(e.second, p.0),
+        load: larger(e.load, p.1),
     }
 }
 
 // Inside the library: the wedge alone.
-pub fn of_wedge(v: Vertices) -> Extent
-    ensures { λ r. ⌜ r ≡ ofWedge v ⌝ }
+pub fn of_wedge(t: Corners) -> Extent
+    ensures { λ r. ⌜ r ≡ ofWedge t ⌝ }
 {
     let least = Extent { second: 1, load: 1 };
-    let one = with_place(least, v.x1, v.y1);
-    let two = with_place(one, v.x2, v.y2);
-    with_place(two, v.x3, v.y3)
+    let one = with_place(least, t.a);
+    let two = with_place(one, t.b);
+    with_place(two, t.c)
 }
 
 // With a line more.
 fn with_sample(e: Extent, line: &[u8]) -> Extent
     ensures { λ r. ⌜ r ≡ withSample e (now (line .entry)) ⌝ }
 {
-    let p = text::read_place(line);
-    with_place(e, p.x, p.y)
+    with_place(e, point_of(text::read_place(line)))
 }
 
 // Inside the library: with the lines from a place on.

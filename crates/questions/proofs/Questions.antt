@@ -7,13 +7,13 @@ use Rattle.geometry.specs.declared.Verdict.{Verdict}
 use Rattle.line.specs.declared.Length.{Length}
 use Rattle.line.specs.declared.Step.{Step}
 use Rattle.triangle.specs.declared.RowRange.{RowRange}
-use Rattle.readers.specs.declared.figures.NextVertices.{NextVertices}
+use Rattle.readers.specs.declared.figures.Corners.{Corners}
 use Rattle.readers.specs.declared.figures.NextCircle.{NextCircle}
+use Rattle.readers.proofs.Readings.{readings}
 use Rattle.protocol.specs.declared.reply.Reply.{Reply}
 use Rattle.protocol.specs.declared.reply.Reply.the-variants.{One, Two}
 use Rattle.protocol.specs.declared.reply.Value.the-variants.{Natural, Whole}
 use Rattle.protocol.specs.Reply.{verdictReply}
-use Rattle.readers.proofs.Readings.{readings}
 use Rattle.questions.specs.Ask.{lengthSaid, stepSaid, spanSaid, rowsSaid, spanOf, discspanOf}
 
 pub length-said : {a found : Length} → a ≡ found → One (a .number) (Natural (a .points)) ≡ lengthSaid found
@@ -32,7 +32,7 @@ pub span-said : {a found : Span} {x z : ℤ} → a ≡ found → x ≡ a .start 
 span-said e p q = rw (p, q) (ap spanSaid e)
 
 -- at a row that the code reads back
-pub row-span : (t : NextVertices) {a : Span} {row y : ℤ} → a ≡ spanOf t row → row ≡ y → a ≡ spanOf t y
+pub row-span : (t : Corners) {a : Span} {row y : ℤ} → a ≡ spanOf t row → row ≡ y → a ≡ spanOf t y
 row-span t e h = e ∙ ap (spanOf t) h
 
 pub row-discspan : (c : NextCircle) {a : Span} {row y : ℤ} → a ≡ discspanOf c row → row ≡ y → a ≡ discspanOf c y

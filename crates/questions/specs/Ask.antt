@@ -3,7 +3,9 @@ use mathlib.Core.List.{List, [], _∷_}
 use Prim.Native.Nat.{ℕ}
 use lib.IntN.{ℤ}
 use Rattle.refusals.specs.First.{first}
+use Rattle.geometry.specs.declared.Point.{Point}
 use Rattle.geometry.specs.declared.Span.{Span}
+use Rattle.geometry.specs.declared.Verdict.{Verdict}
 use Rattle.geometry.specs.Answer.{verdict, span}
 use Rattle.line.specs.declared.Length.{Length}
 use Rattle.line.specs.declared.Step.{Step}
@@ -18,14 +20,14 @@ use Rattle.triangle.specs.Row.{rowSpan, firstRow, rowCount}
 use Rattle.circle.specs.Refusal.{circleTests}
 use Rattle.circle.specs.Circle as circle
 use Rattle.text.specs.Fields.{nextU32, nextI32}
-use Rattle.readers.specs.declared.figures.NextVertices.{NextVertices}
+use Rattle.readers.specs.declared.figures.Corners.{Corners}
 use Rattle.readers.specs.declared.figures.NextCircle.{NextCircle}
+use Rattle.readers.specs.Figures.{ofOne, ofTwo, nextPoint, nextEnds, nextCorners, nextCircle}
+use Rattle.readers.specs.Words.{meant}
 use Rattle.protocol.specs.declared.reply.Reply.{Reply}
 use Rattle.protocol.specs.declared.reply.Reply.the-variants.{Bad, One, Two}
 use Rattle.protocol.specs.declared.reply.Value.the-variants.{Natural, Whole}
-use Rattle.readers.specs.Figures.{ofOne, ofTwo, nextPoint, nextEnds, nextVertices, nextCircle}
 use Rattle.protocol.specs.Reply.{ifLast, verdictReply}
-use Rattle.readers.specs.Words.{meant}
 use Rattle.questions.specs.Words.{lengthWord, pointWord, onlineWord, insideWord, spanWord, rowsWord, discWord, discspanWord, tracelengthWord, tracepointWord, ontraceWord}
 
 -- ---- answers, put into a reply
@@ -78,24 +80,26 @@ ontraceReply said at =
 
 -- ---- of a triangle
 -- `inside X1 Y1 X2 Y2 X3 Y3 X Y`: number, whether the triangle contains the pixel
+abbrev pub verdictOf : Corners → Point → Verdict
+verdictOf t p = verdict (first (vertexTests (t .a) (t .b) (t .c))) (triangle.contained (t .a) (t .b) (t .c) p)
+
 unfoldable pub insideReply : List ℕ → ℕ → Reply
 insideReply said at =
-    ofTwo (λ t p. ifLast said (p .next) (verdictReply (verdict (first (vertexTests (t .v1) (t .v2) (t .v3))) (triangle.contained (t .v1) (t .v2) (t .v3) (p .point)))))
-    (nextVertices said at) (λ t. nextPoint said (t .next))
+    ofTwo (λ t p. ifLast said (p .next) (verdictReply (verdictOf (t .corners) (p .point)))) (nextCorners said at) (λ t. nextPoint said (t .next))
 
 -- `span X1 Y1 X2 Y2 X3 Y3 Y`: number, first x, one past the last
-abbrev pub spanOf : NextVertices → ℤ → Span
-spanOf t y = span (first (vertexTests (t .v1) (t .v2) (t .v3))) (rowSpan (t .v1) (t .v2) (t .v3) y .0) (rowSpan (t .v1) (t .v2) (t .v3) y .1)
+abbrev pub spanOf : Corners → ℤ → Span
+spanOf t y = span (first (vertexTests (t .a) (t .b) (t .c))) (rowSpan (t .a) (t .b) (t .c) y .0) (rowSpan (t .a) (t .b) (t .c) y .1)
 
 unfoldable pub spanReply : List ℕ → ℕ → Reply
-spanReply said at = ofTwo (λ t y. ifLast said (y .next) (spanSaid (spanOf t (y .value)))) (nextVertices said at) (λ t. nextI32 said (t .next))
+spanReply said at = ofTwo (λ t y. ifLast said (y .next) (spanSaid (spanOf (t .corners) (y .value)))) (nextCorners said at) (λ t. nextI32 said (t .next))
 
 -- `rows X1 Y1 X2 Y2 X3 Y3`: number, first row, number of rows
-abbrev pub rowsOf : NextVertices → RowRange
-rowsOf t = rowsAnswer (first (vertexTests (t .v1) (t .v2) (t .v3))) (firstRow (t .v1) (t .v2) (t .v3)) (rowCount (t .v1) (t .v2) (t .v3))
+abbrev pub rowsOf : Corners → RowRange
+rowsOf t = rowsAnswer (first (vertexTests (t .a) (t .b) (t .c))) (firstRow (t .a) (t .b) (t .c)) (rowCount (t .a) (t .b) (t .c))
 
 unfoldable pub rowsReply : List ℕ → ℕ → Reply
-rowsReply said at = ofOne (λ t. ifLast said (t .next) (rowsSaid (rowsOf t))) (nextVertices said at)
+rowsReply said at = ofOne (λ t. ifLast said (t .next) (rowsSaid (rowsOf (t .corners)))) (nextCorners said at)
 
 -- ---- of a circle
 -- `disc L T D X Y`: number, whether the circle contains the pixel

@@ -7,9 +7,9 @@ use protocol::Value;
 use protocol::verdict_reply;
 use readers::ends_at;
 use readers::next_circle;
+use readers::next_corners;
 use readers::next_ends;
 use readers::next_point;
-use readers::next_vertices;
 use readers::place_in;
 
 fn length(said: &[u8], at: usize) -> Reply
@@ -85,23 +85,25 @@ fn ontrace(said: &[u8], at: usize) -> Reply
 fn inside(said: &[u8], at: usize) -> Reply
     ensures { λ r. ⌜ r ≡ insideReply (now (said .entry)) at ⌝ }
 {
-    let t = next_vertices(said, at);
-    let asked = next_point(said, t.next);
+    let read = next_corners(said, at);
+    let asked = next_point(said, read.next);
     if !ends_at(said, asked.next) {
         return Reply::Bad;
     }
-    verdict_reply(triangle::contains(t.v1, t.v2, t.v3, asked.point))
+    let t = read.corners;
+    verdict_reply(triangle::contains(t.a, t.b, t.c, asked.point))
 }
 
 fn span(said: &[u8], at: usize) -> Reply
     ensures { λ r. ⌜ r ≡ spanReply (now (said .entry)) at ⌝ }
 {
-    let t = next_vertices(said, at);
-    let row = text::next_i32(said, t.next);
+    let read = next_corners(said, at);
+    let row = text::next_i32(said, read.next);
     if !ends_at(said, row.next) {
         return Reply::Bad;
     }
-    let found = triangle::row_span(t.v1, t.v2, t.v3, row.value);
+    let t = read.corners;
+    let found = triangle::row_span(t.a, t.b, t.c, row.value);
     Reply::Two(
         found.number,
         Value::Whole(found.start),
@@ -112,11 +114,12 @@ fn span(said: &[u8], at: usize) -> Reply
 fn rows(said: &[u8], at: usize) -> Reply
     ensures { λ r. ⌜ r ≡ rowsReply (now (said .entry)) at ⌝ }
 {
-    let t = next_vertices(said, at);
-    if !ends_at(said, t.next) {
+    let read = next_corners(said, at);
+    if !ends_at(said, read.next) {
         return Reply::Bad;
     }
-    let found = triangle::rows(t.v1, t.v2, t.v3);
+    let t = read.corners;
+    let found = triangle::rows(t.a, t.b, t.c);
     Reply::Two(
         found.number,
         Value::Whole(found.first),

@@ -6,7 +6,7 @@ use Rattle.readers.proofs.figures.ends_at.Reads as ends-at
 use Rattle.readers.proofs.figures.ends_within.Reads as ends-within
 use Rattle.readers.proofs.figures.next_point.Reads as next-point
 use Rattle.readers.proofs.figures.next_ends.Reads as next-ends
-use Rattle.readers.proofs.figures.next_vertices.Reads as next-vertices
+use Rattle.readers.proofs.figures.next_corners.Reads as next-corners
 use Rattle.readers.proofs.figures.next_circle.Reads as next-circle
 
 pub place-in-one : One place-in.Post
@@ -24,8 +24,8 @@ next-point-one κs args r q s t = same
 pub next-ends-one : One next-ends.Post
 next-ends-one κs args r q s t = same
 
-pub next-vertices-one : One next-vertices.Post
-next-vertices-one κs args r q s t = same
+pub next-corners-one : One next-corners.Post
+next-corners-one κs args r q s t = same
 
 pub next-circle-one : One next-circle.Post
 next-circle-one κs args r q s t = same

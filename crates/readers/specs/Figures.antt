@@ -4,12 +4,14 @@ use mathlib.Core.List.{List}
 use Prim.Native.Nat.{ℕ, _+_}
 use lib.Dec.{eqb}
 use lib.ListN.{length}
-use Rattle.text.specs.declared.NextI32.{NextI32}
-use Rattle.text.specs.declared.NextU32.{NextU32}
+use Rattle.geometry.specs.declared.Point.{Point}
+use Rattle.text.specs.declared.Place.{Place}
+use Rattle.text.specs.declared.Vertices.{Vertices}
 use Rattle.text.specs.Fields.{nextU32, nextI32}
+use Rattle.readers.specs.declared.figures.Corners.{Corners}
 use Rattle.readers.specs.declared.figures.NextPoint.{NextPoint}
 use Rattle.readers.specs.declared.figures.NextEnds.{NextEnds}
-use Rattle.readers.specs.declared.figures.NextVertices.{NextVertices}
+use Rattle.readers.specs.declared.figures.NextCorners.{NextCorners}
 use Rattle.readers.specs.declared.figures.NextCircle.{NextCircle}
 
 -- the place behind the last field: every field was what was asked for, and there are no more
@@ -31,10 +33,17 @@ nextPoint said at = ofTwo (λ x y. record { point = (x .value, y .value); next =
 unfoldable pub nextEnds : List ℕ → ℕ → NextEnds
 nextEnds said at = ofTwo (λ a b. record { start = a .point; end = b .point; next = b .next }) (nextPoint said at) (λ a. nextPoint said (a .next))
 
--- three vertices
-unfoldable pub nextVertices : List ℕ → ℕ → NextVertices
-nextVertices said at = ofTwo (λ l p. record { v1 = l .start; v2 = l .end; v3 = p .point; next = p .next }) (nextEnds said at) (λ l. nextPoint said (l .next))
+-- three corners
+unfoldable pub nextCorners : List ℕ → ℕ → NextCorners
+nextCorners said at = ofTwo (λ l p. record { corners = record { a = l .start; b = l .end; c = p .point }; next = p .next }) (nextEnds said at) (λ l. nextPoint said (l .next))
 
 -- a top-left and a diameter
 unfoldable pub nextCircle : List ℕ → ℕ → NextCircle
 nextCircle said at = ofTwo (λ p d. record { topleft = p .point; diameter = d .value; next = d .next }) (nextPoint said at) (λ p. nextU32 said (p .next))
+
+-- ---- what a whole line of two coordinates is, and one of six
+abbrev pub pointOf : Place → Point
+pointOf p = (p .x, p .y)
+
+abbrev pub cornersOf : Vertices → Corners
+cornersOf v = record { a = (v .x1, v .y1); b = (v .x2, v .y2); c = (v .x3, v .y3) }

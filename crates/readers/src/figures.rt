@@ -4,8 +4,10 @@ ghost use mathlib.Core.Bool.{_&&_};
 ghost use Prim.Native.Nat.{_+_};
 ghost use lib.Dec.{eqb, leb};
 ghost use lib.ListN.{length};
-ghost use Rattle.readers.specs.Figures.{isLast, nextPoint, nextEnds, nextVertices, nextCircle};
+ghost use Rattle.readers.specs.Figures.{isLast, nextPoint, nextEnds, nextCorners, nextCircle, pointOf, cornersOf};
 use geometry::Point;
+use text::Place;
+use text::Vertices;
 
 // What reading two coordinates finds, and the place of the next field.
 pub struct NextPoint {
@@ -20,11 +22,16 @@ pub struct NextEnds {
     pub next: usize,
 }
 
-// The same of a triangle's vertices.
-pub struct NextVertices {
-    pub v1: Point,
-    pub v2: Point,
-    pub v3: Point,
+// A triangle's corners, in the order in which they were given.
+pub struct Corners {
+    pub a: Point,
+    pub b: Point,
+    pub c: Point,
+}
+
+// What reading three corners finds, and the place of the next field.
+pub struct NextCorners {
+    pub corners: Corners,
     pub next: usize,
 }
 
@@ -79,19 +86,17 @@ pub fn next_ends(said: &[u8], at: usize) -> NextEnds
     }
 }
 
-// The three vertices at `at`.
-pub fn next_vertices(said: &[u8], at: usize) -> NextVertices
-    ensures { λ r. ⌜ r ≡ nextVertices (now (said .entry)) at ⌝ }
+// The three corners at `at`.
+pub fn next_corners(said: &[u8], at: usize) -> NextCorners
+    ensures { λ r. ⌜ r ≡ nextCorners (now (said .entry)) at ⌝ }
 {
     let first = next_ends(said, at);
     let last = next_point(said, first.next);
-    let v1 = first.start;
-    let v2 = first.end;
-    let v3 = last.point;
-    NextVertices {
-        v1,
-        v2,
-        v3,
+    let a = first.start;
+    let b = first.end;
+    let c = last.point;
+    NextCorners {
+        corners: Corners { a, b, c },
         next: last.next,
     }
 }
@@ -107,5 +112,25 @@ pub fn next_circle(said: &[u8], at: usize) -> NextCircle
         topleft,
         diameter: side.value,
         next: side.next,
+    }
+}
+
+// ---- a whole line
+
+// Inside the library: the point of a line of two coordinates.
+pub fn point_of(p: Place) -> Point
+    ensures { λ r. ⌜ r ≡ pointOf p ⌝ }
+{
+    Point(p.x, p.y)
+}
+
+// Inside the library: the triangle of a line of six.
+pub fn corners_of(v: Vertices) -> Corners
+    ensures { λ r. ⌜ r ≡ cornersOf v ⌝ }
+{
+    Corners {
+        a: Point(v.x1, v.y1),
+        b: Point(v.x2, v.y2),
+        c: Point(v.x3, v.y3),
     }
 }

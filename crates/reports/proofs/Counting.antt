@@ -1,12 +1,11 @@
 -- Laws of the count of `minutes`: a line after the other; that counting line by line, in whatever parts the input comes, is the count of the whole; and which
 -- line is printed of it. Assumes nothing.
 use mathlib.Core.Path.{_≡_, refl, sym, ap, _∙_}
-use mathlib.Core.Bool.{Bool, true, false, cond, _&&_}
+use mathlib.Core.Bool.{Bool, true, false, cond}
 use mathlib.Core.List.{List, [], _∷_, _++_}
 use Prim.Native.Nat.{ℕ, zero, suc, _+_, _≤_, _<_}
 use native.Mathlib.Omega.{arith}
-use lib.Dec.{leb, eqb, ltb}
-use lib.IntN.{pos}
+use lib.Dec.{leb, ltb}
 use lib.ListN.{length, take, length-append, length-take}
 use lib.Seq.{take-all}
 use borrow.Author.Tests.{lt-ltb, le-ltb, eq-eqb, ne-eqb, leb-true, leb-false}
@@ -14,9 +13,8 @@ use mir.Syntax.{w32, w64}
 use mir.Val.{Fits}
 use Rattle.geometry.specs.Answer.{verdict}
 use Rattle.triangle.specs.Triangle.{contained}
-use Rattle.text.specs.declared.Place.{Place}
-use Rattle.text.specs.declared.Vertices.{Vertices}
-use Rattle.text.specs.Fields.{fields, lines, readPlace, readVertices, badField}
+use Rattle.geometry.specs.declared.Point.{Point}
+use Rattle.text.specs.Fields.{fields, lines, readPlace, noVertices, readVertices, badField}
 use Rattle.text.specs.Read.{readSigned}
 use Rattle.text.specs.Lines.{firstLine, each, over, whole, streamed}
 use Rattle.text.specs.Words.{numbered, counted}
@@ -25,53 +23,56 @@ use Rattle.text.proofs.Joining.{too-long}
 use Rattle.text.proofs.Numbers.{no-place, no-vertices}
 use Rattle.text.proofs.Showing.{numbered-short, numbered-wide}
 use Rattle.text.proofs.Streaming.{first-line, streamed-is}
+use Rattle.readers.specs.declared.figures.Corners.{Corners}
+use Rattle.readers.specs.Figures.{pointOf, cornersOf}
 use Rattle.reports.specs.declared.Count.{Count}
 use Rattle.reports.specs.declared.Tally.{Tally}
 use Rattle.reports.specs.Words.{tooLong, refused, badTab, inside}
-use Rattle.reports.specs.Corners.{corner1, corner2, corner3, cornersRefusal}
+use Rattle.reports.specs.Corners.{firstVertices, cornersRefusal}
 use Rattle.reports.specs.Minutes.{overlong, refusedBy, badAt, tally, counting, insideOne, withSample, withLine}
-use Rattle.reports.specs.Minutes.{wedge, behindFirst, unless, minutes, fresh, withWedge, takeLine, pairLine, countLine}
+use Rattle.reports.specs.Minutes.{wedge, behindFirst, unless, minutes, fresh, firstCount, takeLine, pairLine, countLine}
 
 -- ---- a line more
-module _ (v : Vertices) (k : Count) where
-  pub sample-more : (p : Place) → k .samples < 4294967295 → tally (k .inside + insideOne v p) (k .samples + 1) ≡ withSample v k p
+module _ (t : Corners) (k : Count) where
+  pub sample-more : (p : Point) → k .samples < 4294967295 → tally (k .inside + insideOne t p) (k .samples + 1) ≡ withSample t k p
   sample-more p h = rw (lt-ltb (k .samples) 4294967295 h)
 
-  pub sample-many : (p : Place) → 4294967295 ≤ k .samples → overlong ≡ withSample v k p
+  pub sample-many : (p : Point) → 4294967295 ≤ k .samples → overlong ≡ withSample t k p
   sample-many p h = rw (le-ltb (k .samples) 4294967295 h)
 
   module _ (line : List ℕ) where
-    pub line-settled : counting k ≡ false → k ≡ withLine v k line
+    pub line-settled : counting k ≡ false → k ≡ withLine t k line
     unfolding withLine
     line-settled e = rw e
 
-    pub line-good : counting k ≡ true → readPlace (fields line) .ok ≡ true → withSample v k (readPlace (fields line)) ≡ withLine v k line
+    pub line-good : counting k ≡ true → readPlace (fields line) .ok ≡ true → withSample t k (pointOf (readPlace (fields line))) ≡ withLine t k line
     unfolding withLine
     line-good e g = rw (e, g)
 
-    pub line-bad : counting k ≡ true → readPlace (fields line) .ok ≡ false → badAt (k .samples + 2) (badField 2 line) ≡ withLine v k line
+    pub line-bad : counting k ≡ true → readPlace (fields line) .ok ≡ false → badAt (k .samples + 2) (badField 2 line) ≡ withLine t k line
     unfolding withLine
     line-bad e g = rw (e, g)
 
 -- a sample counts once, or not at all
-pub inside-most : (v : Vertices) (p : Place) → insideOne v p ≤ 1
+pub inside-most : (t : Corners) (p : Point) → insideOne t p ≤ 1
 unfolding insideOne
-inside-most v p = by (verdict (cornersRefusal v) (contained (corner1 v) (corner2 v) (corner3 v) (p .x, p .y)) .yes)
+inside-most t p = by (verdict (cornersRefusal t) (contained (t .a) (t .b) (t .c) p) .yes)
   where
     by : (t : Bool) → cond t 1 0 ≤ 1
     by true = omega arith
     by false = omega arith
 
 -- ---- the first line
-pub wedge-bad : (line : List ℕ) (v : Vertices) → v .ok ≡ false → badAt 1 (badField 6 line) ≡ withWedge line v .count
-wedge-bad line v e = rw e
+module _ (line : List ℕ) (ok : Bool) (t : Corners) where
+  pub wedge-bad : ok ≡ false → badAt 1 (badField 6 line) ≡ firstCount line ok t
+  wedge-bad e = rw e
 
-pub wedge-good : (line : List ℕ) (v : Vertices) (n : ℕ) → n ≡ cornersRefusal v → v .ok ≡ true → refusedBy n ≡ withWedge line v .count
-wedge-good line v n e o = rw o (ap refusedBy e ∙ same (cornersRefusal v))
-  where
-    same : (m : ℕ) → refusedBy m ≡ unless m (tally 0 0)
-    same zero = refl
-    same (suc m) = refl
+  pub wedge-good : (n : ℕ) → n ≡ cornersRefusal t → ok ≡ true → refusedBy n ≡ firstCount line ok t
+  wedge-good n e o = rw o (ap refusedBy e ∙ same (cornersRefusal t))
+    where
+      same : (m : ℕ) → refusedBy m ≡ unless m (tally 0 0)
+      same zero = refl
+      same (suc m) = refl
 
 -- ---- no more samples are inside than there are
 abbrev pub Few : Tally → Type 0
@@ -81,19 +82,13 @@ pub take-few : (t : Tally) (line : List ℕ) → Few t → Few (takeLine t line)
 unfolding takeLine withLine
 take-few t line h =
     by (t .begun) (counting (t .count)) (readPlace (fields line) .ok) (ltb (t .count .samples) 4294967295) (readVertices (fields line) .ok)
-    (cornersRefusal (readVertices (fields line)))
+    (cornersRefusal (cornersOf (readVertices (fields line))))
   where
-    v : Vertices
-    v = readVertices (fields line)
-
-    k : Count
-    k = t .count
-
     by : (a b c d e : Bool) (n : ℕ)
         → Few (cond a
-        (record { begun = true; wedge = t .wedge; count = cond b (cond c (cond d (tally (t .count .inside + insideOne (t .wedge) (readPlace (fields line))) (t .count .samples + 1)) overlong) (badAt (t .count .samples + 2) (badField 2 line))) (t .count) })
-        (record { begun = true; wedge = readVertices (fields line); count = cond e (unless n (tally 0 0)) (badAt 1 (badField 6 line)) }))
-    by true true true true e n = omega (arith, inside-most (t .wedge) (readPlace (fields line)))
+        (record { begun = true; wedge = t .wedge; count = cond b (cond c (cond d (tally (t .count .inside + insideOne (t .wedge) (pointOf (readPlace (fields line)))) (t .count .samples + 1)) overlong) (badAt (t .count .samples + 2) (badField 2 line))) (t .count) })
+        (record { begun = true; wedge = cornersOf (readVertices (fields line)); count = cond e (unless n (tally 0 0)) (badAt 1 (badField 6 line)) }))
+    by true true true true e n = omega (arith, inside-most (t .wedge) (pointOf (readPlace (fields line))))
     by true true true false e n = omega arith
     by true true false d e n = omega arith
     by true false c d e n = h
@@ -102,22 +97,22 @@ take-few t line h =
     by false b c d false n = omega arith
 
 -- ---- line by line it is the count of the whole
-each-taken : (v : Vertices) (k : Count) (ls : List (List ℕ)) → each takeLine (record { begun = true; wedge = v; count = k }) ls .count ≡ each (withLine v) k ls
+each-taken : (t : Corners) (k : Count) (ls : List (List ℕ)) → each takeLine (record { begun = true; wedge = t; count = k }) ls .count ≡ each (withLine t) k ls
 unfolding takeLine
-each-taken v k [] = refl
-each-taken v k (l ∷ ls) = each-taken v (withLine v k l) ls
+each-taken t k [] = refl
+each-taken t k (l ∷ ls) = each-taken t (withLine t k l) ls
 
-each-settled : (v : Vertices) (k : Count) (ls : List (List ℕ)) → counting k ≡ false → each (withLine v) k ls ≡ k
-each-settled v k [] e = refl
-each-settled v k (l ∷ ls) e = ap (λ (q : Count). each (withLine v) q ls) (sym (line-settled v k l e)) ∙ each-settled v k ls e
+each-settled : (t : Corners) (k : Count) (ls : List (List ℕ)) → counting k ≡ false → each (withLine t) k ls ≡ k
+each-settled t k [] e = refl
+each-settled t k (l ∷ ls) e = ap (λ (q : Count). each (withLine t) q ls) (sym (line-settled t k l e)) ∙ each-settled t k ls e
 
 pub minutes-is : (s : List ℕ) → over takeLine fresh s .count ≡ minutes s
 unfolding takeLine minutes readVertices readSigned badField
 minutes-is [] = refl
 minutes-is (b ∷ s) =
     ap (λ (ls : List (List ℕ)). each takeLine fresh ls .count) (first-line b s)
-    ∙ each-taken (wedge (b ∷ s)) (withWedge (firstLine (b ∷ s)) (wedge (b ∷ s)) .count) (lines (behindFirst (b ∷ s)))
-    ∙ by (wedge (b ∷ s) .ok) (cornersRefusal (wedge (b ∷ s)))
+    ∙ each-taken (wedge (b ∷ s)) (firstCount (firstLine (b ∷ s)) (firstVertices (b ∷ s) .ok) (wedge (b ∷ s))) (lines (behindFirst (b ∷ s)))
+    ∙ by (firstVertices (b ∷ s) .ok) (cornersRefusal (wedge (b ∷ s)))
   where
     by : (t : Bool) (n : ℕ)
         → each (withLine (wedge (b ∷ s))) (cond t (unless n (tally 0 0)) (badAt 1 (badField 6 (firstLine (b ∷ s))))) (lines (behindFirst (b ∷ s)))
@@ -127,9 +122,6 @@ minutes-is (b ∷ s) =
     by false n = each-settled (wedge (b ∷ s)) (badAt 1 (badField 6 (firstLine (b ∷ s)))) (lines (behindFirst (b ∷ s))) refl
 
 -- ---- 129 bytes of a line are enough, and so the parts do not matter
-abbrev noWedge : Vertices
-noWedge = record { ok = false; x1 = pos 0; y1 = pos 0; x2 = pos 0; y2 = pos 0; x3 = pos 0; y3 = pos 0 }
-
 long-is : (t : Tally) (line : List ℕ) → 128 < length line
     → takeLine t line
     ≡ cond (t .begun) (record {
@@ -137,7 +129,7 @@ long-is : (t : Tally) (line : List ℕ) → 128 < length line
           true;
       wedge = t .wedge;
       count = cond (counting (t .count)) (badAt (t .count .samples + 2) 0) (t .count);
-    }) (record { begun = true; wedge = noWedge; count = badAt 1 0 })
+    }) (record { begun = true; wedge = cornersOf noVertices; count = badAt 1 0 })
 unfolding takeLine withLine
 long-is t line h =
     rw (← no-place (fields line) (too-long 2 line (omega arith)), ← no-vertices (fields line) (too-long 6 line (omega arith)), ← amiss-long 2 line h, ← amiss-long 6 line h)

@@ -33,8 +33,10 @@ use Rattle.triangle.proofs.Box.{box-left, box-right}
 use Rattle.text.specs.declared.Vertices.{Vertices}
 use Rattle.text.proofs.Showing.{zero-fits, triple-short, counted-short}
 use Rattle.text.specs.Words.{badLine, counted}
+use Rattle.readers.specs.declared.figures.Corners.{Corners}
+use Rattle.readers.specs.Figures.{cornersOf}
 use Rattle.reports.specs.Words.{refused, rows}
-use Rattle.reports.specs.Corners.{corner1, corner2, corner3, cornersRefusal}
+use Rattle.reports.specs.Corners.{cornersRefusal}
 use Rattle.reports.specs.Spans.{rowsOf, heading, rowOf, rowLine, rowLines, report}
 
 -- ---- m rows further on, of n that end at 131,072 or before
@@ -80,27 +82,27 @@ module _ (v1 v2 v3 : Point) (y : ℤ) (a : Accepted v1 v2 v3) where
           )
       by (inr e) = subst (λ (s : Columns). SFits w32 (s .0) × SFits w32 (s .1)) (sym (e .0)) (zero-fits, zero-fits)
 
-pub row-fits : (v : Vertices) (y : ℤ) → SFits w32 (rowOf v y .start) × SFits w32 (rowOf v y .end)
+pub row-fits : (t : Corners) (y : ℤ) → SFits w32 (rowOf t y .start) × SFits w32 (rowOf t y .end)
 unfolding rowOf
-row-fits v y = by (cornersRefusal v) refl
+row-fits t y = by (cornersRefusal t) refl
   where
-    by : (n : ℕ) → cornersRefusal v ≡ n
-        → SFits w32 (span n (rowSpan (corner1 v) (corner2 v) (corner3 v) y .0) (rowSpan (corner1 v) (corner2 v) (corner3 v) y .1) .start)
-        × SFits w32 (span n (rowSpan (corner1 v) (corner2 v) (corner3 v) y .0) (rowSpan (corner1 v) (corner2 v) (corner3 v) y .1) .end)
-    by zero e = span-fits (corner1 v) (corner2 v) (corner3 v) y (is-accepted (corner1 v) (corner2 v) (corner3 v) e)
+    by : (n : ℕ) → cornersRefusal t ≡ n
+        → SFits w32 (span n (rowSpan (t .a) (t .b) (t .c) y .0) (rowSpan (t .a) (t .b) (t .c) y .1) .start)
+        × SFits w32 (span n (rowSpan (t .a) (t .b) (t .c) y .0) (rowSpan (t .a) (t .b) (t .c) y .1) .end)
+    by zero e = span-fits (t .a) (t .b) (t .c) y (is-accepted (t .a) (t .b) (t .c) e)
     by (suc n) e = (zero-fits, zero-fits)
 
-pub row-short : (v : Vertices) (y : ℤ) → SFits w32 y → length (rowLine v y) ≤ 36
-row-short v y f = let s = row-fits v y in triple-short y (rowOf v y .start) (rowOf v y .end) _ f (s .0) (s .1)
+pub row-short : (t : Corners) (y : ℤ) → SFits w32 y → length (rowLine t y) ≤ 36
+row-short t y f = let s = row-fits t y in triple-short y (rowOf t y .start) (rowOf t y .end) _ f (s .0) (s .1)
 
-pub rows-short : (v : Vertices) (y : ℤ) (n : ℕ) → SFits w32 y → (y +ℤ pos n) ≤ℤ pos 131072 → length (rowLines v y n) ≤ 36 * n
-rows-short v y zero f h = omega arith
-rows-short v y (suc n) f h =
+pub rows-short : (t : Corners) (y : ℤ) (n : ℕ) → SFits w32 y → (y +ℤ pos n) ≤ℤ pos 131072 → length (rowLines t y n) ≤ 36 * n
+rows-short t y zero f h = omega arith
+rows-short t y (suc n) f h =
     omega (
       arith,
-      row-short v y f,
-      length-append (rowLine v y) (rowLines v (y +ℤ pos 1) n),
-      rows-short v (y +ℤ pos 1) n (further-fits y (suc n) 1 (omega arith) h f)
+      row-short t y f,
+      length-append (rowLine t y) (rowLines t (y +ℤ pos 1) n),
+      rows-short t (y +ℤ pos 1) n (further-fits y (suc n) 1 (omega arith) h f)
           (subst (λ (k : ℕ). ((y +ℤ pos 1) +ℤ pos k) ≤ℤ pos 131072) less (further-below y (suc n) 1 (omega arith) h)),
     )
   where
@@ -120,29 +122,29 @@ module _ (v1 v2 v3 : Point) (a : Accepted v1 v2 v3) where
       one-more : firstRow v1 v2 v3 +ℤ pos (rowCount v1 v2 v3) ≡ p3 v1 v2 v3 .1 +ℤ pos 1
       one-more = more (p3 v1 v2 v3 .1) (firstRow v1 v2 v3 +ℤ pos (rowCount v1 v2 v3)) (last-row v1 v2 v3)
 
-abbrev asked : Vertices → Bool → ℕ → RowRange
-asked v t n = cond t (rowsAnswer n (firstRow (corner1 v) (corner2 v) (corner3 v)) (rowCount (corner1 v) (corner2 v) (corner3 v))) (rowsAnswer 0 (pos 0) 0)
+abbrev asked : Corners → Bool → ℕ → RowRange
+asked t ok n = cond ok (rowsAnswer n (firstRow (t .a) (t .b) (t .c)) (rowCount (t .a) (t .b) (t .c))) (rowsAnswer 0 (pos 0) 0)
 
 pub rows-below : (v : Vertices) → (rowsOf v .first +ℤ pos (rowsOf v .count)) ≤ℤ pos 131072
 unfolding rowsOf
-rows-below v = by (v .ok) (cornersRefusal v) refl
+rows-below v = by (cornersOf v) (v .ok) (cornersRefusal (cornersOf v)) refl
   where
     none : (pos 0 +ℤ pos 0) ≤ℤ pos 131072
     none = nat-le (omega arith)
 
-    by : (t : Bool) (n : ℕ) → cornersRefusal v ≡ n → (asked v t n .first +ℤ pos (asked v t n .count)) ≤ℤ pos 131072
-    by true zero e = rows-end (corner1 v) (corner2 v) (corner3 v) (is-accepted (corner1 v) (corner2 v) (corner3 v) e)
-    by true (suc n) e = none
-    by false n e = none
+    by : (t : Corners) (ok : Bool) (n : ℕ) → cornersRefusal t ≡ n → (asked t ok n .first +ℤ pos (asked t ok n .count)) ≤ℤ pos 131072
+    by t true zero e = rows-end (t .a) (t .b) (t .c) (is-accepted (t .a) (t .b) (t .c) e)
+    by t true (suc n) e = none
+    by t false n e = none
 
 pub first-fits : (v : Vertices) → SFits w32 (rowsOf v .first)
 unfolding rowsOf firstRow
-first-fits v = by (v .ok) (cornersRefusal v) refl
+first-fits v = by (cornersOf v) (v .ok) (cornersRefusal (cornersOf v)) refl
   where
-    by : (t : Bool) (n : ℕ) → cornersRefusal v ≡ n → SFits w32 (asked v t n .first)
-    by true zero e = coord-fits (sorted-bounded (corner1 v) (corner2 v) (corner3 v) _ refl (is-accepted (corner1 v) (corner2 v) (corner3 v) e) .first .y)
-    by true (suc n) e = zero-fits
-    by false n e = zero-fits
+    by : (t : Corners) (ok : Bool) (n : ℕ) → cornersRefusal t ≡ n → SFits w32 (asked t ok n .first)
+    by t true zero e = coord-fits (sorted-bounded (t .a) (t .b) (t .c) _ refl (is-accepted (t .a) (t .b) (t .c) e) .first .y)
+    by t true (suc n) e = zero-fits
+    by t false n e = zero-fits
 
 -- ---- and they are few, so the first line is at most 19 bytes long
 rows-few : (v1 v2 v3 : Point) → Accepted v1 v2 v3 → rowCount v1 v2 v3 ≤ 262145
@@ -161,17 +163,17 @@ refusal-few v1 v2 v3 = by (not (inBounds v1 && (inBounds v2 && inBounds v3)))
 
 pub heading-short : (v : Vertices) → length (heading (v .ok) (rowsOf v)) ≤ 19
 unfolding rowsOf heading
-heading-short v = by (v .ok) (cornersRefusal v) refl
+heading-short v = by (cornersOf v) (v .ok) (cornersRefusal (cornersOf v)) refl
   where
-    by : (t : Bool) (n : ℕ) → cornersRefusal v ≡ n
-        → length (cond t (cond (eqb (asked v t n .number) 0) (counted rows (asked v t n .count)) (counted refused (asked v t n .number))) badLine) ≤ 19
-    by true zero e =
-        let few : rowCount (corner1 v) (corner2 v) (corner3 v) ≤ 262145 = rows-few (corner1 v) (corner2 v) (corner3 v) (is-accepted (corner1 v) (corner2 v) (corner3 v) e) in
-        omega (arith, counted-short rows (rowCount (corner1 v) (corner2 v) (corner3 v)) (record { fits = omega arith }))
-    by true (suc n) e =
+    by : (t : Corners) (ok : Bool) (n : ℕ) → cornersRefusal t ≡ n
+        → length (cond ok (cond (eqb (asked t ok n .number) 0) (counted rows (asked t ok n .count)) (counted refused (asked t ok n .number))) badLine) ≤ 19
+    by t true zero e =
+        let few : rowCount (t .a) (t .b) (t .c) ≤ 262145 = rows-few (t .a) (t .b) (t .c) (is-accepted (t .a) (t .b) (t .c) e) in
+        omega (arith, counted-short rows (rowCount (t .a) (t .b) (t .c)) (record { fits = omega arith }))
+    by t true (suc n) e =
         rw (ne-eqb (suc n) 0 (λ q. omega arith))
-        (omega (arith, counted-short refused (suc n) (record { fits = omega (arith, refusal-few (corner1 v) (corner2 v) (corner3 v)) })))
-    by false n e = omega arith
+        (omega (arith, counted-short refused (suc n) (record { fits = omega (arith, refusal-few (t .a) (t .b) (t .c)) })))
+    by t false n e = omega arith
 
 -- a report's length fits a machine number
 pub report-short : (v : Vertices) → length (report v) ≤ 100000000000
@@ -180,9 +182,9 @@ report-short v =
     let n = rowsOf v .count in
     omega (
       arith,
-      length-append (heading (v .ok) (rowsOf v)) (rowLines v y n),
+      length-append (heading (v .ok) (rowsOf v)) (rowLines (cornersOf v) y n),
       heading-short v,
-      rows-short v y n (first-fits v) (rows-below v),
+      rows-short (cornersOf v) y n (first-fits v) (rows-below v),
       part y n n (omega arith) (rows-below v),
       fits-dn w32 y (first-fits v),
     )

@@ -7,15 +7,17 @@ use lib.Dec.{eqb, ltb}
 use lib.ListN.{drop}
 use Rattle.geometry.specs.Answer.{verdict}
 use Rattle.triangle.specs.Triangle.{contained}
-use Rattle.text.specs.declared.Place.{Place}
+use Rattle.geometry.specs.declared.Point.{Point}
 use Rattle.text.specs.declared.Vertices.{Vertices}
 use Rattle.text.specs.Fields.{until, fields, lines, readPlace, noVertices, readVertices, badField}
 use Rattle.text.specs.Lines.{firstLine, each}
 use Rattle.text.specs.Words.{numbered, counted}
+use Rattle.readers.specs.declared.figures.Corners.{Corners}
+use Rattle.readers.specs.Figures.{pointOf, cornersOf}
 use Rattle.reports.specs.declared.Count.{Count}
 use Rattle.reports.specs.declared.Tally.{Tally}
 use Rattle.reports.specs.Words.{tooLong, refused, badTab, inside}
-use Rattle.reports.specs.Corners.{corner1, corner2, corner3, cornersRefusal}
+use Rattle.reports.specs.Corners.{firstVertices, cornersRefusal}
 
 -- ---- the answers
 abbrev pub overlong : Count
@@ -35,25 +37,25 @@ abbrev pub counting : Count → Bool
 counting k = not (k .long) && (eqb (k .number) 0 && eqb (k .bad) 0)
 
 -- ---- a sample: 1 where `contains` says yes
-unfoldable pub insideOne : Vertices → Place → ℕ
-insideOne v p = cond (verdict (cornersRefusal v) (contained (corner1 v) (corner2 v) (corner3 v) (p .x, p .y)) .yes) 1 0
+unfoldable pub insideOne : Corners → Point → ℕ
+insideOne t p = cond (verdict (cornersRefusal t) (contained (t .a) (t .b) (t .c) p) .yes) 1 0
 
-abbrev pub withSample : Vertices → Count → Place → Count
-withSample v k p = cond (ltb (k .samples) 4294967295) (tally (k .inside + insideOne v p) (k .samples + 1)) overlong
+abbrev pub withSample : Corners → Count → Point → Count
+withSample t k p = cond (ltb (k .samples) 4294967295) (tally (k .inside + insideOne t p) (k .samples + 1)) overlong
 
 -- a further line, behind one for the wedge and one for each sample: a sample more, or the first bad line, behind which nothing counts
-unfoldable pub withLine : Vertices → Count → List ℕ → Count
-withLine v k line =
+unfoldable pub withLine : Corners → Count → List ℕ → Count
+withLine t k line =
     cond (counting k)
-    (cond (readPlace (fields line) .ok) (withSample v k (readPlace (fields line))) (badAt (k .samples + 2) (badField 2 line)))
+    (cond (readPlace (fields line) .ok) (withSample t k (pointOf (readPlace (fields line)))) (badAt (k .samples + 2) (badField 2 line)))
     k
 
 -- ---- an input
-abbrev pub samplesOf : Vertices → List ℕ → Count
-samplesOf v s = each (withLine v) (tally 0 0) (lines s)
+abbrev pub samplesOf : Corners → List ℕ → Count
+samplesOf t s = each (withLine t) (tally 0 0) (lines s)
 
-abbrev pub wedge : List ℕ → Vertices
-wedge s = readVertices (fields (firstLine s))
+abbrev pub wedge : List ℕ → Corners
+wedge s = cornersOf (firstVertices s)
 
 abbrev pub behindFirst : List ℕ → List ℕ
 behindFirst s = drop (until 10 s + 1) s
@@ -63,14 +65,17 @@ unless zero k = k
 unless (suc n) k = refusedBy (suc n)
 
 unfoldable pub minutes : List ℕ → Count
-minutes s = cond (wedge s .ok) (unless (cornersRefusal (wedge s)) (samplesOf (wedge s) (behindFirst s))) (badAt 1 (badField 6 (firstLine s)))
+minutes s = cond (firstVertices s .ok) (unless (cornersRefusal (wedge s)) (samplesOf (wedge s) (behindFirst s))) (badAt 1 (badField 6 (firstLine s)))
 
 -- ---- the same line by line, as the input comes: before the first line, at it, and at each further one
 abbrev pub fresh : Tally
-fresh = record { begun = false; wedge = noVertices; count = badAt 1 0 }
+fresh = record { begun = false; wedge = cornersOf noVertices; count = badAt 1 0 }
+
+abbrev pub firstCount : List ℕ → Bool → Corners → Count
+firstCount line ok t = cond ok (unless (cornersRefusal t) (tally 0 0)) (badAt 1 (badField 6 line))
 
 abbrev pub withWedge : List ℕ → Vertices → Tally
-withWedge line v = record { begun = true; wedge = v; count = cond (v .ok) (unless (cornersRefusal v) (tally 0 0)) (badAt 1 (badField 6 line)) }
+withWedge line v = record { begun = true; wedge = cornersOf v; count = firstCount line (v .ok) (cornersOf v) }
 
 unfoldable pub takeLine : Tally → List ℕ → Tally
 takeLine t line =

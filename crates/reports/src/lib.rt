@@ -1,5 +1,4 @@
 // What the programs report of their input: the spans of a triangle, and how many samples lie inside one.
-mod corners;
 mod minutes;
 mod spans;
 
@@ -9,10 +8,10 @@ pub use minutes::no_lines;
 pub use minutes::take_line;
 pub use minutes::take_lines;
 pub use minutes::write_count;
+use readers::Corners;
 pub use spans::first_part;
 pub use spans::next_part;
 pub use spans::rows_of;
-use text::Vertices;
 
 // What `minutes` counts: the samples inside the wedge, and all of them. Else 0 and 0, and one of three: the number of the refusal, that there are too many
 // samples, or which line is bad, counted from 1, and which of its fields: 0, where it has another number of fields or is longer than 128 bytes.
@@ -28,7 +27,7 @@ pub struct Count {
 // Where counting stands between two lines: whether there was a first one, the wedge that it is, and the count so far.
 pub struct Tally {
     pub begun: bool,
-    pub wedge: Vertices,
+    pub wedge: Corners,
     pub count: Count,
 }
 

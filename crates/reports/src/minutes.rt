@@ -5,30 +5,20 @@ ghost use Prim.Native.Nat.{_+_, _≤_};
 ghost use lib.ListN.{length};
 ghost use lib.Seq.{sets};
 ghost use Rattle.text.specs.Lines.{handled};
-ghost use Rattle.reports.specs.Corners.{cornersRefusal};
-ghost use Rattle.reports.specs.Minutes.{counting, insideOne, withSample, withLine, fresh, withWedge, takeLine, always, pairLine, countLine};
+ghost use Rattle.reports.specs.Minutes.{counting, insideOne, withSample, withLine, fresh, firstCount, takeLine, always, pairLine, countLine};
 use crate::Count;
 use crate::Taken;
 use crate::Tally;
-use crate::corners::corners_of;
 use geometry::Point;
-use text::Place;
-use text::Vertices;
-
-// The number of the wedge's refusal, or 0.
-fn refusal_of(v: Vertices) -> u32
-    ensures { λ r. ⌜ r ≡ cornersRefusal v ⌝ }
-{
-    let t = corners_of(v);
-    triangle::refusal(t.a, t.b, t.c)
-}
+use readers::Corners;
+use readers::corners_of;
+use readers::point_of;
 
 // 1 for a sample that the wedge contains, 0 for another.
-pub fn inside_one(v: Vertices, p: Place) -> u32
-    ensures { λ r. ⌜ r ≡ insideOne v p ⌝ }
+pub fn inside_one(t: Corners, p: Point) -> u32
+    ensures { λ r. ⌜ r ≡ insideOne t p ⌝ }
 {
-    let t = corners_of(v);
-    let answer = triangle::contains(t.a, t.b, t.c, Point(p.x, p.y));
+    let answer = triangle::contains(t.a, t.b, t.c, p);
     if answer.yes {
         return 1;
     }
@@ -49,9 +39,9 @@ pub fn is_counting(k: Count) -> bool
 }
 
 // A sample more, or one too many.
-fn with_sample(v: Vertices, k: Count, p: Place) -> Count
+fn with_sample(t: Corners, k: Count, p: Point) -> Count
     requires { ⌜ k .inside ≤ k .samples ⌝ }
-    ensures { λ r. ⌜ r ≡ withSample v k p ⌝ }
+    ensures { λ r. ⌜ r ≡ withSample t k p ⌝ }
 {
     if k.samples == u32::MAX {
         return Count {
@@ -68,22 +58,22 @@ fn with_sample(v: Vertices, k: Count, p: Place) -> Count
         long: false,
         bad: 0,
         field: 0,
-        inside: k.inside + inside_one(v, p),
+        inside: k.inside + inside_one(t, p),
         samples: k.samples + 1,
     }
 }
 
 // A line behind the wedge's: a sample, or a bad line.
-fn with_line(v: Vertices, k: Count, line: &[u8]) -> Count
+fn with_line(t: Corners, k: Count, line: &[u8]) -> Count
     requires { ⌜ k .inside ≤ k .samples ⌝ }
-    ensures { λ r. ⌜ r ≡ withLine v k (now (line .entry)) ⌝ }
+    ensures { λ r. ⌜ r ≡ withLine t k (now (line .entry)) ⌝ }
 {
     if !is_counting(k) {
         return k;
     }
     let p = text::read_place(line);
     if p.ok {
-        return with_sample(v, k, p);
+        return with_sample(t, k, point_of(p));
     }
     Count {
         number: 0,
@@ -96,10 +86,10 @@ fn with_line(v: Vertices, k: Count, line: &[u8]) -> Count
 }
 
 // The count at the wedge's line, which is `line`.
-fn first_count(v: Vertices, line: &[u8]) -> Count
-    ensures { λ r. ⌜ r ≡ withWedge (now (line .entry)) v .count ⌝ }
+fn first_count(ok: bool, t: Corners, line: &[u8]) -> Count
+    ensures { λ r. ⌜ r ≡ firstCount (now (line .entry)) ok t ⌝ }
 {
-    if !v.ok {
+    if !ok {
         return Count {
             number: 0,
             long: false,
@@ -110,7 +100,7 @@ fn first_count(v: Vertices, line: &[u8]) -> Count
         };
     }
     Count {
-        number: refusal_of(v),
+        number: triangle::refusal(t.a, t.b, t.c),
         long: false,
         bad: 0,
         field: 0,
@@ -123,7 +113,7 @@ fn first_count(v: Vertices, line: &[u8]) -> Count
 pub fn no_lines() -> Tally
     ensures { λ r. ⌜ r ≡ fresh ⌝ }
 {
-    let wedge = text::no_vertices();
+    let wedge = corners_of(text::no_vertices());
     let count = Count {
         number: 0,
         long: false,
@@ -153,8 +143,9 @@ pub fn take_line(t: Tally, line: &[u8]) -> Tally
             count,
         };
     }
-    let wedge = text::read_vertices(line);
-    let count = first_count(wedge, line);
+    let first = text::read_vertices(line);
+    let wedge = corners_of(first);
+    let count = first_count(first.ok, wedge, line);
     Tally {
         begun: true,
         wedge,

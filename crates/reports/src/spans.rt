@@ -8,8 +8,9 @@ ghost use lib.ListN.{length};
 ghost use lib.Seq.{sets};
 ghost use Rattle.reports.specs.Spans.{rowsOf, heading, rowOf, rowLine, rowLines, firstPart, partText, nextPart};
 use crate::Part;
-use crate::corners::corners_of;
 use geometry::Span;
+use readers::Corners;
+use readers::corners_of;
 use text::Vertices;
 use triangle::RowRange;
 
@@ -36,10 +37,9 @@ pub fn rows_of(v: Vertices) -> RowRange
 }
 
 // The columns of row `y`.
-fn row_of(v: Vertices, y: i32) -> Span
-    ensures { λ r. ⌜ r ≡ rowOf v y ⌝ }
+fn row_of(t: Corners, y: i32) -> Span
+    ensures { λ r. ⌜ r ≡ rowOf t y ⌝ }
 {
-    let t = corners_of(v);
     triangle::row_span(t.a, t.b, t.c, y)
 }
 
@@ -58,24 +58,24 @@ fn write_heading(out: &mut [u8], at: usize, ok: bool, rows: RowRange) -> usize
 }
 
 // The line of row `y`, of at most 36 bytes: the row, its first column, and one past the last.
-fn write_row(out: &mut [u8], at: usize, v: Vertices, y: i32) -> usize
+fn write_row(out: &mut [u8], at: usize, t: Corners, y: i32) -> usize
     requires { ⌜ at + 36 ≤ length (now out) ⌝ }
-    ensures { λ r. ⌜ (r ≡ at + length (rowLine v y)) × (now (out .exit) ≡ sets (now (out .entry)) at (rowLine v y)) ⌝ }
+    ensures { λ r. ⌜ (r ≡ at + length (rowLine t y)) × (now (out .exit) ≡ sets (now (out .entry)) at (rowLine t y)) ⌝ }
 {
-    let s = row_of(v, y);
+    let s = row_of(t, y);
     text::write_triple(out, at, y, s.start, s.end, b'\n')
 }
 
 // The lines of `count` rows from `first` on.
-fn write_rows(out: &mut [u8], at: usize, v: Vertices, first: i32, count: u32) -> usize
+fn write_rows(out: &mut [u8], at: usize, t: Corners, first: i32, count: u32) -> usize
     requires { ⌜ (at + 36 * count ≤ length (now out)) × ((first +ℤ pos count) ≤ℤ pos 131072) ⌝ }
-    ensures { λ r. ⌜ (r ≡ at + length (rowLines v first count)) × (now (out .exit) ≡ sets (now (out .entry)) at (rowLines v first count)) ⌝ }
+    ensures { λ r. ⌜ (r ≡ at + length (rowLines t first count)) × (now (out .exit) ≡ sets (now (out .entry)) at (rowLines t first count)) ⌝ }
 {
     let mut y = first;
     let mut left = count;
     let mut filled = at;
     while left > 0 {
-        filled = write_row(out, filled, v, y);
+        filled = write_row(out, filled, t, y);
         y += 1;
         left -= 1;
     }
@@ -102,7 +102,7 @@ pub fn next_part(out: &mut [u8], v: Vertices, p: Part) -> Part
     ensures { λ r. ⌜ (r ≡ nextPart v p) × (now (out .exit) ≡ sets (now (out .entry)) 0 (partText v p)) ⌝ }
 {
     let count = least(p.left, 1024);
-    let end = write_rows(out, 0, v, p.first, count);
+    let end = write_rows(out, 0, corners_of(v), p.first, count);
     Part {
         end,
         first: p.first + count as i32,

@@ -11,8 +11,8 @@ use Rattle.text.specs.Lines.{handled}
 use Rattle.text.proofs.And.{and-second}
 use Rattle.text.proofs.Streaming.{handled-keeps}
 use Rattle.readers.specs.Figures.{isLast, ofOne, ofTwo}
-use Rattle.protocol.specs.Reply.{badLine}
 use Rattle.readers.proofs.Letters.{meant-each}
+use Rattle.protocol.specs.Reply.{badLine}
 use Rattle.session.specs.declared.screen.Screen.{Screen}
 use Rattle.session.specs.Lines.{Left, Session, wordOf, shownTable, lineAnswer, answer, answered, room}
 use Rattle.session.specs.Screen.{after, framed, frameTurn, nextScreen, turnTable, response}

@@ -14,14 +14,14 @@ use Rattle.framebuffer.specs.declared.Read.{Read}
 use Rattle.framebuffer.specs.declared.Size.{Size}
 use Rattle.lights.specs.declared.Lights.{Lights}
 use Rattle.text.proofs.Numbers.{rest-is}
+use Rattle.readers.specs.Figures.{isLast}
+use Rattle.readers.proofs.Letters.{choices}
+use Rattle.readers.proofs.Readings.{is-within, readings}
 use Rattle.protocol.specs.declared.reply.Reply.{Reply}
 use Rattle.protocol.specs.declared.reply.Reply.the-variants.{Bad, Number, One}
 use Rattle.protocol.specs.declared.reply.Value.the-variants.{Natural}
-use Rattle.readers.specs.Figures.{isLast}
 use Rattle.protocol.specs.Bytes.{isHex, hexPut}
 use Rattle.protocol.proofs.Hexadecimal.{put-other}
-use Rattle.readers.proofs.Letters.{choices}
-use Rattle.readers.proofs.Readings.{is-within, readings}
 use Rattle.session.specs.declared.screen.Described.{Described}
 use Rattle.session.specs.declared.screen.Screen.{Screen}
 use Rattle.session.specs.declared.screen.Turn.{Turn}

@@ -8,11 +8,11 @@ use Rattle.framebuffer.specs.declared.Size.{Size}
 use Rattle.netpbm.specs.Reading.{loaded}
 use Rattle.netpbm.specs.Written.{written}
 use Rattle.text.specs.Fields.{nextU32}
+use Rattle.readers.specs.Figures.{ofOne}
+use Rattle.readers.specs.Words.{meant}
 use Rattle.protocol.specs.declared.reply.Reply.{Reply}
 use Rattle.protocol.specs.declared.reply.Reply.the-variants.{Bad, Number}
 use Rattle.protocol.specs.Bytes.{hexPut}
-use Rattle.readers.specs.Figures.{ofOne}
-use Rattle.readers.specs.Words.{meant}
 use Rattle.session.specs.declared.screen.Screen.{Screen}
 use Rattle.session.specs.declared.screen.Turn.{Turn}
 use Rattle.session.specs.Screen.{turn, sizeSaid, ofAtMost, presetCall, lentTurn, response}

@@ -18,12 +18,12 @@ use Rattle.netpbm.specs.Image.{imageLength}
 use Rattle.netpbm.specs.Written.{imageSizeTests}
 use Rattle.text.specs.declared.NextU32.{NextU32}
 use Rattle.text.specs.Fields.{nextU32}
+use Rattle.readers.specs.Figures.{isLast, ofOne, ofTwo, nextPoint}
+use Rattle.readers.specs.Words.{meant}
 use Rattle.protocol.specs.declared.reply.Reply.{Reply}
 use Rattle.protocol.specs.declared.reply.Reply.the-variants.{Bad, Number, One}
 use Rattle.protocol.specs.declared.reply.Value.the-variants.{Natural}
 use Rattle.protocol.specs.Reply.{ifLast}
-use Rattle.readers.specs.Figures.{isLast, ofOne, ofTwo, nextPoint}
-use Rattle.readers.specs.Words.{meant}
 use Rattle.session.specs.declared.screen.Described.{Described}
 use Rattle.session.specs.declared.screen.Screen.{Screen}
 use Rattle.session.specs.declared.screen.Turn.{Turn}

@@ -5,8 +5,8 @@ use Rattle.calls.proofs.Calls.{calls}
 use Rattle.calls.proofs.triangle.Statement.{statement}
 use Rattle.calls.proofs.triangle.Tie as tie
 
-next-vertices-requires : tie.Need-next-vertices-requires
-next-vertices-requires c κs = search needs
+next-corners-requires : tie.Need-next-corners-requires
+next-corners-requires c κs = search needs
 
 next-u32-requires : tie.Need-next-u32-requires
 next-u32-requires c κs = search needs
@@ -32,7 +32,7 @@ pub triangle-spec : {M : Type 1} → statement M
 triangle-spec =
     tie.close
     (tie.spec
-    next-vertices-requires
+    next-corners-requires
     next-u32-requires
     ends-at-requires
     returns

@@ -5,8 +5,8 @@ use Rattle.questions.proofs.Questions.{questions}
 use Rattle.questions.proofs.inside.Statement.{statement}
 use Rattle.questions.proofs.inside.Tie as tie
 
-next-vertices-requires : tie.Need-next-vertices-requires
-next-vertices-requires c κs = search needs
+next-corners-requires : tie.Need-next-corners-requires
+next-corners-requires c κs = search needs
 
 next-point-requires : tie.Need-next-point-requires
 next-point-requires c κs = search needs
@@ -32,7 +32,7 @@ pub inside-spec : {M : Type 1} → statement M
 inside-spec =
     tie.close
     (tie.spec
-    next-vertices-requires
+    next-corners-requires
     next-point-requires
     ends-at-requires
     returns

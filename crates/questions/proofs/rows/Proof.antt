@@ -5,8 +5,8 @@ use Rattle.questions.proofs.Questions.{questions}
 use Rattle.questions.proofs.rows.Statement.{statement}
 use Rattle.questions.proofs.rows.Tie as tie
 
-next-vertices-requires : tie.Need-next-vertices-requires
-next-vertices-requires c κs = search needs
+next-corners-requires : tie.Need-next-corners-requires
+next-corners-requires c κs = search needs
 
 ends-at-requires : tie.Need-ends-at-requires
 ends-at-requires c κs = search needs
@@ -24,4 +24,4 @@ returns-2 c = search questions
 
 pub rows-spec : {M : Type 1} → statement M
 rows-spec =
-    tie.close (tie.spec next-vertices-requires ends-at-requires returns rows-requires returns-2)
+    tie.close (tie.spec next-corners-requires ends-at-requires returns rows-requires returns-2)

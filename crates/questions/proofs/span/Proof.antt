@@ -5,8 +5,8 @@ use Rattle.questions.proofs.Questions.{questions}
 use Rattle.questions.proofs.span.Statement.{statement}
 use Rattle.questions.proofs.span.Tie as tie
 
-next-vertices-requires : tie.Need-next-vertices-requires
-next-vertices-requires c κs = search needs
+next-corners-requires : tie.Need-next-corners-requires
+next-corners-requires c κs = search needs
 
 next-i32-requires : tie.Need-next-i32-requires
 next-i32-requires c κs = search needs
@@ -29,7 +29,7 @@ pub span-spec : {M : Type 1} → statement M
 span-spec =
     tie.close
     (tie.spec
-    next-vertices-requires
+    next-corners-requires
     next-i32-requires
     ends-at-requires
     returns

@@ -9,6 +9,7 @@ use Rattle.framebuffer.proofs.Refusals.{judged}
 use Rattle.text.specs.Fields.{lines}
 use Rattle.text.specs.Lines.{each}
 use Rattle.text.proofs.Parting.{until-within}
+use Rattle.readers.specs.Figures.{cornersOf}
 use Rattle.reports.specs.Minutes.{wedge, behindFirst}
 use Rattle.charts.specs.Scale.{ofWedge, withSample, extent}
 use Rattle.charts.specs.Picture.{picture}
@@ -21,11 +22,14 @@ use Rattle.charts.proofs.day.draw_good.Tie as tie
 first-vertices-requires : tie.Need-first-vertices-requires
 first-vertices-requires c κs = search needs
 
+corners-of-requires : tie.Need-corners-of-requires
+corners-of-requires c κs = search needs
+
 find-requires : tie.Need-find-requires
 find-requires c κs = search needs
 
 add-from : tie.Need-add-from
-add-from c = omega (arith, c .find .ensures, until-within 10 (c .before .before .before .before .args .input .now))
+add-from c = omega (arith, c .find .ensures, until-within 10 (c .before .before .before .before .before .args .input .now))
 
 of-wedge-requires : tie.Need-of-wedge-requires
 of-wedge-requires c κs = search needs
@@ -41,8 +45,8 @@ long c =
     let found = c .before .before in
     let read = found .before in
     subst Long (sym (c .with-samples .ensures))
-    (samples-long (lines (drop (found .find .result + 1) (read .before .before .before .args .input .now)))
-    (subst Long (sym (c .before .of-wedge .ensures)) (wedge-long (read .first-vertices .result))))
+    (samples-long (lines (drop (found .find .result + 1) (read .before .before .before .before .args .input .now)))
+    (subst Long (sym (c .before .of-wedge .ensures)) (wedge-long (read .corners-of .result))))
 
 draw-under-requires : tie.Need-draw-under-requires
 draw-under-requires c κs = long (c .before .before)
@@ -69,15 +73,15 @@ returns c =
     let reach = made .before in
     let found = reach .before .before in
     let read = found .before in
-    let a = read .before .before .before .args in
+    let a = read .before .before .before .before .args in
     let s = a .input .now in
     let f = made .frame .ensures in
-    let v = read .first-vertices .ensures in
+    let t = read .corners-of .ensures ∙ ap cornersOf (read .before .first-vertices .ensures) in
     let from = found .find .ensures in
-    let e = reach .with-samples .ensures ∙ (λ i. each withSample ((reach .before .of-wedge .ensures ∙ ap ofWedge v) i) (lines (drop (from i + 1) s))) in
-    let below = ground .draw-under .ensures ∙ (λ i. leaves (f i) (under (e i) (v i)) (a .pane .now)) in
+    let e = reach .with-samples .ensures ∙ (λ i. each withSample ((reach .before .of-wedge .ensures ∙ ap ofWedge t) i) (lines (drop (from i + 1) s))) in
+    let below = ground .draw-under .ensures ∙ (λ i. leaves (f i) (under (e i) (t i)) (a .pane .now)) in
     samples .draw-samples .ensures
-    ∙ (λ i. leaves ((ap (λ (q : Canvas). q .frame) (over .over .ensures) ∙ f) i) (discs (e i) (v i) (lines (drop (from i + 1) s))) (below i))
+    ∙ (λ i. leaves ((ap (λ (q : Canvas). q .frame) (over .over .ensures) ∙ f) i) (discs (e i) (t i) (lines (drop (from i + 1) s))) (below i))
     ∙ sym (leaves-append picture (under (extent s) (wedge s)) (discs (extent s) (wedge s) (lines (behindFirst s))) (a .pane .now))
 
 pub draw-good-spec : {M : Type 1} → statement M
@@ -85,6 +89,7 @@ draw-good-spec =
     tie.close
     (tie.spec
     first-vertices-requires
+    corners-of-requires
     find-requires
     add-from
     of-wedge-requires

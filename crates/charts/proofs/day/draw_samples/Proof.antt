@@ -15,11 +15,11 @@ use Rattle.charts.proofs.day.draw_samples.Statement.{statement}
 use Rattle.charts.proofs.day.draw_samples.Tie as tie
 
 abbrev Inv-loop : tie.InvT-loop
-Inv-loop pane₀ canvas e v input from at₀ pane at =
-    (length pane ≡ length pane₀) × (each (sampled (canvas .frame) e v) pane (lines (drop at input)) ≡ each (sampled (canvas .frame) e v) pane₀ (lines (drop from input)))
+Inv-loop pane₀ canvas e t input from at₀ pane at =
+    (length pane ≡ length pane₀) × (each (sampled (canvas .frame) e t) pane (lines (drop at input)) ≡ each (sampled (canvas .frame) e t) pane₀ (lines (drop from input)))
 
 abbrev μ-loop : tie.MeasureT-loop
-μ-loop pane₀ canvas e v input from at₀ pane at = length input - at
+μ-loop pane₀ canvas e t input from at₀ pane at = length input - at
 
 loop-holds : tie.Need-loop-holds Inv-loop μ-loop
 loop-holds c = (refl, refl)
@@ -61,9 +61,9 @@ loop-again c =
     let turn = ended .before in
     let l = turn .before .loop in
     let a = turn .before .before .before .before .args in
-    let next = drawn .draw-sample .ensures ∙ ap (λ (p : Place). leaves (a .canvas .frame) (disc (a .e) (a .v) p) (l .pane)) (placed .read-place .ensures) in (
+    let next = drawn .draw-sample .ensures ∙ ap (λ (p : Place). leaves (a .canvas .frame) (disc (a .e) (a .t) p) (l .pane)) (placed .read-place .ensures) in (
       drawn .draw-sample .kept .0 ∙ l .inv .0,
-      taken (sampled (a .canvas .frame) (a .e) (a .v)) (a .input .now) (l .at) (turn .loop-test .taken) (ended .line-end .ensures .0) next ∙ l .inv .1,
+      taken (sampled (a .canvas .frame) (a .e) (a .t)) (a .input .now) (l .at) (turn .loop-test .taken) (ended .line-end .ensures .0) next ∙ l .inv .1,
     )
 
 same-length : tie.Need-same-length Inv-loop μ-loop
@@ -73,8 +73,8 @@ returns : tie.Need-returns Inv-loop μ-loop
 returns c =
     let l = c .before .loop in
     let a = c .before .before .before .before .args in
-    none-left (sampled (a .canvas .frame) (a .e) (a .v)) (a .input .now) (l .at) (omega (arith, c .loop-test .left)) ∙ l .inv .1
-    ∙ discs-each (a .canvas .frame) (a .e) (a .v) (lines (drop (a .from) (a .input .now))) (a .pane .now)
+    none-left (sampled (a .canvas .frame) (a .e) (a .t)) (a .input .now) (l .at) (omega (arith, c .loop-test .left)) ∙ l .inv .1
+    ∙ discs-each (a .canvas .frame) (a .e) (a .t) (lines (drop (a .from) (a .input .now))) (a .pane .now)
 
 pub draw-samples-spec : {M : Type 1} → statement M
 draw-samples-spec =

@@ -3,11 +3,9 @@ use mathlib.Core.Path.{ap, _∙_}
 use mathlib.Core.List.{[], _∷_}
 use lib.IntN.{pos}
 use borrow.Author.Needs.{needs}
-use mir.Syntax.{w32}
-use Rattle.whole.proofs.Machine.{field-back}
 use Rattle.framebuffer.specs.Drawing.{outcome}
 use Rattle.drawing.specs.Drawing.{lineDrawing, triangleDrawing}
-use Rattle.charts.specs.Picture.{ground, filling, ink, spot}
+use Rattle.charts.specs.Picture.{ground, filling, ink}
 use Rattle.charts.specs.Day.{leaves, box, under}
 use Rattle.charts.proofs.Drawn.{bytes-of}
 use Rattle.charts.proofs.day.draw_under.Statement.{statement}
@@ -53,17 +51,12 @@ returns c =
     let two = three .before .before .before .before in
     let one = two .before .before .before .before in
     let third = one .before .before in
-    let second = third .before .before .before in
-    let first = second .before .before .before in
-    let a = first .before .before .before .before .args in
-    let g = first .before .before .struct-told .given .1 in
-    let v = a .v in
-    let p1 = first .spot .ensures ∙ (λ i. spot (a .e) (field-back w32 (v .x1) (g .0 .1) i) (field-back w32 (v .y1) (g .1 .0 .1) i)) in
-    let p2 = second .spot2 .ensures ∙ (λ i. spot (a .e) (field-back w32 (v .x2) (g .1 .1 .0 .1) i) (field-back w32 (v .y2) (g .1 .1 .1 .0 .1) i)) in
-    let p3 = third .spot3 .ensures ∙ (λ i. spot (a .e) (field-back w32 (v .x3) (g .1 .1 .1 .1 .0 .1) i) (field-back w32 (v .y3) (g .1 .1 .1 .1 .1 .0 .1) i)) in
+    let second = third .before in
+    let first = second .before in
+    let a = first .before .before .args in
     let filled = bytes-of (one .fill .ensures) in
     let wedge = bytes-of (two .draw-triangle .ensures)
-    ∙ (λ i. outcome (a .f) (triangleDrawing (p1 i) (p2 i) (p3 i) filling) (filled i) .1) in
+    ∙ (λ i. outcome (a .f) (triangleDrawing (first .spot .ensures i) (second .spot2 .ensures i) (third .spot3 .ensures i) filling) (filled i) .1) in
     let side = three .draw-box .ensures ∙ ap (leaves (a .f) (box (pos 0, pos 0) (pos 23, pos 359) ground)) wedge in
     let foot = four .draw-box2 .ensures ∙ ap (leaves (a .f) (box (pos 0, pos 336) (pos 639, pos 359) ground)) side in
     let seconds = bytes-of (five .draw-line .ensures) ∙ ap (leaves (a .f) (lineDrawing (pos 24, pos 335) (pos 624, pos 335) ink ∷ [])) foot in

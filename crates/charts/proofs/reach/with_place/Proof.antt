@@ -1,7 +1,8 @@
 -- `charts::reach::with_place` asks for both numbers. Assumes nothing.
 use mathlib.Core.Path.{ap, _∙_}
 use borrow.Author.Needs.{needs}
-use mir.Facts.{toZ-ofZ}
+use mir.Syntax.{w32}
+use Rattle.whole.proofs.Machine.{field-back}
 use Rattle.charts.specs.Scale.{larger}
 use Rattle.charts.proofs.reach.with_place.Statement.{statement}
 use Rattle.charts.proofs.reach.with_place.Tie as tie
@@ -14,9 +15,9 @@ larger-requires-2 c κs = search needs
 
 returns : tie.Need-returns
 returns c =
-    let s = c .before .before in
-    let second = c .before .larger .ensures ∙ ap (larger (s .args .e .second)) (toZ-ofZ (s .fits .x)) in
-    let load = c .larger2 .ensures ∙ ap (larger (s .args .e .load)) (toZ-ofZ (s .fits .y)) in
+    let a = c .before .before .before .before .args in
+    let second = c .before .before .larger .ensures ∙ ap (larger (a .e .second)) (field-back w32 (a .p .0) (c .before .before .before .struct-told .given .0 .1)) in
+    let load = c .larger2 .ensures ∙ ap (larger (a .e .load)) (field-back w32 (a .p .1) (c .before .struct-told2 .given .1 .0 .1)) in
     λ i. record { second = second i; load = load i }
 
 pub with-place-spec : {M : Type 1} → statement M

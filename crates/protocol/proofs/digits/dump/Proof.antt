@@ -11,11 +11,11 @@ use borrow.Author.Tests.{le-leb, lt-leb, not-true, not-false}
 use Rattle.text.specs.declared.NextU32.{NextU32}
 use Rattle.text.specs.Fields.{nextU32}
 use Rattle.text.proofs.Writing.{wrote-byte, wrote-as}
-use Rattle.readers.specs.Figures.{isLast}
 use Rattle.protocol.specs.Reply.{badLine}
 use Rattle.protocol.specs.Dump.{hexText, dumpBy, dumpLine}
 use Rattle.protocol.proofs.Hexadecimal.{hex-count}
 use Rattle.text.proofs.And.{and-false}
+use Rattle.readers.specs.Figures.{isLast}
 use Rattle.readers.proofs.Readings.{is-within, two-read}
 use Rattle.protocol.proofs.digits.dump.Statement.{statement}
 use Rattle.protocol.proofs.digits.dump.Tie as tie

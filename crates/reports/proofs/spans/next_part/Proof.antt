@@ -1,6 +1,6 @@
 -- `reports::spans::next_part` writes at most 1,024 rows, for which the buffer has room. Assumes nothing.
-use mathlib.Core.Path.{_≡_, sym, ap, ap₂, subst, _∙_}
-use Prim.Native.Nat.{ℕ, _≤_}
+use mathlib.Core.Path.{_≡_, sym, ap₂, subst, _∙_}
+use Prim.Native.Nat.{_≤_}
 use native.Mathlib.Omega.{arith}
 use lib.IntN.{ℤ, pos, _+ℤ_}
 use lib.Signed.{_≤ℤ_}
@@ -34,43 +34,47 @@ module _ (c : tie.After-least) where
 least-requires : tie.Need-least-requires
 least-requires c κs = search needs
 
+corners-of-requires : tie.Need-corners-of-requires
+corners-of-requires c κs = search needs
+
 write-rows-requires : tie.Need-write-rows-requires
 write-rows-requires c κs =
-    let s = c .before .before .before .before in
-    let at = c .before .before in
+    let s = c .before .before .before .before .before in
+    let at = c .before .before .before in
     let p = s .args .p in
     let n = at .least .result in (
       omega (arith, s .pre .0, at-once at),
       subst (λ (z : ℤ). (z +ℤ pos n) ≤ℤ pos 131072) (sym (field-back w32 (p .first) (c .struct-told .given .1 .0 .1))) (fewer-below (p .first) (p .left) n (few at) (s .pre .1)),
     )
 
-cast-t8 : tie.Need-cast-t8
-cast-t8 c = search needs
+cast-t9 : tie.Need-cast-t9
+cast-t9 c = search needs
 
-add-t9 : tie.Need-add-t9
-add-t9 c =
+add-t10 : tie.Need-add-t10
+add-t10 c =
     let f = c .struct-told2 .given .1 .0 .1 in
-    next (c .before .before .before .before .before .before .before)
-    (field-back w32 (c .before .before .before .before .before .before .before .before .before .args .p .first) f) (record { sfits = f })
+    next (c .before .before .before .before .before .before .before .before)
+    (field-back w32 (c .before .before .before .before .before .before .before .before .before .before .args .p .first) f) (record { sfits = f })
 
-sub-t10 : tie.Need-sub-t10
-sub-t10 c = search needs
+sub-t11 : tie.Need-sub-t11
+sub-t11 c = search needs
 
 same-length : tie.Need-same-length
 same-length c = search needs
 
 returns : tie.Need-returns
 returns c =
-    let at = c .before .before .before .before .before .before .before .before in
-    let a = c .before .before .before .before .before .before .before .before .before .before .args in
+    let at = c .before .before .before .before .before .before .before .before .before in
+    let a = c .before .before .before .before .before .before .before .before .before .before .before .args in
     let p = a .p in
     let v = a .v in
     let f = c .before .struct-told2 .given .1 .0 .1 in
     let first = field-back w32 (p .first) f in
-    let w = wrote-as (a .out .now) 0 (ap₂ (λ (z : ℤ) (k : ℕ). rowLines v z k) first (at .least .ensures)) (c .before .before .before .before .before .write-rows .ensures) in
+    let t = c .before .before .before .before .before .before .before .corners-of .ensures in
+    let w = wrote-as (a .out .now) 0 (λ i. rowLines (t i) (first i) (at .least .ensures i)) (c .before .before .before .before .before .write-rows .ensures) in
     (next-part-is v p (w .0) (toZ-ofZ (next at first (record { sfits = f })) ∙ below at first) (at .least .ensures), w .1)
 
 pub next-part-spec : {M : Type 1} → statement M
 next-part-spec =
     tie.close
-    (tie.spec least-requires write-rows-requires cast-t8 add-t9 sub-t10 same-length returns)
+    (tie.spec least-requires corners-of-requires write-rows-requires cast-t9 add-t10 sub-t11 same-length returns)

@@ -17,8 +17,7 @@ rows-requires c κs = search needs
 
 returns-2 : tie.Need-returns-2
 returns-2 c =
-    c .rows .ensures
-    ∙ some-rows (c .before .before .before .before .args .v) (c .before .corners-of .result) (c .before .corners-of .ensures) (not-false _ (c .before .before .if1 .left))
+    c .rows .ensures ∙ some-rows (c .before .before .before .before .args .v) (c .before .corners-of .ensures) (not-false _ (c .before .before .if1 .left))
 
 pub rows-of-spec : {M : Type 1} → statement M
 rows-of-spec = tie.close (tie.spec returns corners-of-requires rows-requires returns-2)

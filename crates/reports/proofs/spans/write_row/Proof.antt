@@ -34,7 +34,7 @@ returns c =
     let s = c .before .before .before .before .before .before .before .before in
     let r = row-of .result in
     let y = toZ-ofZ (s .fits .y) in
-    wrote-as (s .args .out .now) (s .args .at) (ap (λ (q : Span). triple (s .args .y) (q .start) (q .end) 10) (row-of .ensures ∙ ap (rowOf (s .args .v)) y))
+    wrote-as (s .args .out .now) (s .args .at) (ap (λ (q : Span). triple (s .args .y) (q .start) (q .end) 10) (row-of .ensures ∙ ap (rowOf (s .args .t)) y))
     (at-triple _ _ (s .args .y) (r .start) (r .end) 10 y (field-back w32 (r .start) (c .before .before .before .before .struct-told .given .1 .0 .1))
     (field-back w32 (r .end) (c .before .before .before .struct-told2 .given .1 .1 .0 .1)) (c .before .before .write-triple .ensures))
 

@@ -17,13 +17,13 @@ use Rattle.reports.proofs.spans.write_rows.Statement.{statement}
 use Rattle.reports.proofs.spans.write_rows.Tie as tie
 
 abbrev Inv-loop : tie.InvT-loop
-Inv-loop out₀ at v first count y₀ left₀ filled₀ out y left filled =
+Inv-loop out₀ at t first count y₀ left₀ filled₀ out y left filled =
     (length out ≡ length out₀) × (filled + 36 * left ≤ length out₀) × SFits w32 (toZ w32 y) × ((toZ w32 y +ℤ pos left) ≤ℤ pos 131072)
-    × (filled + length (rowLines v (toZ w32 y) left) ≡ at + length (rowLines v (toZ w32 first) count))
-    × (sets out filled (rowLines v (toZ w32 y) left) ≡ sets out₀ at (rowLines v (toZ w32 first) count))
+    × (filled + length (rowLines t (toZ w32 y) left) ≡ at + length (rowLines t (toZ w32 first) count))
+    × (sets out filled (rowLines t (toZ w32 y) left) ≡ sets out₀ at (rowLines t (toZ w32 first) count))
 
 abbrev μ-loop : tie.MeasureT-loop
-μ-loop out₀ at v first count y₀ left₀ filled₀ out y left filled = left
+μ-loop out₀ at t first count y₀ left₀ filled₀ out y left filled = left
 
 -- the row below
 next : (c : tie.In-loop Inv-loop μ-loop) → SFits w32 (toZ w32 (c .before .loop .y) +ℤ pos 1)
@@ -60,9 +60,9 @@ loop-again c =
     let y = toZ-ofZ (next (c .before .before .before .before)) in
     let some = c .before .before .before .before .loop-test .taken in
     let w = c .before .before .write-row in
-    let go = row-goes (g .v) (toZ w32 (l .y)) (l .left) some (l .out) (w .last .0) (l .filled) (w .result) (w .ensures) _ y in (
+    let go = row-goes (g .t) (toZ w32 (l .y)) (l .left) some (l .out) (w .last .0) (l .filled) (w .result) (w .ensures) _ y in (
       w .kept .0 ∙ l .inv .0,
-      omega (arith, w .ensures .0, row-short (g .v) (toZ w32 (l .y)) (l .inv .2), l .inv .1, some),
+      omega (arith, w .ensures .0, row-short (g .t) (toZ w32 (l .y)) (l .inv .2), l .inv .1, some),
       subst (SFits w32) (sym y) (next (c .before .before .before .before)),
       subst (λ (z : ℤ). (z +ℤ pos (l .left - 1)) ≤ℤ pos 131072) (sym y) (further-below (toZ w32 (l .y)) (l .left) 1 some (l .inv .3)),
       go .0 ∙ l .inv .4,
@@ -76,8 +76,8 @@ returns : tie.Need-returns Inv-loop μ-loop
 returns c =
     let l = c .before .loop in
     let g = c .before .before .before .args in
-    let none = rows-none (g .v) (toZ w32 (l .y)) (l .left) (c .loop-test .left) in
-    let all = ap (λ (z : ℤ). rowLines (g .v) z (g .count)) (toZ-ofZ (c .before .before .before .fits .first)) in (
+    let none = rows-none (g .t) (toZ w32 (l .y)) (l .left) (c .loop-test .left) in
+    let all = ap (λ (z : ℤ). rowLines (g .t) z (g .count)) (toZ-ofZ (c .before .before .before .fits .first)) in (
       omega (arith, ap length none, ap length all, l .inv .4),
       sym (ap (sets (l .out) (l .filled)) none) ∙ l .inv .5 ∙ ap (sets (g .out .now) (g .at)) all,
     )

@@ -7,8 +7,8 @@ use lib.ListN.{length, take}
 use lib.Seq.{length-take-le}
 use borrow.Author.Needs.{needs}
 use Rattle.text.proofs.Parting.{part-end-within}
-use Rattle.protocol.specs.Dump.{dumpLine}
 use Rattle.readers.proofs.Letters.{choices}
+use Rattle.protocol.specs.Dump.{dumpLine}
 use Rattle.session.specs.Lines.{Left, turnDone, lineAnswer, answer, Session}
 use Rattle.session.specs.Files.{act}
 use Rattle.session.proofs.Answers.{answer-long, answer-short, is-answered}

@@ -7,10 +7,8 @@ use Rattle.framebuffer.specs.declared.Placed.{Placed}
 use Rattle.readers.proofs.Letters.{choices}
 use Rattle.readers.proofs.Readings.{readings}
 use Rattle.protocol.specs.declared.reply.Reply.{Reply}
-use Rattle.protocol.specs.declared.reply.Reply.the-variants.{One}
-use Rattle.protocol.specs.declared.reply.Value.the-variants.{Natural}
 use Rattle.protocol.specs.Reply.{verdictReply}
-use Rattle.calls.specs.Draw.{placedSaid, drawnSaid}
+use Rattle.calls.specs.Draw.{placedSaid, drawnReply, drawnSaid}
 
 -- a reply beside bytes that stay
 pub said-beside : {r found : Reply} (b : List ℕ) → r ≡ found → _≡_ {A = Reply × List ℕ} (r, b) (found, b)
@@ -20,9 +18,9 @@ pub is-placed : {p : Placed} {r : Reply} {left : List ℕ} {c : Placed × List �
     → _≡_ {A = Placed × List ℕ} (p, left) c → _≡_ {A = Reply × List ℕ} (r, left) (placedSaid c)
 is-placed e q = said-beside _ e ∙ ap placedSaid q
 
-pub is-drawn : {d : Drawn} {left : List ℕ} {c : Drawn × List ℕ} → _≡_ {A = Drawn × List ℕ} (d, left) c
-    → _≡_ {A = Reply × List ℕ} (One (d .number) (Natural (d .count)), left) (drawnSaid c)
-is-drawn e = ap drawnSaid e
+pub is-drawn : {d : Drawn} {r : Reply} {left : List ℕ} {c : Drawn × List ℕ} → r ≡ drawnReply d → _≡_ {A = Drawn × List ℕ} (d, left) c
+    → _≡_ {A = Reply × List ℕ} (r, left) (drawnSaid c)
+is-drawn e q = said-beside _ e ∙ ap drawnSaid q
 
 -- what answers the needs of a call
 pub ruleset calls = (readings, is-placed, is-drawn)

@@ -2,6 +2,7 @@
 use mathlib.Core.Bool.{cond}
 use mathlib.Core.List.{List, [], _∷_}
 use Prim.Native.Nat.{ℕ}
+use Rattle.geometry.specs.declared.Point.{Point}
 use Rattle.framebuffer.specs.declared.Drawn.{Drawn}
 use Rattle.framebuffer.specs.declared.Frame.{Frame}
 use Rattle.framebuffer.specs.declared.Placed.{Placed}
@@ -30,8 +31,11 @@ pixelCall said at f b =
     ofTwo (λ p c. callIfLast said (c .next) (placedSaid (pixelOutcome f (p .point) (c .value) b)) b) (nextPoint said at) (λ p. nextU32 said (p .next))
 
 -- ---- a drawing on the whole frame: number, how many pixels of it the figure contains (02, T-02)
+abbrev pub drawnReply : Drawn → Reply
+drawnReply d = One (d .number) (Natural (d .count))
+
 abbrev pub drawnSaid : Drawn × List ℕ → Reply × List ℕ
-drawnSaid c = (One (c .0 .number) (Natural (c .0 .count)), c .1)
+drawnSaid c = (drawnReply (c .0), c .1)
 
 abbrev pub called : List ℕ → ℕ → Frame → Drawing → List ℕ → Reply × List ℕ
 called said next f d b = callIfLast said next (drawnSaid (outcome f d b)) b
@@ -40,39 +44,30 @@ called said next f d b = callIfLast said next (drawnSaid (outcome f d b)) b
 unfoldable pub fillCall : List ℕ → ℕ → Frame → List ℕ → Reply × List ℕ
 fillCall said at f b = ofOne (λ c. called said (c .next) f (fillDrawing (c .value)) b) (nextU32 said at)
 
--- `line X1 Y1 X2 Y2 C`
-unfoldable pub lineCall : List ℕ → ℕ → Frame → List ℕ → Reply × List ℕ
-lineCall said at f b = ofTwo (λ l c. called said (c .next) f (lineDrawing (l .start) (l .end) (c .value)) b) (nextEnds said at) (λ l. nextU32 said (l .next))
+-- `line X1 Y1 X2 Y2 C`, and `trace`: a connected line (02, T-05)
+unfoldable pub endsCall : (Point → Point → ℕ → Drawing) → List ℕ → ℕ → Frame → List ℕ → Reply × List ℕ
+endsCall drawing said at f b = ofTwo (λ l c. called said (c .next) f (drawing (l .start) (l .end) (c .value)) b) (nextEnds said at) (λ l. nextU32 said (l .next))
 
--- `triangle X1 Y1 X2 Y2 X3 Y3 C`
-unfoldable pub triangleCall : List ℕ → ℕ → Frame → List ℕ → Reply × List ℕ
-triangleCall said at f b =
-    ofTwo (λ t c. called said (c .next) f (triangleDrawing (t .corners .a) (t .corners .b) (t .corners .c) (c .value)) b) (nextCorners said at) (λ t. nextU32 said (t .next))
-
--- `outline X1 Y1 X2 Y2 X3 Y3 C`
-unfoldable pub outlineCall : List ℕ → ℕ → Frame → List ℕ → Reply × List ℕ
-outlineCall said at f b =
-    ofTwo (λ t c. called said (c .next) f (outlineDrawing (t .corners .a) (t .corners .b) (t .corners .c) (c .value)) b) (nextCorners said at) (λ t. nextU32 said (t .next))
+-- `triangle X1 Y1 X2 Y2 X3 Y3 C`, and `outline`
+unfoldable pub cornersCall : (Point → Point → Point → ℕ → Drawing) → List ℕ → ℕ → Frame → List ℕ → Reply × List ℕ
+cornersCall drawing said at f b =
+    ofTwo (λ t c. called said (c .next) f (drawing (t .corners .a) (t .corners .b) (t .corners .c) (c .value)) b) (nextCorners said at) (λ t. nextU32 said (t .next))
 
 -- `circle L T D C`
 unfoldable pub circleCall : List ℕ → ℕ → Frame → List ℕ → Reply × List ℕ
 circleCall said at f b =
     ofTwo (λ o c. called said (c .next) f (circleDrawing (o .topleft) (o .diameter) (c .value)) b) (nextCircle said at) (λ o. nextU32 said (o .next))
 
--- `trace X1 Y1 X2 Y2 C`: a connected line (02, T-05)
-unfoldable pub traceCall : List ℕ → ℕ → Frame → List ℕ → Reply × List ℕ
-traceCall said at f b = ofTwo (λ l c. called said (c .next) f (connectedDrawing (l .start) (l .end) (c .value)) b) (nextEnds said at) (λ l. nextU32 said (l .next))
-
 -- ---- a call by its word; a line that starts with another word may be a question, and leaves the bytes as they were
 abbrev pub callTable : List ℕ → ℕ → Frame → List ℕ → List (List ℕ × (Reply × List ℕ))
 callTable said at f b =
     (pixelWord, pixelCall said at f b)
     ∷ (fillWord, fillCall said at f b)
-    ∷ (lineWord, lineCall said at f b)
-    ∷ (triangleWord, triangleCall said at f b)
-    ∷ (outlineWord, outlineCall said at f b)
+    ∷ (lineWord, endsCall lineDrawing said at f b)
+    ∷ (triangleWord, cornersCall triangleDrawing said at f b)
+    ∷ (outlineWord, cornersCall outlineDrawing said at f b)
     ∷ (circleWord, circleCall said at f b)
-    ∷ (traceWord, traceCall said at f b)
+    ∷ (traceWord, endsCall connectedDrawing said at f b)
     ∷ []
 
 abbrev pub drawCall : List ℕ → List ℕ → ℕ → Frame → List ℕ → Reply × List ℕ

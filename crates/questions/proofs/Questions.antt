@@ -11,16 +11,16 @@ use Rattle.readers.specs.declared.figures.Corners.{Corners}
 use Rattle.readers.specs.declared.figures.NextCircle.{NextCircle}
 use Rattle.readers.proofs.Readings.{readings}
 use Rattle.protocol.specs.declared.reply.Reply.{Reply}
-use Rattle.protocol.specs.declared.reply.Reply.the-variants.{One, Two}
+use Rattle.protocol.specs.declared.reply.Reply.the-variants.{Two}
 use Rattle.protocol.specs.declared.reply.Value.the-variants.{Natural, Whole}
 use Rattle.protocol.specs.Reply.{verdictReply}
 use Rattle.questions.specs.Ask.{lengthSaid, stepSaid, spanSaid, rowsSaid, spanOf, discspanOf}
 
-pub length-said : {a found : Length} → a ≡ found → One (a .number) (Natural (a .points)) ≡ lengthSaid found
-length-said e = ap lengthSaid e
+pub length-said : {a found : Length} {r : Reply} → r ≡ lengthSaid a → a ≡ found → r ≡ lengthSaid found
+length-said e q = e ∙ ap lengthSaid q
 
-pub step-said : {a found : Step} {x y : ℤ} → a ≡ found → x ≡ a .point .0 → y ≡ a .point .1 → Two (a .number) (Whole x) (Whole y) ≡ stepSaid found
-step-said e p q = rw (p, q) (ap stepSaid e)
+pub step-said : {a found : Step} {r : Reply} → r ≡ stepSaid a → a ≡ found → r ≡ stepSaid found
+step-said e q = e ∙ ap stepSaid q
 
 pub rows-said : {a found : RowRange} {y : ℤ} → a ≡ found → y ≡ a .first → Two (a .number) (Whole y) (Natural (a .count)) ≡ rowsSaid found
 rows-said e p = rw p (ap rowsSaid e)

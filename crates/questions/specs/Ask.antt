@@ -1,8 +1,9 @@
 -- What each question is answered, by the definitions of the library. The numbers of the line start at a place.
+use mathlib.Core.Bool.{Bool}
 use mathlib.Core.List.{List, [], _∷_}
 use Prim.Native.Nat.{ℕ}
 use lib.IntN.{ℤ}
-use Rattle.refusals.specs.First.{first}
+use Rattle.refusals.specs.First.{Tests, first}
 use Rattle.geometry.specs.declared.Point.{Point}
 use Rattle.geometry.specs.declared.Span.{Span}
 use Rattle.geometry.specs.declared.Verdict.{Verdict}
@@ -43,39 +44,22 @@ spanSaid a = Two (a .number) (Whole (a .start)) (Whole (a .end))
 abbrev pub rowsSaid : RowRange → Reply
 rowsSaid a = Two (a .number) (Whole (a .first)) (Natural (a .count))
 
--- ---- of a line
--- `length X1 Y1 X2 Y2`: number, points of the line
-unfoldable pub lengthReply : List ℕ → ℕ → Reply
-lengthReply said at = ofOne (λ l. ifLast said (l .next) (lengthSaid (lengthAnswer (first (endTests (l .start) (l .end))) (points (l .start) (l .end))))) (nextEnds said at)
+-- ---- of a line, and of a connected line (02, T-05)
+-- `length X1 Y1 X2 Y2` and `tracelength`: number, points
+unfoldable pub lengthReply : (Point → Point → ℕ) → List ℕ → ℕ → Reply
+lengthReply count said at =
+    ofOne (λ l. ifLast said (l .next) (lengthSaid (lengthAnswer (first (endTests (l .start) (l .end))) (count (l .start) (l .end))))) (nextEnds said at)
 
--- `point X1 Y1 X2 Y2 K`: number, x, y
-unfoldable pub pointReply : List ℕ → ℕ → Reply
-pointReply said at =
-    ofTwo (λ l k. ifLast said (k .next) (stepSaid (stepAnswer (first (stepTests (l .start) (l .end) (k .value))) (pointAt (l .start) (l .end) (k .value)))))
+-- `point X1 Y1 X2 Y2 K` and `tracepoint`: number, x, y
+unfoldable pub pointReply : (Point → Point → ℕ → Tests) → (Point → Point → ℕ → Point) → List ℕ → ℕ → Reply
+pointReply tests there said at =
+    ofTwo (λ l k. ifLast said (k .next) (stepSaid (stepAnswer (first (tests (l .start) (l .end) (k .value))) (there (l .start) (l .end) (k .value)))))
     (nextEnds said at) (λ l. nextU32 said (l .next))
 
--- `online X1 Y1 X2 Y2 X Y`: number, whether the pixel is a point of the line
-unfoldable pub onlineReply : List ℕ → ℕ → Reply
-onlineReply said at =
-    ofTwo (λ l p. ifLast said (p .next) (verdictReply (verdict (first (endTests (l .start) (l .end))) (hasPoint (l .start) (l .end) (p .point)))))
-    (nextEnds said at) (λ l. nextPoint said (l .next))
-
--- ---- of a connected line (02, T-05)
--- `tracelength X1 Y1 X2 Y2`: number, points of the connected line
-unfoldable pub tracelengthReply : List ℕ → ℕ → Reply
-tracelengthReply said at =
-    ofOne (λ l. ifLast said (l .next) (lengthSaid (lengthAnswer (first (endTests (l .start) (l .end))) (connectedPoints (l .start) (l .end))))) (nextEnds said at)
-
--- `tracepoint X1 Y1 X2 Y2 K`: number, x, y
-unfoldable pub tracepointReply : List ℕ → ℕ → Reply
-tracepointReply said at =
-    ofTwo (λ l k. ifLast said (k .next) (stepSaid (stepAnswer (first (indexTests (l .start) (l .end) (k .value))) (connectedAt (l .start) (l .end) (k .value)))))
-    (nextEnds said at) (λ l. nextU32 said (l .next))
-
--- `ontrace X1 Y1 X2 Y2 X Y`: number, whether the pixel is a point of the connected line
-unfoldable pub ontraceReply : List ℕ → ℕ → Reply
-ontraceReply said at =
-    ofTwo (λ l p. ifLast said (p .next) (verdictReply (verdict (first (endTests (l .start) (l .end))) (hasConnected (l .start) (l .end) (p .point)))))
+-- `online X1 Y1 X2 Y2 X Y` and `ontrace`: number, whether the pixel is a point of it
+unfoldable pub onlineReply : (Point → Point → Point → Bool) → List ℕ → ℕ → Reply
+onlineReply has said at =
+    ofTwo (λ l p. ifLast said (p .next) (verdictReply (verdict (first (endTests (l .start) (l .end))) (has (l .start) (l .end) (p .point)))))
     (nextEnds said at) (λ l. nextPoint said (l .next))
 
 -- ---- of a triangle
@@ -118,17 +102,17 @@ discspanReply said at = ofTwo (λ c y. ifLast said (y .next) (spanSaid (discspan
 -- ---- a question by its word; another word makes a bad line
 abbrev pub questionTable : List ℕ → ℕ → List (List ℕ × Reply)
 questionTable said at =
-    (lengthWord, lengthReply said at)
-    ∷ (pointWord, pointReply said at)
-    ∷ (onlineWord, onlineReply said at)
+    (lengthWord, lengthReply points said at)
+    ∷ (pointWord, pointReply stepTests pointAt said at)
+    ∷ (onlineWord, onlineReply hasPoint said at)
     ∷ (insideWord, insideReply said at)
     ∷ (spanWord, spanReply said at)
     ∷ (rowsWord, rowsReply said at)
     ∷ (discWord, discReply said at)
     ∷ (discspanWord, discspanReply said at)
-    ∷ (tracelengthWord, tracelengthReply said at)
-    ∷ (tracepointWord, tracepointReply said at)
-    ∷ (ontraceWord, ontraceReply said at)
+    ∷ (tracelengthWord, lengthReply connectedPoints said at)
+    ∷ (tracepointWord, pointReply indexTests connectedAt said at)
+    ∷ (ontraceWord, onlineReply hasConnected said at)
     ∷ []
 
 abbrev pub askReply : List ℕ → List ℕ → ℕ → Reply

@@ -1,7 +1,14 @@
 // The questions on figures, each asked of the library. The numbers of a line start at `at`.
 ghost use mathlib.Core.Path.{_≡_};
-ghost use Rattle.questions.specs.Ask.{lengthReply, pointReply, onlineReply, tracelengthReply, tracepointReply, ontraceReply};
+ghost use mathlib.Core.Bool.{cond};
+ghost use Rattle.line.specs.Line.{points, pointAt, hasPoint};
+ghost use Rattle.line.specs.Answer.{stepTests};
+ghost use Rattle.connected.specs.Connected.{connectedPoints, connectedAt, hasConnected};
+ghost use Rattle.connected.specs.Answer.{indexTests};
+ghost use Rattle.questions.specs.Ask.{lengthSaid, stepSaid, lengthReply, pointReply, onlineReply};
 ghost use Rattle.questions.specs.Ask.{insideReply, spanReply, rowsReply, discReply, discspanReply, askReply};
+use line::Length;
+use line::Step;
 use protocol::Reply;
 use protocol::Value;
 use protocol::verdict_reply;
@@ -12,74 +19,61 @@ use readers::next_ends;
 use readers::next_point;
 use readers::place_in;
 
-fn length(said: &[u8], at: usize) -> Reply
-    ensures { λ r. ⌜ r ≡ lengthReply (now (said .entry)) at ⌝ }
+fn length_reply(found: Length) -> Reply
+    ensures { λ r. ⌜ r ≡ lengthSaid found ⌝ }
+{
+    Reply::One(found.number, Value::Natural(found.points))
+}
+
+fn step_reply(found: Step) -> Reply
+    ensures { λ r. ⌜ r ≡ stepSaid found ⌝ }
+{
+    let p = found.point;
+    Reply::Two(found.number, Value::Whole(p.0), Value::Whole(p.1))
+}
+
+// How many points a line has, or, with `trace`, the connected one.
+fn length(said: &[u8], at: usize, trace: bool) -> Reply
+    ensures { λ r. ⌜ r ≡ lengthReply (cond trace connectedPoints points) (now (said .entry)) at ⌝ }
 {
     let ends = next_ends(said, at);
     if !ends_at(said, ends.next) {
         return Reply::Bad;
     }
-    let found = line::major_length(ends.start, ends.end);
-    Reply::One(found.number, Value::Natural(found.points))
+    if trace {
+        return length_reply(connected::length(ends.start, ends.end));
+    }
+    length_reply(line::major_length(ends.start, ends.end))
 }
 
-fn point(said: &[u8], at: usize) -> Reply
-    ensures { λ r. ⌜ r ≡ pointReply (now (said .entry)) at ⌝ }
+// The point at a step or, with `trace`, of an index.
+fn point(said: &[u8], at: usize, trace: bool) -> Reply
+    ensures { λ r. ⌜ r ≡ pointReply (cond trace indexTests stepTests) (cond trace connectedAt pointAt) (now (said .entry)) at ⌝ }
 {
     let ends = next_ends(said, at);
     let step = text::next_u32(said, ends.next);
     if !ends_at(said, step.next) {
         return Reply::Bad;
     }
-    let found = line::point(ends.start, ends.end, step.value);
-    let p = found.point;
-    Reply::Two(found.number, Value::Whole(p.0), Value::Whole(p.1))
+    if trace {
+        return step_reply(connected::point(ends.start, ends.end, step.value));
+    }
+    step_reply(line::point(ends.start, ends.end, step.value))
 }
 
-fn online(said: &[u8], at: usize) -> Reply
-    ensures { λ r. ⌜ r ≡ onlineReply (now (said .entry)) at ⌝ }
+// Whether a pixel is a point of the line or, with `trace`, of the connected one.
+fn online(said: &[u8], at: usize, trace: bool) -> Reply
+    ensures { λ r. ⌜ r ≡ onlineReply (cond trace hasConnected hasPoint) (now (said .entry)) at ⌝ }
 {
     let ends = next_ends(said, at);
     let asked = next_point(said, ends.next);
     if !ends_at(said, asked.next) {
         return Reply::Bad;
+    }
+    if trace {
+        return verdict_reply(connected::has_point(ends.start, ends.end, asked.point));
     }
     verdict_reply(line::has_point(ends.start, ends.end, asked.point))
-}
-
-fn tracelength(said: &[u8], at: usize) -> Reply
-    ensures { λ r. ⌜ r ≡ tracelengthReply (now (said .entry)) at ⌝ }
-{
-    let ends = next_ends(said, at);
-    if !ends_at(said, ends.next) {
-        return Reply::Bad;
-    }
-    let found = connected::length(ends.start, ends.end);
-    Reply::One(found.number, Value::Natural(found.points))
-}
-
-fn tracepoint(said: &[u8], at: usize) -> Reply
-    ensures { λ r. ⌜ r ≡ tracepointReply (now (said .entry)) at ⌝ }
-{
-    let ends = next_ends(said, at);
-    let index = text::next_u32(said, ends.next);
-    if !ends_at(said, index.next) {
-        return Reply::Bad;
-    }
-    let found = connected::point(ends.start, ends.end, index.value);
-    let p = found.point;
-    Reply::Two(found.number, Value::Whole(p.0), Value::Whole(p.1))
-}
-
-fn ontrace(said: &[u8], at: usize) -> Reply
-    ensures { λ r. ⌜ r ≡ ontraceReply (now (said .entry)) at ⌝ }
-{
-    let ends = next_ends(said, at);
-    let asked = next_point(said, ends.next);
-    if !ends_at(said, asked.next) {
-        return Reply::Bad;
-    }
-    verdict_reply(connected::has_point(ends.start, ends.end, asked.point))
 }
 
 fn inside(said: &[u8], at: usize) -> Reply
@@ -162,17 +156,17 @@ pub fn ask(word: &[u8], said: &[u8], at: usize) -> Reply
         b"length\tpoint\tonline\tinside\tspan\trows\tdisc\tdiscspan\ttracelength\ttracepoint\tontrace",
         word,
     ) {
-        0 => length(said, at),
-        1 => point(said, at),
-        2 => online(said, at),
+        0 => length(said, at, false),
+        1 => point(said, at, false),
+        2 => online(said, at, false),
         3 => inside(said, at),
         4 => span(said, at),
         5 => rows(said, at),
         6 => disc(said, at),
         7 => discspan(said, at),
-        8 => tracelength(said, at),
-        9 => tracepoint(said, at),
-        10 => ontrace(said, at),
+        8 => length(said, at, true),
+        9 => point(said, at, true),
+        10 => online(said, at, true),
         _ => Reply::Bad,
     }
 }

@@ -21,6 +21,9 @@ returns c = search calls
 draw-circle-requires : tie.Need-draw-circle-requires
 draw-circle-requires c κs = search needs
 
+drawn-reply-requires : tie.Need-drawn-reply-requires
+drawn-reply-requires c κs = search needs
+
 same-length : tie.Need-same-length
 same-length c = search needs
 
@@ -37,5 +40,6 @@ circle-spec =
     ends-at-requires
     returns
     draw-circle-requires
+    drawn-reply-requires
     same-length
     returns-2)

@@ -22,14 +22,14 @@ line-requires c κs = search needs
 triangle-requires : tie.Need-triangle-requires
 triangle-requires c κs = search needs
 
-outline-requires : tie.Need-outline-requires
-outline-requires c κs = search needs
+triangle-requires-2 : tie.Need-triangle-requires-2
+triangle-requires-2 c κs = search needs
 
 circle-requires : tie.Need-circle-requires
 circle-requires c κs = search needs
 
-trace-requires : tie.Need-trace-requires
-trace-requires c κs = search needs
+line-requires-2 : tie.Need-line-requires-2
+line-requires-2 c κs = search needs
 
 ask-requires : tie.Need-ask-requires
 ask-requires c κs = search needs
@@ -89,9 +89,9 @@ draw-spec =
     fill-requires
     line-requires
     triangle-requires
-    outline-requires
+    triangle-requires-2
     circle-requires
-    trace-requires
+    line-requires-2
     ask-requires
     same-length
     returns

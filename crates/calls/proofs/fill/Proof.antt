@@ -18,6 +18,9 @@ returns c = search calls
 fill-requires : tie.Need-fill-requires
 fill-requires c κs = search needs
 
+drawn-reply-requires : tie.Need-drawn-reply-requires
+drawn-reply-requires c κs = search needs
+
 same-length : tie.Need-same-length
 same-length c = search needs
 
@@ -28,4 +31,4 @@ returns-2 c = search calls
 pub fill-spec : {M : Type 1} → statement M
 fill-spec =
     tie.close
-    (tie.spec next-u32-requires ends-at-requires returns fill-requires same-length returns-2)
+    (tie.spec next-u32-requires ends-at-requires returns fill-requires drawn-reply-requires same-length returns-2)

@@ -1,6 +1,6 @@
 -- `calls::line` hands on what the library answers and leaves, where the line ends behind the colour. Assumes nothing.
 use borrow.Author.Needs.{needs}
-use Rattle.calls.specs.Draw.{lineCall}
+use Rattle.calls.specs.Draw.{endsCall}
 use Rattle.calls.proofs.Calls.{calls}
 use Rattle.calls.proofs.line.Statement.{statement}
 use Rattle.calls.proofs.line.Tie as tie
@@ -15,18 +15,34 @@ ends-at-requires : tie.Need-ends-at-requires
 ends-at-requires c κs = search needs
 
 returns : tie.Need-returns
-unfolding lineCall
+unfolding endsCall
 returns c = search calls
 
-draw-line-requires : tie.Need-draw-line-requires
-draw-line-requires c κs = search needs
+draw-connected-line-requires : tie.Need-draw-connected-line-requires
+draw-connected-line-requires c κs = search needs
+
+drawn-reply-requires : tie.Need-drawn-reply-requires
+drawn-reply-requires c κs = search needs
 
 same-length : tie.Need-same-length
 same-length c = search needs
 
 returns-2 : tie.Need-returns-2
-unfolding lineCall
-returns-2 c = search calls
+unfolding endsCall
+returns-2 c = rw (c .before .before .before .before .before .if2 .taken) (search calls)
+
+draw-line-requires : tie.Need-draw-line-requires
+draw-line-requires c κs = search needs
+
+drawn-reply-requires-2 : tie.Need-drawn-reply-requires-2
+drawn-reply-requires-2 c κs = search needs
+
+same-length-2 : tie.Need-same-length-2
+same-length-2 c = search needs
+
+returns-3 : tie.Need-returns-3
+unfolding endsCall
+returns-3 c = rw (c .before .before .before .before .before .if2 .left) (search calls)
 
 pub line-spec : {M : Type 1} → statement M
 line-spec =
@@ -36,6 +52,11 @@ line-spec =
     next-u32-requires
     ends-at-requires
     returns
-    draw-line-requires
+    draw-connected-line-requires
+    drawn-reply-requires
     same-length
-    returns-2)
+    returns-2
+    draw-line-requires
+    drawn-reply-requires-2
+    same-length-2
+    returns-3)

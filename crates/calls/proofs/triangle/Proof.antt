@@ -1,6 +1,6 @@
 -- `calls::triangle` hands on what the library answers and leaves, where the line ends behind the colour. Assumes nothing.
 use borrow.Author.Needs.{needs}
-use Rattle.calls.specs.Draw.{triangleCall}
+use Rattle.calls.specs.Draw.{cornersCall}
 use Rattle.calls.proofs.Calls.{calls}
 use Rattle.calls.proofs.triangle.Statement.{statement}
 use Rattle.calls.proofs.triangle.Tie as tie
@@ -15,18 +15,34 @@ ends-at-requires : tie.Need-ends-at-requires
 ends-at-requires c κs = search needs
 
 returns : tie.Need-returns
-unfolding triangleCall
+unfolding cornersCall
 returns c = search calls
 
-draw-triangle-requires : tie.Need-draw-triangle-requires
-draw-triangle-requires c κs = search needs
+draw-outline-requires : tie.Need-draw-outline-requires
+draw-outline-requires c κs = search needs
+
+drawn-reply-requires : tie.Need-drawn-reply-requires
+drawn-reply-requires c κs = search needs
 
 same-length : tie.Need-same-length
 same-length c = search needs
 
 returns-2 : tie.Need-returns-2
-unfolding triangleCall
-returns-2 c = search calls
+unfolding cornersCall
+returns-2 c = rw (c .before .before .before .before .before .if2 .taken) (search calls)
+
+draw-triangle-requires : tie.Need-draw-triangle-requires
+draw-triangle-requires c κs = search needs
+
+drawn-reply-requires-2 : tie.Need-drawn-reply-requires-2
+drawn-reply-requires-2 c κs = search needs
+
+same-length-2 : tie.Need-same-length-2
+same-length-2 c = search needs
+
+returns-3 : tie.Need-returns-3
+unfolding cornersCall
+returns-3 c = rw (c .before .before .before .before .before .if2 .left) (search calls)
 
 pub triangle-spec : {M : Type 1} → statement M
 triangle-spec =
@@ -36,6 +52,11 @@ triangle-spec =
     next-u32-requires
     ends-at-requires
     returns
-    draw-triangle-requires
+    draw-outline-requires
+    drawn-reply-requires
     same-length
-    returns-2)
+    returns-2
+    draw-triangle-requires
+    drawn-reply-requires-2
+    same-length-2
+    returns-3)

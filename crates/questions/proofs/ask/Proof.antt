@@ -34,14 +34,14 @@ disc-requires c κs = search needs
 discspan-requires : tie.Need-discspan-requires
 discspan-requires c κs = search needs
 
-tracelength-requires : tie.Need-tracelength-requires
-tracelength-requires c κs = search needs
+length-requires-2 : tie.Need-length-requires-2
+length-requires-2 c κs = search needs
 
-tracepoint-requires : tie.Need-tracepoint-requires
-tracepoint-requires c κs = search needs
+point-requires-2 : tie.Need-point-requires-2
+point-requires-2 c κs = search needs
 
-ontrace-requires : tie.Need-ontrace-requires
-ontrace-requires c κs = search needs
+online-requires-2 : tie.Need-online-requires-2
+online-requires-2 c κs = search needs
 
 returns : tie.Need-returns
 returns c = search choices
@@ -93,9 +93,9 @@ ask-spec =
     rows-requires
     disc-requires
     discspan-requires
-    tracelength-requires
-    tracepoint-requires
-    ontrace-requires
+    length-requires-2
+    point-requires-2
+    online-requires-2
     returns
     returns-2
     returns-3

@@ -1,4 +1,4 @@
--- `questions::online` hands on what the library answers, where the line ends behind the last number. Assumes nothing.
+-- `questions::online` hands on what the library answers of the line or of the connected one, where the line ends behind the last number. Assumes nothing.
 use borrow.Author.Needs.{needs}
 use Rattle.questions.specs.Ask.{onlineReply}
 use Rattle.questions.proofs.Questions.{questions}
@@ -26,7 +26,17 @@ verdict-reply-requires c κs = search needs
 
 returns-2 : tie.Need-returns-2
 unfolding onlineReply
-returns-2 c = search questions
+returns-2 c = rw (c .before .before .if2 .taken) (search questions)
+
+has-point-requires-2 : tie.Need-has-point-requires-2
+has-point-requires-2 c κs = search needs
+
+verdict-reply-requires-2 : tie.Need-verdict-reply-requires-2
+verdict-reply-requires-2 c κs = search needs
+
+returns-3 : tie.Need-returns-3
+unfolding onlineReply
+returns-3 c = rw (c .before .before .if2 .left) (search questions)
 
 pub online-spec : {M : Type 1} → statement M
 online-spec =
@@ -38,4 +48,7 @@ online-spec =
     returns
     has-point-requires
     verdict-reply-requires
-    returns-2)
+    returns-2
+    has-point-requires-2
+    verdict-reply-requires-2
+    returns-3)

@@ -1,4 +1,4 @@
--- `questions::point` hands on what the library answers, where the line ends behind the last number. Assumes nothing.
+-- `questions::point` hands on what the library answers of the line or of the connected one, where the line ends behind the last number. Assumes nothing.
 use borrow.Author.Needs.{needs}
 use Rattle.questions.specs.Ask.{pointReply}
 use Rattle.questions.proofs.Questions.{questions}
@@ -21,9 +21,22 @@ returns c = search questions
 point-requires : tie.Need-point-requires
 point-requires c κs = search needs
 
+step-reply-requires : tie.Need-step-reply-requires
+step-reply-requires c κs = search needs
+
 returns-2 : tie.Need-returns-2
 unfolding pointReply
-returns-2 c = search questions
+returns-2 c = rw (c .before .before .if2 .taken) (search questions)
+
+point-requires-2 : tie.Need-point-requires-2
+point-requires-2 c κs = search needs
+
+step-reply-requires-2 : tie.Need-step-reply-requires-2
+step-reply-requires-2 c κs = search needs
+
+returns-3 : tie.Need-returns-3
+unfolding pointReply
+returns-3 c = rw (c .before .before .if2 .left) (search questions)
 
 pub point-spec : {M : Type 1} → statement M
 point-spec =
@@ -34,4 +47,8 @@ point-spec =
     ends-at-requires
     returns
     point-requires
-    returns-2)
+    step-reply-requires
+    returns-2
+    point-requires-2
+    step-reply-requires-2
+    returns-3)

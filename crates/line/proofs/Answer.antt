@@ -17,7 +17,7 @@ module _ (s e : Point) {z : ℕ} (h : z ≡ first (endTests s e)) where
   ends-refused t n k = refused (endTests s e) _ h t
 
   -- of code that compares with l
-  module _ (none : z ≡ 0) {k l n : ℕ} (is : l ≡ n) where
+  module _ (none : z ≡ 0) {l n : ℕ} (is : l ≡ n) (k : ℕ) where
     pub past-refused : l < k → 7 ≡ first (endTests s e ++ ((7, ltb n k) ∷ []))
     past-refused p = passed (endTests s e) _ (end-numbered s e) h none (stops 7 _ [] (lt-ltb n k (omega arith)))
 

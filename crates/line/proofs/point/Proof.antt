@@ -21,14 +21,14 @@ last-step-requires c κs = is-accepted _ _ (sym (c .before .refusal .ensures) �
 
 returns-2 : tie.Need-returns-2
 unfolding stepTests
-returns-2 c = let b = c .before .before in simp (← past-refused _ _ (b .before .refusal .ensures) (b .if1 .left) (c .before .last-step .ensures) (c .if2 .taken))
+returns-2 c = let b = c .before .before in simp (← past-refused _ _ (b .before .refusal .ensures) (b .if1 .left) (c .before .last-step .ensures) (b .before .before .args .step) (omega arith))
 
 point-at-requires : tie.Need-point-at-requires
 point-at-requires c κs = (last-step-requires (c .before .before) tt, omega (arith, c .before .last-step .ensures))
 
 returns-3 : tie.Need-returns-3
 unfolding stepTests
-returns-3 c = let d = c .before .before in simp (← step-accepted _ _ (d .before .before .refusal .ensures) (d .before .if1 .left) (d .last-step .ensures) (c .before .if2 .left), c .point-at .ensures)
+returns-3 c = let d = c .before .before in simp (← step-accepted _ _ (d .before .before .refusal .ensures) (d .before .if1 .left) (d .last-step .ensures) _ (c .before .if2 .left), c .point-at .ensures)
 
 pub point-spec : {M : Type 1} → statement M
 point-spec = tie.close (tie.spec refusal-requires returns last-step-requires returns-2 point-at-requires returns-3)

@@ -32,79 +32,19 @@ use Rattle.beamacorn.proofs.beamacorn_write_image.Reads as write-image
 use Rattle.beamacorn.proofs.beamacorn_read_image.Reads as read-image
 
 -- ---- questions
-pub line-length-one : One line-length.Post
-line-length-one κs args r q s t = same
+pub questions-one :
+    One line-length.Post × One line-point.Post × One line-has-point.Post × One connected-length.Post × One connected-point.Post
+    × One connected-has-point.Post × One triangle-contains.Post × One triangle-rows.Post × One triangle-row-span.Post × One circle-contains.Post
+    × One circle-row-span.Post × One frame-size.Post × One pixel.Post × One lit.Post × One image-size.Post
+questions-one = search same
 
-pub line-point-one : One line-point.Post
-line-point-one κs args r q s t = same
+-- ---- calls that draw, and reading an image file: the answer, and the bytes that it leaves
+pub calls-one :
+    OneBuffer set-pixel.Post × OneBuffer fill.Post × OneBuffer draw-line.Post × OneBuffer draw-connected-line.Post
+    × OneBuffer draw-triangle.Post × OneBuffer draw-outline.Post × OneBuffer draw-circle.Post × OneBuffer read-image.Post
+calls-one = search same
 
-pub line-has-point-one : One line-has-point.Post
-line-has-point-one κs args r q s t = same
-
-pub connected-length-one : One connected-length.Post
-connected-length-one κs args r q s t = same
-
-pub connected-point-one : One connected-point.Post
-connected-point-one κs args r q s t = same
-
-pub connected-has-point-one : One connected-has-point.Post
-connected-has-point-one κs args r q s t = same
-
-pub triangle-contains-one : One triangle-contains.Post
-triangle-contains-one κs args r q s t = same
-
-pub triangle-rows-one : One triangle-rows.Post
-triangle-rows-one κs args r q s t = same
-
-pub triangle-row-span-one : One triangle-row-span.Post
-triangle-row-span-one κs args r q s t = same
-
-pub circle-contains-one : One circle-contains.Post
-circle-contains-one κs args r q s t = same
-
-pub circle-row-span-one : One circle-row-span.Post
-circle-row-span-one κs args r q s t = same
-
-pub frame-size-one : One frame-size.Post
-frame-size-one κs args r q s t = same
-
-pub pixel-one : One pixel.Post
-pixel-one κs args r q s t = same
-
-pub lit-one : One lit.Post
-lit-one κs args r q s t = same
-
--- ---- calls that draw: the answer, and the bytes that it leaves
-pub set-pixel-one : OneBuffer set-pixel.Post
-set-pixel-one κs args r q s t = same
-
-pub fill-one : OneBuffer fill.Post
-fill-one κs args r q s t = same
-
-pub draw-line-one : OneBuffer draw-line.Post
-draw-line-one κs args r q s t = same
-
-pub draw-connected-line-one : OneBuffer draw-connected-line.Post
-draw-connected-line-one κs args r q s t = same
-
-pub draw-triangle-one : OneBuffer draw-triangle.Post
-draw-triangle-one κs args r q s t = same
-
-pub draw-outline-one : OneBuffer draw-outline.Post
-draw-outline-one κs args r q s t = same
-
-pub draw-circle-one : OneBuffer draw-circle.Post
-draw-circle-one κs args r q s t = same
-
--- ---- image files
-pub image-size-one : One image-size.Post
-image-size-one κs args r q s t = same
-
--- the output is lent last
+-- writing an image file: the output is lent last
 pub write-image-one : (κs : _) (args : _) (r q : _) (s t : _) → write-image.Post κs args r s → write-image.Post κs args q t
     → _≡_ {A = Size × List ℕ} (r, now (s .1 .1 .1 .1 .1 .1 .0)) (q, now (t .1 .1 .1 .1 .1 .1 .0))
 write-image-one κs args r q s t = same
-
-pub read-image-one : (κs : _) (args : _) (r q : _) (s t : _) → read-image.Post κs args r s → read-image.Post κs args q t
-    → _≡_ {A = ℕ × List ℕ} (r, now (s .0)) (q, now (t .0))
-read-image-one κs args r q s t = same

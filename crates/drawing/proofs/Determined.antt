@@ -7,17 +7,6 @@ use Rattle.drawing.proofs.draw_triangle.Reads as draw-triangle
 use Rattle.drawing.proofs.draw_outline.Reads as draw-outline
 use Rattle.drawing.proofs.draw_circle.Reads as draw-circle
 
-pub draw-line-one : OneBuffer draw-line.Post
-draw-line-one κs args r q s t = same
-
-pub draw-connected-line-one : OneBuffer draw-connected-line.Post
-draw-connected-line-one κs args r q s t = same
-
-pub draw-triangle-one : OneBuffer draw-triangle.Post
-draw-triangle-one κs args r q s t = same
-
-pub draw-outline-one : OneBuffer draw-outline.Post
-draw-outline-one κs args r q s t = same
-
-pub draw-circle-one : OneBuffer draw-circle.Post
-draw-circle-one κs args r q s t = same
+pub calls-one :
+    OneBuffer draw-line.Post × OneBuffer draw-connected-line.Post × OneBuffer draw-triangle.Post × OneBuffer draw-outline.Post × OneBuffer draw-circle.Post
+calls-one = search same

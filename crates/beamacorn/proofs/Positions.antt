@@ -1,10 +1,16 @@
 -- The position of every argument of the exported functions: what each promises, as its source states it, is said here of its arguments by their place and
 -- not by their names. Assumes nothing.
 use mathlib.Core.Path.{_≡_}
+use mathlib.Core.Bool.{Bool}
 use mathlib.Core.List.{List}
 use Prim.Native.Nat.{ℕ}
-use Rattle.refusals.specs.First.{first}
+use lib.IntN.{ℤ}
+use denote.Ref.{RefT, now}
+use Rattle.refusals.specs.First.{Tests, first}
+use Rattle.geometry.specs.declared.Point.{Point}
+use Rattle.geometry.specs.declared.Verdict.{Verdict}
 use Rattle.geometry.specs.Answer.{verdict, span}
+use Rattle.line.specs.declared.Length.{Length}
 use Rattle.line.specs.Line.{points, pointAt, hasPoint}
 use Rattle.line.specs.Answer.{endTests, stepTests, lengthAnswer, stepAnswer}
 use Rattle.connected.specs.Connected.{connectedPoints, connectedAt, hasConnected}
@@ -15,15 +21,15 @@ use Rattle.triangle.specs.Answer.{vertexTests, rowsAnswer}
 use Rattle.circle.specs.Circle as circle
 use Rattle.circle.specs.Refusal.{circleTests}
 use Rattle.framebuffer.specs.declared.Drawn.{Drawn}
-use Rattle.framebuffer.specs.declared.Placed.{Placed}
 use Rattle.framebuffer.specs.declared.Size.{Size}
 use Rattle.framebuffer.specs.Answer.{sized}
 use Rattle.framebuffer.specs.Description.{size, descriptionTests}
-use Rattle.framebuffer.specs.Drawing.{fillDrawing}
+use Rattle.framebuffer.specs.Drawing.{Drawing, fillDrawing}
 use Rattle.drawing.specs.Drawing.{lineDrawing, connectedDrawing, outlineDrawing, triangleDrawing, circleDrawing}
 use Rattle.netpbm.specs.Image.{imageLength}
 use Rattle.netpbm.specs.Written.{imageSizeTests, written}
 use Rattle.netpbm.specs.Reading.{loaded}
+use Rattle.beamacorn.specs.declared.Step.{Step}
 use Rattle.beamacorn.specs.Plain.{frameOf, plainStep, outcomeOn, placedOn, pixelOn, litOn}
 use Rattle.beamacorn.proofs.beamacorn_line_length.Reads as line-length
 use Rattle.beamacorn.proofs.beamacorn_line_point.Reads as line-point
@@ -50,123 +56,116 @@ use Rattle.beamacorn.proofs.beamacorn_image_size.Reads as image-size
 use Rattle.beamacorn.proofs.beamacorn_write_image.Reads as write-image
 use Rattle.beamacorn.proofs.beamacorn_read_image.Reads as read-image
 
--- ---- questions: two or three points, each x first; a circle is left, top, diameter; what is asked of them comes last
-pub line-length-at : (κs : _) (a : _) (r : _) (s : _) → line-length.Post κs a r s
-    → r ≡ lengthAnswer (first (endTests (a .0, a .1 .0) (a .1 .1 .0, a .1 .1 .1 .0))) (points (a .0, a .1 .0) (a .1 .1 .0, a .1 .1 .1 .0))
-line-length-at κs a r s h = h
+-- ---- what a contract promises of its arguments
+-- an answer
+abbrev Answers : {K A R S : Type 0} → (K → A → R → S → Type 0) → (A → R) → Type 0
+Answers {K} {A} {R} {S} Post answer = (κs : K) (a : A) (r : R) (s : S) → Post κs a r s → r ≡ answer a
 
-pub line-point-at : (κs : _) (a : _) (r : _) (s : _) → line-point.Post κs a r s
-    → r
-    ≡ plainStep
-    (stepAnswer (first (stepTests (a .0, a .1 .0) (a .1 .1 .0, a .1 .1 .1 .0) (a .1 .1 .1 .1 .0))) (pointAt (a .0, a .1 .0) (a .1 .1 .0, a .1 .1 .1 .0) (a .1 .1 .1 .1 .0)))
-line-point-at κs a r s h = h
+-- an answer, and the bytes of the buffer that is lent first
+abbrev Leaves : {K A R S : Type 0} → (K → A → R → RefT (List ℕ) × S → Type 0) → (A → R × List ℕ) → Type 0
+Leaves {K} {A} {R} {S} Post left = (κs : K) (a : A) (r : R) (s : RefT (List ℕ) × S) → Post κs a r s → _≡_ {A = R × List ℕ} (r, now (s .0)) (left a)
 
-pub line-has-point-at : (κs : _) (a : _) (r : _) (s : _) → line-has-point.Post κs a r s
-    → r ≡ verdict (first (endTests (a .0, a .1 .0) (a .1 .1 .0, a .1 .1 .1 .0))) (hasPoint (a .0, a .1 .0) (a .1 .1 .0, a .1 .1 .1 .0) (a .1 .1 .1 .1 .0, a .1 .1 .1 .1 .1 .0))
-line-has-point-at κs a r s h = h
+-- ---- the arguments
+-- points, each x first: the first, the second, the third
+abbrev one : {T : Type 0} → ℤ × (ℤ × T) → Point
+one a = (a .0, a .1 .0)
 
-pub connected-length-at : (κs : _) (a : _) (r : _) (s : _) → connected-length.Post κs a r s
-    → r ≡ lengthAnswer (first (endTests (a .0, a .1 .0) (a .1 .1 .0, a .1 .1 .1 .0))) (connectedPoints (a .0, a .1 .0) (a .1 .1 .0, a .1 .1 .1 .0))
-connected-length-at κs a r s h = h
+abbrev two : {T : Type 0} → ℤ × (ℤ × (ℤ × (ℤ × T))) → Point
+two a = one (a .1 .1)
 
-pub connected-point-at : (κs : _) (a : _) (r : _) (s : _) → connected-point.Post κs a r s
-    → r
-    ≡ plainStep
-    (stepAnswer (first (indexTests (a .0, a .1 .0) (a .1 .1 .0, a .1 .1 .1 .0) (a .1 .1 .1 .1 .0))) (connectedAt (a .0, a .1 .0) (a .1 .1 .0, a .1 .1 .1 .0) (a .1 .1 .1 .1 .0)))
-connected-point-at κs a r s h = h
+abbrev three : {T : Type 0} → ℤ × (ℤ × (ℤ × (ℤ × (ℤ × (ℤ × T))))) → Point
+three a = two (a .1 .1)
 
-pub connected-has-point-at : (κs : _) (a : _) (r : _) (s : _) → connected-has-point.Post κs a r s
-    → r ≡ verdict (first (endTests (a .0, a .1 .0) (a .1 .1 .0, a .1 .1 .1 .0))) (hasConnected (a .0, a .1 .0) (a .1 .1 .0, a .1 .1 .1 .0) (a .1 .1 .1 .1 .0, a .1 .1 .1 .1 .1 .0))
-connected-has-point-at κs a r s h = h
+-- a frame: width, height, depth, order, distance; and what comes behind it
+abbrev framed : {A T : Type 0} → (ℕ → ℕ → ℕ → ℕ → ℕ → A) → ℕ × (ℕ × (ℕ × (ℕ × (ℕ × T)))) → A
+framed f a = f (a .0) (a .1 .0) (a .1 .1 .0) (a .1 .1 .1 .0) (a .1 .1 .1 .1 .0)
 
-pub triangle-contains-at : (κs : _) (a : _) (r : _) (s : _) → triangle-contains.Post κs a r s
-    → r
-    ≡ verdict (first (vertexTests (a .0, a .1 .0) (a .1 .1 .0, a .1 .1 .1 .0) (a .1 .1 .1 .1 .0, a .1 .1 .1 .1 .1 .0)))
-    (triangle.contained (a .0, a .1 .0) (a .1 .1 .0, a .1 .1 .1 .0) (a .1 .1 .1 .1 .0, a .1 .1 .1 .1 .1 .0) (a .1 .1 .1 .1 .1 .1 .0, a .1 .1 .1 .1 .1 .1 .1 .0))
+abbrev behind : {T : Type 0} → ℕ × (ℕ × (ℕ × (ℕ × (ℕ × T)))) → T
+behind a = a .1 .1 .1 .1 .1
+
+-- ---- questions: two or three points; a circle is left, top, diameter; what is asked of them comes last
+-- of a line or a connected one: how many points it has, which at a step or an index, and whether a place is one
+abbrev lengthOf : {T : Type 0} → (Point → Point → ℕ) → ℤ × (ℤ × (ℤ × (ℤ × T))) → Length
+lengthOf count a = lengthAnswer (first (endTests (one a) (two a))) (count (one a) (two a))
+
+abbrev pointOf : {T : Type 0} → (Point → Point → ℕ → Tests) → (Point → Point → ℕ → Point) → ℤ × (ℤ × (ℤ × (ℤ × (ℕ × T)))) → Step
+pointOf tests at a = let k = a .1 .1 .1 .1 .0 in plainStep (stepAnswer (first (tests (one a) (two a) k)) (at (one a) (two a) k))
+
+abbrev isPointOf : {T : Type 0} → (Point → Point → Point → Bool) → ℤ × (ℤ × (ℤ × (ℤ × (ℤ × (ℤ × T))))) → Verdict
+isPointOf has a = verdict (first (endTests (one a) (two a))) (has (one a) (two a) (three a))
+
+pub line-at : Answers line-length.Post (lengthOf points) × Answers line-point.Post (pointOf stepTests pointAt) × Answers line-has-point.Post (isPointOf hasPoint)
+line-at = (λ κs a r s h. h, λ κs a r s h. h, λ κs a r s h. h)
+
+pub connected-at :
+    Answers connected-length.Post (lengthOf connectedPoints) × Answers connected-point.Post (pointOf indexTests connectedAt) × Answers connected-has-point.Post (isPointOf hasConnected)
+connected-at = (λ κs a r s h. h, λ κs a r s h. h, λ κs a r s h. h)
+
+pub triangle-contains-at :
+    Answers triangle-contains.Post (λ a. verdict (first (vertexTests (one a) (two a) (three a))) (triangle.contained (one a) (two a) (three a) (three (a .1 .1))))
 triangle-contains-at κs a r s h = h
 
-pub triangle-rows-at : (κs : _) (a : _) (r : _) (s : _) → triangle-rows.Post κs a r s
-    → r
-    ≡ rowsAnswer (first (vertexTests (a .0, a .1 .0) (a .1 .1 .0, a .1 .1 .1 .0) (a .1 .1 .1 .1 .0, a .1 .1 .1 .1 .1 .0)))
-    (firstRow (a .0, a .1 .0) (a .1 .1 .0, a .1 .1 .1 .0) (a .1 .1 .1 .1 .0, a .1 .1 .1 .1 .1 .0))
-    (rowCount (a .0, a .1 .0) (a .1 .1 .0, a .1 .1 .1 .0) (a .1 .1 .1 .1 .0, a .1 .1 .1 .1 .1 .0))
+pub triangle-rows-at :
+    Answers triangle-rows.Post (λ a. rowsAnswer (first (vertexTests (one a) (two a) (three a))) (firstRow (one a) (two a) (three a)) (rowCount (one a) (two a) (three a)))
 triangle-rows-at κs a r s h = h
 
-pub triangle-row-span-at : (κs : _) (a : _) (r : _) (s : _) → triangle-row-span.Post κs a r s
-    → r
-    ≡ span (first (vertexTests (a .0, a .1 .0) (a .1 .1 .0, a .1 .1 .1 .0) (a .1 .1 .1 .1 .0, a .1 .1 .1 .1 .1 .0)))
-    (rowSpan (a .0, a .1 .0) (a .1 .1 .0, a .1 .1 .1 .0) (a .1 .1 .1 .1 .0, a .1 .1 .1 .1 .1 .0) (a .1 .1 .1 .1 .1 .1 .0) .0)
-    (rowSpan (a .0, a .1 .0) (a .1 .1 .0, a .1 .1 .1 .0) (a .1 .1 .1 .1 .0, a .1 .1 .1 .1 .1 .0) (a .1 .1 .1 .1 .1 .1 .0) .1)
+pub triangle-row-span-at :
+    Answers triangle-row-span.Post
+    (λ a. let row = rowSpan (one a) (two a) (three a) (a .1 .1 .1 .1 .1 .1 .0) in span (first (vertexTests (one a) (two a) (three a))) (row .0) (row .1))
 triangle-row-span-at κs a r s h = h
 
-pub circle-contains-at : (κs : _) (a : _) (r : _) (s : _) → circle-contains.Post κs a r s
-    → r ≡ verdict (first (circleTests (a .0, a .1 .0) (a .1 .1 .0))) (circle.contained (a .0, a .1 .0) (a .1 .1 .0) (a .1 .1 .1 .0, a .1 .1 .1 .1 .0))
+pub circle-contains-at : Answers circle-contains.Post (λ a. verdict (first (circleTests (one a) (a .1 .1 .0))) (circle.contained (one a) (a .1 .1 .0) (one (a .1 .1 .1))))
 circle-contains-at κs a r s h = h
 
-pub circle-row-span-at : (κs : _) (a : _) (r : _) (s : _) → circle-row-span.Post κs a r s
-    → r
-    ≡ span (first (circleTests (a .0, a .1 .0) (a .1 .1 .0))) (circle.spanStart (a .0, a .1 .0) (a .1 .1 .0) (a .1 .1 .1 .0))
-    (circle.spanEnd (a .0, a .1 .0) (a .1 .1 .0) (a .1 .1 .1 .0))
+pub circle-row-span-at :
+    Answers circle-row-span.Post
+    (λ a. span (first (circleTests (one a) (a .1 .1 .0))) (circle.spanStart (one a) (a .1 .1 .0) (a .1 .1 .1 .0)) (circle.spanEnd (one a) (a .1 .1 .0) (a .1 .1 .1 .0)))
 circle-row-span-at κs a r s h = h
 
--- ---- frames: width, height, depth, but for the size order, and the distance; the buffer comes first, the colour last
-pub frame-size-at : (κs : _) (a : _) (r : _) (s : _) → frame-size.Post κs a r s
-    → r ≡ sized (first (descriptionTests (frameOf (a .0) (a .1 .0) (a .1 .1 .0) 0 (a .1 .1 .1 .0)))) (size (frameOf (a .0) (a .1 .0) (a .1 .1 .0) 0 (a .1 .1 .1 .0)))
+-- ---- frames: the buffer comes first, then the frame, the colour last; the size needs no order
+pub frame-size-at :
+    Answers frame-size.Post (λ a. let f = frameOf (a .0) (a .1 .0) (a .1 .1 .0) 0 (a .1 .1 .1 .0) in sized (first (descriptionTests f)) (size f))
 frame-size-at κs a r s h = h
 
-pub pixel-at : (κs : _) (a : _) (r : _) (s : _) → pixel.Post κs a r s
-    → r ≡ pixelOn (a .1 .0) (a .1 .1 .0) (a .1 .1 .1 .0) (a .1 .1 .1 .1 .0) (a .1 .1 .1 .1 .1 .0) (a .1 .1 .1 .1 .1 .1 .0, a .1 .1 .1 .1 .1 .1 .1 .0) (a .0 .now)
+pub pixel-at : Answers pixel.Post (λ a. framed pixelOn (a .1) (one (behind (a .1))) (now (a .0)))
 pixel-at κs a r s h = h
 
-pub lit-at : (κs : _) (a : _) (r : _) (s : _) → lit.Post κs a r s → r ≡ litOn (a .1 .0) (a .1 .1 .0) (a .1 .1 .1 .0) (a .1 .1 .1 .1 .0) (a .1 .1 .1 .1 .1 .0) (a .0 .now)
+pub lit-at : Answers lit.Post (λ a. framed litOn (a .1) (now (a .0)))
 lit-at κs a r s h = h
 
-pub set-pixel-at : (κs : _) (a : _) (r : _) (s : _) → set-pixel.Post κs a r s
-    → _≡_ {A = Placed × List ℕ} (r, s .0 .now)
-    (placedOn (a .1 .0) (a .1 .1 .0) (a .1 .1 .1 .0) (a .1 .1 .1 .1 .0) (a .1 .1 .1 .1 .1 .0) (a .1 .1 .1 .1 .1 .1 .0, a .1 .1 .1 .1 .1 .1 .1 .0) (a .1 .1 .1 .1 .1 .1 .1 .1 .0) (a .0 .now))
+pub set-pixel-at : Leaves set-pixel.Post (λ a. framed placedOn (a .1) (one (behind (a .1))) (behind (a .1) .1 .1 .0) (now (a .0)))
 set-pixel-at κs a r s h = h
 
-pub fill-at : (κs : _) (a : _) (r : _) (s : _) → fill.Post κs a r s
-    → _≡_ {A = Drawn × List ℕ} (r, s .0 .now) (outcomeOn (a .1 .0) (a .1 .1 .0) (a .1 .1 .1 .0) (a .1 .1 .1 .1 .0) (a .1 .1 .1 .1 .1 .0) (fillDrawing (a .1 .1 .1 .1 .1 .1 .0)) (a .0 .now))
+-- what a call that draws is made of comes behind the frame
+abbrev Draws : {K T S : Type 0} → (K → RefT (List ℕ) × (ℕ × (ℕ × (ℕ × (ℕ × (ℕ × T))))) → Drawn → RefT (List ℕ) × S → Type 0) → (T → Drawing) → Type 0
+Draws Post drawing = Leaves Post (λ a. framed outcomeOn (a .1) (drawing (behind (a .1))) (now (a .0)))
+
+pub fill-at : Draws fill.Post (λ a. fillDrawing (a .0))
 fill-at κs a r s h = h
 
-pub draw-line-at : (κs : _) (a : _) (r : _) (s : _) → draw-line.Post κs a r s
-    → _≡_ {A = Drawn × List ℕ} (r, s .0 .now) (outcomeOn (a .1 .0) (a .1 .1 .0) (a .1 .1 .1 .0) (a .1 .1 .1 .1 .0) (a .1 .1 .1 .1 .1 .0)
-    (lineDrawing (a .1 .1 .1 .1 .1 .1 .0, a .1 .1 .1 .1 .1 .1 .1 .0) (a .1 .1 .1 .1 .1 .1 .1 .1 .0, a .1 .1 .1 .1 .1 .1 .1 .1 .1 .0) (a .1 .1 .1 .1 .1 .1 .1 .1 .1 .1 .0)) (a .0 .now))
+pub draw-line-at : Draws draw-line.Post (λ a. lineDrawing (one a) (two a) (a .1 .1 .1 .1 .0))
 draw-line-at κs a r s h = h
 
-pub draw-connected-line-at : (κs : _) (a : _) (r : _) (s : _) → draw-connected-line.Post κs a r s
-    → _≡_ {A = Drawn × List ℕ} (r, s .0 .now) (outcomeOn (a .1 .0) (a .1 .1 .0) (a .1 .1 .1 .0) (a .1 .1 .1 .1 .0) (a .1 .1 .1 .1 .1 .0)
-    (connectedDrawing (a .1 .1 .1 .1 .1 .1 .0, a .1 .1 .1 .1 .1 .1 .1 .0) (a .1 .1 .1 .1 .1 .1 .1 .1 .0, a .1 .1 .1 .1 .1 .1 .1 .1 .1 .0) (a .1 .1 .1 .1 .1 .1 .1 .1 .1 .1 .0)) (a .0 .now))
+pub draw-connected-line-at : Draws draw-connected-line.Post (λ a. connectedDrawing (one a) (two a) (a .1 .1 .1 .1 .0))
 draw-connected-line-at κs a r s h = h
 
-pub draw-triangle-at : (κs : _) (a : _) (r : _) (s : _) → draw-triangle.Post κs a r s
-    → _≡_ {A = Drawn × List ℕ} (r, s .0 .now) (outcomeOn (a .1 .0) (a .1 .1 .0) (a .1 .1 .1 .0) (a .1 .1 .1 .1 .0) (a .1 .1 .1 .1 .1 .0)
-    (triangleDrawing (a .1 .1 .1 .1 .1 .1 .0, a .1 .1 .1 .1 .1 .1 .1 .0) (a .1 .1 .1 .1 .1 .1 .1 .1 .0, a .1 .1 .1 .1 .1 .1 .1 .1 .1 .0)
-    (a .1 .1 .1 .1 .1 .1 .1 .1 .1 .1 .0, a .1 .1 .1 .1 .1 .1 .1 .1 .1 .1 .1 .0) (a .1 .1 .1 .1 .1 .1 .1 .1 .1 .1 .1 .1 .0)) (a .0 .now))
+pub draw-triangle-at : Draws draw-triangle.Post (λ a. triangleDrawing (one a) (two a) (three a) (a .1 .1 .1 .1 .1 .1 .0))
 draw-triangle-at κs a r s h = h
 
-pub draw-outline-at : (κs : _) (a : _) (r : _) (s : _) → draw-outline.Post κs a r s
-    → _≡_ {A = Drawn × List ℕ} (r, s .0 .now) (outcomeOn (a .1 .0) (a .1 .1 .0) (a .1 .1 .1 .0) (a .1 .1 .1 .1 .0) (a .1 .1 .1 .1 .1 .0)
-    (outlineDrawing (a .1 .1 .1 .1 .1 .1 .0, a .1 .1 .1 .1 .1 .1 .1 .0) (a .1 .1 .1 .1 .1 .1 .1 .1 .0, a .1 .1 .1 .1 .1 .1 .1 .1 .1 .0)
-    (a .1 .1 .1 .1 .1 .1 .1 .1 .1 .1 .0, a .1 .1 .1 .1 .1 .1 .1 .1 .1 .1 .1 .0) (a .1 .1 .1 .1 .1 .1 .1 .1 .1 .1 .1 .1 .0)) (a .0 .now))
+pub draw-outline-at : Draws draw-outline.Post (λ a. outlineDrawing (one a) (two a) (three a) (a .1 .1 .1 .1 .1 .1 .0))
 draw-outline-at κs a r s h = h
 
-pub draw-circle-at : (κs : _) (a : _) (r : _) (s : _) → draw-circle.Post κs a r s
-    → _≡_ {A = Drawn × List ℕ} (r, s .0 .now) (outcomeOn (a .1 .0) (a .1 .1 .0) (a .1 .1 .1 .0) (a .1 .1 .1 .1 .0) (a .1 .1 .1 .1 .1 .0)
-    (circleDrawing (a .1 .1 .1 .1 .1 .1 .0, a .1 .1 .1 .1 .1 .1 .1 .0) (a .1 .1 .1 .1 .1 .1 .1 .1 .0) (a .1 .1 .1 .1 .1 .1 .1 .1 .1 .0)) (a .0 .now))
+pub draw-circle-at : Draws draw-circle.Post (λ a. circleDrawing (one a) (a .1 .1 .0) (a .1 .1 .1 .0))
 draw-circle-at κs a r s h = h
 
 -- ---- image files: the same of the frame, and the output or the file comes last
-pub image-size-at : (κs : _) (a : _) (r : _) (s : _) → image-size.Post κs a r s
-    → r ≡ sized (first (imageSizeTests (frameOf (a .0) (a .1 .0) (a .1 .1 .0) 0 (a .1 .1 .1 .0)))) (imageLength (frameOf (a .0) (a .1 .0) (a .1 .1 .0) 0 (a .1 .1 .1 .0)))
+pub image-size-at :
+    Answers image-size.Post (λ a. let f = frameOf (a .0) (a .1 .0) (a .1 .1 .0) 0 (a .1 .1 .1 .0) in sized (first (imageSizeTests f)) (imageLength f))
 image-size-at κs a r s h = h
 
 pub write-image-at : (κs : _) (a : _) (r : _) (s : _) → write-image.Post κs a r s
-    → _≡_ {A = Size × List ℕ} (r, s .1 .1 .1 .1 .1 .1 .0 .now)
-    (written (frameOf (a .1 .0) (a .1 .1 .0) (a .1 .1 .1 .0) (a .1 .1 .1 .1 .0) (a .1 .1 .1 .1 .1 .0)) (a .0 .now) (a .1 .1 .1 .1 .1 .1 .0 .now))
+    → _≡_ {A = Size × List ℕ} (r, now (s .1 .1 .1 .1 .1 .1 .0)) (written (framed frameOf (a .1)) (now (a .0)) (now (behind (a .1) .0)))
 write-image-at κs a r s h = h
 
-pub read-image-at : (κs : _) (a : _) (r : _) (s : _) → read-image.Post κs a r s
-    → _≡_ {A = ℕ × List ℕ} (r, s .0 .now) (loaded (frameOf (a .1 .0) (a .1 .1 .0) (a .1 .1 .1 .0) (a .1 .1 .1 .1 .0) (a .1 .1 .1 .1 .1 .0)) (a .1 .1 .1 .1 .1 .1 .0 .now) (a .0 .now))
+pub read-image-at : Leaves read-image.Post (λ a. loaded (framed frameOf (a .1)) (now (behind (a .1) .0)) (now (a .0)))
 read-image-at κs a r s h = h

@@ -6,7 +6,6 @@ use lib.IntN.{pos}
 use lib.ListN.{length}
 use mir.Syntax.{w32}
 use mir.Val.{toZ}
-use borrow.Author.Needs.{needs}
 use Rattle.whole.proofs.Machine.{same-bits}
 use Rattle.layout.specs.Figure.{spanFigure, everywhere}
 use Rattle.framebuffer.specs.Judged.{Ready, brushed, onTop}

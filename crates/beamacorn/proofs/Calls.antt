@@ -5,10 +5,10 @@ use Prim.Native.Nat.{ℕ}
 use lib.IntN.{ℤ}
 use mir.Syntax.{w32}
 use mir.Val.{SFits, toZ, ofZ}
-use Rattle.framebuffer.specs.declared.Frame.{Frame}
-use Rattle.framebuffer.specs.declared.Drawn.{Drawn}
-use Rattle.framebuffer.specs.declared.Placed.{Placed}
-use Rattle.framebuffer.specs.Drawing.{Drawing, outcome, pixelOutcome}
+use Rattle.frames.specs.declared.Frame.{Frame}
+use Rattle.frames.specs.declared.Drawn.{Drawn}
+use Rattle.frames.specs.declared.Placed.{Placed}
+use Rattle.frames.specs.Drawing.{Drawing, outcome, pixelOutcome}
 use Rattle.geometry.specs.declared.Point.{Point}
 use Rattle.beamacorn.proofs.Places.{two-places, three-places}
 

@@ -4,7 +4,7 @@ use mathlib.Core.Path.{_≡_}
 use mathlib.Core.List.{List}
 use Prim.Native.Nat.{ℕ}
 use denote.Ref.{now}
-use Rattle.framebuffer.specs.declared.Size.{Size}
+use Rattle.frames.specs.declared.Size.{Size}
 use Rattle.whole.proofs.Determined.{One, OneBuffer, same}
 use Rattle.beamacorn.proofs.beamacorn_line_length.Reads as line-length
 use Rattle.beamacorn.proofs.beamacorn_line_point.Reads as line-point

@@ -20,11 +20,11 @@ use Rattle.triangle.specs.Row.{rowSpan, firstRow, rowCount}
 use Rattle.triangle.specs.Answer.{vertexTests, rowsAnswer}
 use Rattle.circle.specs.Circle as circle
 use Rattle.circle.specs.Refusal.{circleTests}
-use Rattle.framebuffer.specs.declared.Drawn.{Drawn}
-use Rattle.framebuffer.specs.declared.Size.{Size}
-use Rattle.framebuffer.specs.Answer.{sized}
-use Rattle.framebuffer.specs.Description.{size, descriptionTests}
-use Rattle.framebuffer.specs.Drawing.{Drawing, fillDrawing}
+use Rattle.frames.specs.declared.Drawn.{Drawn}
+use Rattle.frames.specs.declared.Size.{Size}
+use Rattle.frames.specs.Answer.{sized}
+use Rattle.frames.specs.Description.{size, descriptionTests}
+use Rattle.frames.specs.Drawing.{Drawing, fillDrawing}
 use Rattle.drawing.specs.Drawing.{lineDrawing, connectedDrawing, outlineDrawing, triangleDrawing, circleDrawing}
 use Rattle.netpbm.specs.Image.{imageLength}
 use Rattle.netpbm.specs.Written.{imageSizeTests, written}

@@ -7,13 +7,13 @@ use lib.ListN.{length}
 use Rattle.refusals.specs.First.{first}
 use Rattle.geometry.specs.declared.Point.{Point}
 use Rattle.line.specs.declared.Step as line
-use Rattle.framebuffer.specs.declared.Frame.{Frame}
-use Rattle.framebuffer.specs.declared.Drawn.{Drawn}
-use Rattle.framebuffer.specs.declared.Placed.{Placed}
-use Rattle.framebuffer.specs.declared.Read.{Read}
-use Rattle.framebuffer.specs.Answer.{read}
-use Rattle.framebuffer.specs.Description.{described, raster, readTests, colourAt}
-use Rattle.framebuffer.specs.Drawing.{Drawing, outcome, pixelOutcome}
+use Rattle.frames.specs.declared.Frame.{Frame}
+use Rattle.frames.specs.declared.Drawn.{Drawn}
+use Rattle.frames.specs.declared.Placed.{Placed}
+use Rattle.frames.specs.declared.Read.{Read}
+use Rattle.frames.specs.Answer.{read}
+use Rattle.frames.specs.Description.{described, raster, readTests, colourAt}
+use Rattle.frames.specs.Drawing.{Drawing, outcome, pixelOutcome}
 use Rattle.layout.specs.Count.{litIn}
 use Rattle.lights.specs.declared.Lights.{Lights}
 use Rattle.lights.specs.Answer.{litTests, lights}

@@ -12,16 +12,16 @@ ghost use Rattle.triangle.specs.Row.{rowSpan, firstRow, rowCount};
 ghost use Rattle.triangle.specs.Answer.{vertexTests, rowsAnswer};
 ghost use Rattle.circle.specs.Circle as circle;
 ghost use Rattle.circle.specs.Refusal.{circleTests};
-ghost use Rattle.framebuffer.specs.Answer.{sized};
-ghost use Rattle.framebuffer.specs.Description.{size, descriptionTests};
-ghost use Rattle.framebuffer.specs.Drawing.{fillDrawing};
+ghost use Rattle.frames.specs.Answer.{sized};
+ghost use Rattle.frames.specs.Description.{size, descriptionTests};
+ghost use Rattle.frames.specs.Drawing.{fillDrawing};
 ghost use Rattle.drawing.specs.Drawing.{lineDrawing, connectedDrawing, outlineDrawing, triangleDrawing, circleDrawing};
 ghost use Rattle.netpbm.specs.Image.{imageLength};
 ghost use Rattle.netpbm.specs.Written.{imageSizeTests, written};
 ghost use Rattle.netpbm.specs.Reading.{loaded};
 ghost use Rattle.beamacorn.specs.Plain.{frameOf, plainStep, outcomeOn, placedOn, pixelOn, litOn};
-use framebuffer::Drawn;
-use framebuffer::Frame;
+use frames::Drawn;
+use frames::Frame;
 use geometry::Point;
 
 // A line's point at a step, or a connected line's at an index. With a refusal its number, and 0 and 0.
@@ -199,7 +199,7 @@ pub extern "C" fn beamacorn_frame_size(
     height: u32,
     depth: u32,
     distance: u32,
-) -> framebuffer::Size
+) -> frames::Size
     ensures { λ r. ⌜ r ≡ sized (first (descriptionTests (frameOf width height depth 0 distance))) (size (frameOf width height depth 0 distance)) ⌝ }
 {
     framebuffer::buffer_size_bpp(frame(width, height, depth, 0, distance))
@@ -217,7 +217,7 @@ pub extern "C" fn beamacorn_set_pixel(
     x: i32,
     y: i32,
     colour: u32,
-) -> framebuffer::Placed
+) -> frames::Placed
     ensures { λ r. ⌜ (r, now (buf .exit)) ≡ placedOn width height depth order distance (x, y) colour (now (buf .entry)) ⌝ }
 {
     framebuffer::set_pixel(
@@ -239,7 +239,7 @@ pub extern "C" fn beamacorn_pixel(
     distance: u32,
     x: i32,
     y: i32,
-) -> framebuffer::Read
+) -> frames::Read
     ensures { λ r. ⌜ r ≡ pixelOn width height depth order distance (x, y) (now (buf .entry)) ⌝ }
 {
     framebuffer::pixel(
@@ -424,7 +424,7 @@ pub extern "C" fn beamacorn_image_size(
     height: u32,
     depth: u32,
     distance: u32,
-) -> framebuffer::Size
+) -> frames::Size
     ensures { λ r. ⌜ r ≡ sized (first (imageSizeTests (frameOf width height depth 0 distance))) (imageLength (frameOf width height depth 0 distance)) ⌝ }
 {
     netpbm::image_size(frame(width, height, depth, 0, distance))
@@ -440,7 +440,7 @@ pub extern "C" fn beamacorn_write_image(
     order: u32,
     distance: u32,
     out: &mut [u8],
-) -> framebuffer::Size
+) -> frames::Size
     ensures { λ r. ⌜ (r, now (out .exit)) ≡ written (frameOf width height depth order distance) (now (buf .entry)) (now (out .entry)) ⌝ }
 {
     netpbm::write_image(buf, frame(width, height, depth, order, distance), out)

@@ -2,8 +2,8 @@
 use mathlib.Core.Path.{_≡_, ap, _∙_}
 use mathlib.Core.List.{List}
 use Prim.Native.Nat.{ℕ}
-use Rattle.framebuffer.specs.declared.Drawn.{Drawn}
-use Rattle.framebuffer.specs.declared.Placed.{Placed}
+use Rattle.frames.specs.declared.Drawn.{Drawn}
+use Rattle.frames.specs.declared.Placed.{Placed}
 use Rattle.readers.proofs.Letters.{choices}
 use Rattle.readers.proofs.Readings.{readings}
 use Rattle.protocol.specs.declared.reply.Reply.{Reply}

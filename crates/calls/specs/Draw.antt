@@ -3,10 +3,10 @@ use mathlib.Core.Bool.{cond}
 use mathlib.Core.List.{List, [], _∷_}
 use Prim.Native.Nat.{ℕ}
 use Rattle.geometry.specs.declared.Point.{Point}
-use Rattle.framebuffer.specs.declared.Drawn.{Drawn}
-use Rattle.framebuffer.specs.declared.Frame.{Frame}
-use Rattle.framebuffer.specs.declared.Placed.{Placed}
-use Rattle.framebuffer.specs.Drawing.{Drawing, fillDrawing, outcome, pixelOutcome}
+use Rattle.frames.specs.declared.Drawn.{Drawn}
+use Rattle.frames.specs.declared.Frame.{Frame}
+use Rattle.frames.specs.declared.Placed.{Placed}
+use Rattle.frames.specs.Drawing.{Drawing, fillDrawing, outcome, pixelOutcome}
 use Rattle.drawing.specs.Drawing.{lineDrawing, triangleDrawing, outlineDrawing, circleDrawing, connectedDrawing}
 use Rattle.text.specs.Fields.{nextU32}
 use Rattle.readers.specs.Figures.{isLast, ofOne, ofTwo, nextPoint, nextEnds, nextCorners, nextCircle}

@@ -8,10 +8,10 @@ use lib.ListN.{length, take, replicate, length-replicate}
 use lib.Seq.{sets, length-sets}
 use Rattle.refusals.specs.First.{first}
 use Rattle.layout.specs.Packed.{rowBytes}
-use Rattle.framebuffer.specs.declared.Size.{Size}
-use Rattle.framebuffer.specs.Answer.{sized}
-use Rattle.framebuffer.specs.Description.{packedDistance, size, descriptionTests, frameTests}
-use Rattle.framebuffer.specs.Judged.{Described}
+use Rattle.frames.specs.declared.Size.{Size}
+use Rattle.frames.specs.Answer.{sized}
+use Rattle.frames.specs.Description.{packedDistance, size, descriptionTests, frameTests}
+use Rattle.frames.specs.Judged.{Described}
 use Rattle.netpbm.specs.Image.{header, imageBytes, imageLength}
 use Rattle.netpbm.specs.Written.{writeTests, written}
 use Rattle.netpbm.proofs.Answers.{accepted-written}

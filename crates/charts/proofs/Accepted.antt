@@ -17,10 +17,10 @@ use Rattle.line.specs.Answer.{endTests}
 use Rattle.triangle.specs.Answer.{vertexTests}
 use Rattle.circle.specs.Refusal.{circleTests}
 use Rattle.layout.specs.Packed.{rowBytes}
-use Rattle.framebuffer.specs.Description.{packedDistance, size, noColour, descriptionTests, frameTests}
-use Rattle.framebuffer.specs.Drawing.{Drawing, callTests}
+use Rattle.frames.specs.Description.{packedDistance, size, noColour, descriptionTests, frameTests}
+use Rattle.frames.specs.Drawing.{Drawing, callTests}
 use Rattle.drawing.specs.Drawing.{circleDrawing}
-use Rattle.framebuffer.proofs.Calls.{none-holds}
+use Rattle.frames.proofs.Calls.{none-holds}
 use Rattle.text.specs.declared.Place.{Place}
 use Rattle.text.specs.Fields.{fields, lines, readPlace}
 use Rattle.readers.specs.declared.figures.Corners.{Corners}

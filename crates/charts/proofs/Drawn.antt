@@ -3,9 +3,9 @@ use mathlib.Core.Path.{_≡_, refl, sym, ap, ap₂, _∙_}
 use mathlib.Core.Bool.{Bool, true, false, cond, _&&_}
 use mathlib.Core.List.{List, [], _∷_, _++_}
 use Prim.Native.Nat.{ℕ}
-use Rattle.framebuffer.specs.declared.Frame.{Frame}
-use Rattle.framebuffer.specs.declared.Drawn.{Drawn}
-use Rattle.framebuffer.specs.Drawing.{Drawing, outcome}
+use Rattle.frames.specs.declared.Frame.{Frame}
+use Rattle.frames.specs.declared.Drawn.{Drawn}
+use Rattle.frames.specs.Drawing.{Drawing, outcome}
 use Rattle.drawing.specs.Drawing.{circleDrawing}
 use Rattle.text.specs.declared.Place.{Place}
 use Rattle.text.specs.Fields.{fields, readPlace}

@@ -7,8 +7,8 @@ use lib.Dec.{eqb}
 use lib.IntN.{pos, _-ℤ_}
 use lib.Signed.{ltZ}
 use Rattle.geometry.specs.declared.Point.{Point}
-use Rattle.framebuffer.specs.declared.Frame.{Frame}
-use Rattle.framebuffer.specs.Drawing.{Drawing, fillDrawing, outcome}
+use Rattle.frames.specs.declared.Frame.{Frame}
+use Rattle.frames.specs.Drawing.{Drawing, fillDrawing, outcome}
 use Rattle.drawing.specs.Drawing.{lineDrawing, triangleDrawing, circleDrawing}
 use Rattle.text.specs.declared.Place.{Place}
 use Rattle.text.specs.Fields.{fields, lines, readPlace}

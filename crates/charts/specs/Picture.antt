@@ -3,8 +3,8 @@ use mathlib.Core.Bool.{true}
 use Prim.Native.Nat.{ℕ}
 use lib.IntN.{ℤ, pos, _+ℤ_, _-ℤ_}
 use Rattle.geometry.specs.declared.Point.{Point}
-use Rattle.framebuffer.specs.declared.Frame.{Frame}
-use Rattle.framebuffer.specs.Description.{packed}
+use Rattle.frames.specs.declared.Frame.{Frame}
+use Rattle.frames.specs.Description.{packed}
 use Rattle.charts.specs.declared.Extent.{Extent}
 use Rattle.charts.specs.Scale.{scaled}
 

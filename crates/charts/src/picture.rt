@@ -5,7 +5,7 @@ ghost use lib.IntN.{pos};
 ghost use Rattle.charts.specs.Scale.{away, scaled};
 ghost use Rattle.charts.specs.Picture.{picture, spot};
 use crate::Extent;
-use framebuffer::Frame;
+use frames::Frame;
 use geometry::Point;
 
 // The frame that a chart is drawn on: 640 by 360 pixels of red, green and blue.

@@ -1,7 +1,7 @@
 -- The steps that are told by their ends: any two answers that a contract allows of the same arguments are equal. `Post` is the contract as the source states it. Assumes
 -- nothing.
 use Rattle.whole.proofs.Determined.{One}
-use Rattle.framebuffer.proofs.Interval.{held-one}
+use Rattle.windows.proofs.Interval.{held-one}
 use Rattle.clips.proofs.Steps.{inner-one}
 use Rattle.clips.proofs.line_steps.Reads as line-steps
 use Rattle.clips.proofs.inner_steps.Reads as inner-steps

@@ -24,11 +24,11 @@ use Rattle.line.proofs.Moves.{moves-minor}
 use Rattle.line.proofs.Reach.{from-wide, from-exactly}
 use Rattle.connected.specs.Connected.{besideBoth, indexOf, lastIndex, connectedPoints, pointsBefore, alike, extraAt, connectedAt}
 use Rattle.connected.proofs.Indices.{Grows, View, normal, extra, view, index-more, grows-index, normal-at, extra-at}
-use Rattle.framebuffer.specs.declared.Steps.{Steps}
-use Rattle.framebuffer.specs.declared.Window.{Window}
-use Rattle.framebuffer.specs.Interval.{onFrom, come, stays}
-use Rattle.framebuffer.specs.Window.{inWindow}
-use Rattle.framebuffer.proofs.Interval.{isStep, held-exactly, one-interval, step-before, step-after}
+use Rattle.windows.specs.declared.Steps.{Steps}
+use Rattle.windows.specs.declared.Window.{Window}
+use Rattle.windows.specs.Interval.{onFrom, come, stays}
+use Rattle.windows.specs.Window.{inWindow}
+use Rattle.windows.proofs.Interval.{isStep, held-exactly, one-interval, step-before, step-after}
 use Rattle.clips.specs.declared.Axes.{Axes}
 use Rattle.clips.specs.Steps.{axisOf, axisFrom, axisPast, AxisSteps, AxesOf, LineSteps, Common, comeAlong, staysAlong, InnerSteps}
 

@@ -7,9 +7,9 @@ use lib.IntN.{ℤ}
 use lib.Signed.{leZ}
 use Rattle.geometry.specs.declared.Point.{Point}
 use Rattle.line.specs.Line.{moves, steep, major, minor, points, pointAt}
-use Rattle.framebuffer.specs.declared.Steps.{Steps}
-use Rattle.framebuffer.specs.declared.Window.{Window}
-use Rattle.framebuffer.specs.Interval.{come, stays, Held}
+use Rattle.windows.specs.declared.Steps.{Steps}
+use Rattle.windows.specs.declared.Window.{Window}
+use Rattle.windows.specs.Interval.{come, stays, Held}
 use Rattle.clips.specs.declared.Axes.{Axes}
 
 -- along an axis, that of rows if b and else that of columns: the coordinate of a place

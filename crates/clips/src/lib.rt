@@ -6,12 +6,13 @@ ghost use lib.Dec.{leb};
 ghost use lib.IntN.{natAbs, _-ℤ_};
 ghost use lib.Signed.{leZ};
 ghost use Rattle.geometry.specs.Bound.{Coord, Bounded};
+ghost use Rattle.windows.specs.Window.{Small};
 ghost use Rattle.line.specs.Line.{moves};
-ghost use Rattle.framebuffer.specs.Interval.{Held};
+ghost use Rattle.windows.specs.Interval.{Held};
 ghost use Rattle.clips.specs.Steps.{AxesOf, LineSteps, Common, InnerSteps};
-use framebuffer::Steps;
-use framebuffer::Window;
 use geometry::Point;
+use windows::Steps;
+use windows::Window;
 
 // The moves of a line along its major axis and those across it, along the minor one: how many, and those that lead to a coordinate of the rectangle's.
 struct Axes {
@@ -26,12 +27,12 @@ fn axis_steps(a: i32, b: i32, low: u32, high: u32) -> Steps
     requires { ⌜ (Coord a × Coord b) × (low ≤ 2048) × (high ≤ 2048) ⌝ }
     ensures { λ r. ⌜ Held a (leZ a b) low high (natAbs (b -ℤ a) + 1) r ⌝ }
 {
-    framebuffer::held(a, a <= b, low, high, line::distance(a, b) as u32 + 1)
+    windows::held(a, a <= b, low, high, line::distance(a, b) as u32 + 1)
 }
 
 // The moves of an accepted line along both axes.
 fn axes_of(window: Window, start: Point, end: Point) -> Axes
-    requires { ⌜ ((window .left ≤ window .right) × (window .right ≤ 2048) × (window .top ≤ window .bottom) × (window .bottom ≤ 2048)) × (Bounded start × Bounded end) ⌝ }
+    requires { ⌜ Small window × (Bounded start × Bounded end) ⌝ }
     ensures { λ r. ⌜ AxesOf window start end r ⌝ }
 {
     let x0 = start.0;
@@ -60,7 +61,7 @@ fn axes_of(window: Window, start: Point, end: Point) -> Axes
 
 // Inside the library: the steps of an accepted line on which its major coordinate is one of the rectangle's. No other step leads into the rectangle.
 pub fn line_steps(window: Window, start: Point, end: Point) -> Steps
-    requires { ⌜ ((window .left ≤ window .right) × (window .right ≤ 2048) × (window .top ≤ window .bottom) × (window .bottom ≤ 2048)) × (Bounded start × Bounded end) ⌝ }
+    requires { ⌜ Small window × (Bounded start × Bounded end) ⌝ }
     ensures { λ r. ⌜ LineSteps window start end r ⌝ }
 {
     let axes = axes_of(window, start, end);
@@ -106,7 +107,7 @@ fn common_steps(major: u32, minor: u32, along: Steps, across: Steps) -> Steps
 // Inside the library: the steps of an accepted line that lead into the rectangle. A line is walked from the first of them to the last, however long it is, and no place
 // is asked for by itself.
 pub fn inner_steps(window: Window, start: Point, end: Point) -> Steps
-    requires { ⌜ ((window .left ≤ window .right) × (window .right ≤ 2048) × (window .top ≤ window .bottom) × (window .bottom ≤ 2048)) × (Bounded start × Bounded end) ⌝ }
+    requires { ⌜ Small window × (Bounded start × Bounded end) ⌝ }
     ensures { λ r. ⌜ InnerSteps window start end r ⌝ }
 {
     let axes = axes_of(window, start, end);

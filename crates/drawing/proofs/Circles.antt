@@ -17,13 +17,13 @@ use Rattle.geometry.specs.declared.Point.{Point}
 use Rattle.circle.specs.Circle.{boxRow, spanStart, spanEnd}
 use Rattle.circle.proofs.Containment.{in-box-decides, outside}
 use Rattle.circle.proofs.Spans.{span-agrees}
-use Rattle.framebuffer.specs.declared.Steps.{Steps}
-use Rattle.framebuffer.specs.declared.Window.{Window}
-use Rattle.framebuffer.specs.Interval.{Held}
-use Rattle.framebuffer.specs.Window.{inWindow, heldBy}
-use Rattle.framebuffer.proofs.Interval.{isStep, held-exactly, step-before, step-after}
+use Rattle.windows.specs.declared.Steps.{Steps}
+use Rattle.windows.specs.declared.Window.{Window}
+use Rattle.windows.specs.Interval.{Held}
+use Rattle.windows.specs.Window.{inWindow, heldBy}
+use Rattle.windows.proofs.Interval.{isStep, held-exactly, step-before, step-after}
 use Rattle.drawing.specs.Figure.{circleFigure}
-use Rattle.framebuffer.proofs.Rows.{span-off}
+use Rattle.painting.proofs.Rows.{span-off}
 
 module _ (c : Point) (d : ℕ) where
   circle-above : (u v : ℕ) → pos v <ℤ c .1 → circleFigure c d (pos u) (pos v) ≡ false

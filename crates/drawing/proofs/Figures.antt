@@ -21,12 +21,12 @@ use Rattle.layout.proofs.Counts.{one-small}
 use Rattle.layout.proofs.Placing.{Placing}
 use Rattle.layout.proofs.Painted.{painted-cong, painted-none, painted-painted}
 use Rattle.layout.proofs.Pixels.{pixels-cong, pixels-none, pixels-add}
-use Rattle.framebuffer.specs.declared.Brush.{Brush}
-use Rattle.framebuffer.specs.declared.Window.{Window}
-use Rattle.framebuffer.specs.Judged.{Ready, ground, brushed}
-use Rattle.framebuffer.specs.Window.{inWindow, heldBy}
-use Rattle.framebuffer.proofs.Rows.{within-both, brush-sound}
-use Rattle.framebuffer.proofs.Windows.{point-count}
+use Rattle.painting.specs.declared.Brush.{Brush}
+use Rattle.windows.specs.declared.Window.{Window}
+use Rattle.painting.specs.Brush.{Ready, ground, brushed}
+use Rattle.windows.specs.Window.{inWindow, heldBy}
+use Rattle.painting.proofs.Rows.{within-both, brush-sound}
+use Rattle.windows.proofs.Windows.{point-count}
 use Rattle.drawing.specs.Earlier.{newIn}
 use Rattle.drawing.specs.Figure.{lineFigure, connectedFigure}
 

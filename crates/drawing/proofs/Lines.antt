@@ -15,10 +15,10 @@ use Rattle.line.proofs.Apart.{steps-apart}
 use Rattle.line.proofs.Lengths.{points-most}
 use Rattle.layout.specs.Count.{oneIf}
 use Rattle.layout.specs.Figure.{single}
-use Rattle.framebuffer.specs.declared.Brush.{Brush}
-use Rattle.framebuffer.specs.declared.Steps.{Steps}
-use Rattle.framebuffer.specs.Judged.{Ready, brushed}
-use Rattle.framebuffer.specs.Window.{inWindow}
+use Rattle.painting.specs.declared.Brush.{Brush}
+use Rattle.windows.specs.declared.Steps.{Steps}
+use Rattle.painting.specs.Brush.{Ready, brushed}
+use Rattle.windows.specs.Window.{inWindow}
 use Rattle.clips.specs.Steps.{InnerSteps}
 use Rattle.clips.proofs.Steps.{inner-in, out-before, out-after, out-none}
 use Rattle.drawing.specs.Earlier.{newIn}

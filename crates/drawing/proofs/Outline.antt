@@ -21,12 +21,12 @@ use Rattle.triangle.proofs.Triangle.{p1, p2, p3, flat}
 use Rattle.triangle.proofs.Flat.{flat-edges, edge-contained}
 use Rattle.layout.specs.Layout.{painted}
 use Rattle.layout.proofs.Painted.{painted-length, painted-painted, painted-cong}
-use Rattle.framebuffer.specs.declared.Drawn.{Drawn}
-use Rattle.framebuffer.specs.declared.Frame.{Frame}
-use Rattle.framebuffer.specs.Description.{raster}
-use Rattle.framebuffer.specs.Drawing.{Drawing, callTests, outcome}
-use Rattle.framebuffer.proofs.Calls.{drawable, refused-outcome, accepted-outcome}
-use Rattle.framebuffer.proofs.Refusals.{sound}
+use Rattle.frames.specs.declared.Drawn.{Drawn}
+use Rattle.frames.specs.declared.Frame.{Frame}
+use Rattle.frames.specs.Description.{raster}
+use Rattle.frames.specs.Drawing.{Drawing, callTests, outcome}
+use Rattle.frames.proofs.Calls.{drawable, refused-outcome, accepted-outcome}
+use Rattle.frames.proofs.Refusals.{sound}
 use Rattle.drawing.specs.Drawing.{triangleDrawing, outlineDrawing}
 use Rattle.drawing.specs.Figure.{lineFigure, edgeFigure, sortedFigure, outlineFigure, triangleFigure}
 use Rattle.drawing.proofs.Edge.{edge-line, edge-swap}

@@ -9,7 +9,7 @@ use Rattle.line.specs.Answer.{endTests}
 use Rattle.triangle.specs.Answer.{vertexTests}
 use Rattle.circle.specs.Refusal.{circleTests}
 use Rattle.layout.specs.Figure.{single, everywhere}
-use Rattle.framebuffer.specs.Drawing.{Drawing}
+use Rattle.frames.specs.Drawing.{Drawing}
 use Rattle.drawing.specs.declared.Figure.{Figure}
 use Rattle.drawing.specs.declared.Figure.the-variants.{Fill, Pixel, Line, Connected, Triangle, Outline, Circle}
 use Rattle.drawing.specs.Figure.{lineFigure, connectedFigure, triangleFigure, outlineFigure, circleFigure}

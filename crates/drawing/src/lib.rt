@@ -9,19 +9,20 @@ ghost use Rattle.geometry.specs.Bound.{Bounded};
 ghost use Rattle.line.specs.Answer.{endTests};
 ghost use Rattle.triangle.specs.Answer.{vertexTests};
 ghost use Rattle.circle.specs.Refusal.{Fits, circleTests};
-ghost use Rattle.framebuffer.specs.Canvas.{numberOn, onCanvas};
-ghost use Rattle.framebuffer.specs.Drawing.{pixelDrawing, outcome};
-ghost use Rattle.framebuffer.specs.Interval.{Held};
-ghost use Rattle.framebuffer.specs.Judged.{Judged, JudgedSome, Ready, brushed};
+ghost use Rattle.frames.specs.Canvas.{numberOn, onCanvas};
+ghost use Rattle.frames.specs.Drawing.{pixelDrawing, outcome};
+ghost use Rattle.windows.specs.Interval.{Held};
+ghost use Rattle.frames.specs.Judged.{Judged, JudgedSome};
+ghost use Rattle.painting.specs.Brush.{Ready, brushed};
 ghost use Rattle.drawing.specs.Earlier.{Ends, earlierFigure, newIn};
 ghost use Rattle.drawing.specs.Figure.{lineFigure, connectedFigure, outlineFigure, triangleFigure, circleFigure};
 ghost use Rattle.drawing.specs.Drawing.{figureDrawing, lineDrawing, connectedDrawing, outlineDrawing, triangleDrawing, circleDrawing};
-use framebuffer::Brush;
-use framebuffer::Canvas;
-use framebuffer::Drawn;
-use framebuffer::Frame;
-use framebuffer::Steps;
+use frames::Canvas;
+use frames::Drawn;
+use frames::Frame;
 use geometry::Point;
+use painting::Brush;
+use windows::Steps;
 
 // A figure that a call may draw.
 pub enum Figure {
@@ -74,7 +75,7 @@ fn draw_edge(buf: &mut [u8], brush: Brush, earlier: Earlier, start: Point, end: 
     let mut seen = 0u32;
     while k < past {
         let stepped = walker.step();
-        framebuffer::set_point(buf, brush, stepped.point);
+        painting::set_point(buf, brush, stepped.point);
         seen += !earlier.has(stepped.point) as u32;
         walker = stepped.walker;
         k += 1;
@@ -89,7 +90,7 @@ fn draw_level(buf: &mut [u8], brush: Brush, start: Point, end: Point) -> u32
 {
     let y = start.1;
     let row = triangle::bresenham_intersection(start, end, y);
-    framebuffer::paint_span(buf, brush, y, row.0, row.1)
+    painting::paint_span(buf, brush, y, row.0, row.1)
 }
 
 // An upright line stays in its column: what goes by the column is worked out before the loop.
@@ -109,7 +110,7 @@ fn draw_upright(buf: &mut [u8], brush: Brush, start: Point, end: Point) -> u32
     let mut k = first;
     while k < past {
         let y = from + on * (k as i32);
-        framebuffer::set_point(buf, brush, Point(x, y));
+        painting::set_point(buf, brush, Point(x, y));
         k += 1;
     }
     past - first
@@ -130,7 +131,7 @@ fn draw_slanting(buf: &mut [u8], brush: Brush, start: Point, end: Point) -> u32
     let mut k = first;
     while k < past {
         let stepped = walker.step();
-        framebuffer::set_point(buf, brush, stepped.point);
+        painting::set_point(buf, brush, stepped.point);
         walker = stepped.walker;
         k += 1;
     }
@@ -156,7 +157,7 @@ fn line_number(canvas: Canvas, start: Point, end: Point, colour: u32) -> u32
     requires { ⌜ JudgedSome canvas ⌝ }
     ensures { λ r. ⌜ r ≡ numberOn canvas colour (endTests start end) ⌝ }
 {
-    let number = framebuffer::colour_refusal(canvas, colour);
+    let number = frames::colour_refusal(canvas, colour);
     if number != 0 {
         return number;
     }
@@ -174,7 +175,7 @@ pub fn line_on(buf: &mut [u8], canvas: Canvas, start: Point, end: Point, colour:
     }
     Drawn {
         number: 0,
-        count: draw_alone(buf, canvas.brush(colour), start, end),
+        count: draw_alone(buf, Brush::on(canvas, colour), start, end),
     }
 }
 
@@ -212,7 +213,7 @@ fn draw_connected(buf: &mut [u8], brush: Brush, start: Point, end: Point) -> u32
     let mut i = connected::points_before(start, end, first);
     while i < past {
         let next = connected::next_all(walker);
-        seen += framebuffer::put_point(buf, brush, next.point) as u32;
+        seen += painting::put_point(buf, brush, next.point) as u32;
         walker = next.walker;
         i += 1;
     }
@@ -236,7 +237,7 @@ pub fn connected_line_on(
     }
     Drawn {
         number: 0,
-        count: draw_connected(buf, canvas.brush(colour), start, end),
+        count: draw_connected(buf, Brush::on(canvas, colour), start, end),
     }
 }
 
@@ -258,7 +259,7 @@ fn triangle_number(canvas: Canvas, v1: Point, v2: Point, v3: Point, colour: u32)
     requires { ⌜ JudgedSome canvas ⌝ }
     ensures { λ r. ⌜ r ≡ numberOn canvas colour (vertexTests v1 v2 v3) ⌝ }
 {
-    let number = framebuffer::colour_refusal(canvas, colour);
+    let number = frames::colour_refusal(canvas, colour);
     if number != 0 {
         return number;
     }
@@ -277,8 +278,8 @@ fn draw_level_after(buf: &mut [u8], brush: Brush, a: Point, b: Point, c: Point) 
     let had = triangle::bresenham_intersection(a, b, y);
     let first = geometry::greater(row.0, had.0);
     let past = geometry::lesser(row.1, had.1);
-    let old = framebuffer::paint_span(buf, brush, y, first, past);
-    framebuffer::paint_span(buf, brush, y, row.0, row.1) - old
+    let old = painting::paint_span(buf, brush, y, first, past);
+    painting::paint_span(buf, brush, y, row.0, row.1) - old
 }
 
 // An outline's second edge, b to c, behind its first, a to b.
@@ -340,7 +341,7 @@ pub fn outline_on(
     }
     Drawn {
         number: 0,
-        count: draw_edges(buf, canvas.brush(colour), v1, v2, v3),
+        count: draw_edges(buf, Brush::on(canvas, colour), v1, v2, v3),
     }
 }
 
@@ -372,7 +373,7 @@ fn fill_circle_rows(buf: &mut [u8], brush: Brush, topleft: Point, diameter: u32,
     while k < past {
         let y = top + (k as i32);
         let row = circle::box_row_span(topleft, diameter, y);
-        seen = framebuffer::paint_more(buf, brush, y, row.start, row.end, seen);
+        seen = painting::paint_more(buf, brush, y, row.start, row.end, seen);
         k += 1;
     }
     seen
@@ -384,7 +385,7 @@ fn fill_circle(buf: &mut [u8], brush: Brush, topleft: Point, diameter: u32) -> u
     ensures { λ r. ⌜ (r, now (buf .exit)) ≡ brushed brush (circleFigure topleft diameter) (now (buf .entry)) ⌝ }
 {
     let window = brush.window;
-    let rows = framebuffer::held(topleft.1, true, window.top, window.bottom, diameter);
+    let rows = windows::held(topleft.1, true, window.top, window.bottom, diameter);
     fill_circle_rows(buf, brush, topleft, diameter, rows)
 }
 
@@ -393,7 +394,7 @@ fn circle_number(canvas: Canvas, topleft: Point, diameter: u32, colour: u32) -> 
     requires { ⌜ JudgedSome canvas ⌝ }
     ensures { λ r. ⌜ r ≡ numberOn canvas colour (circleTests topleft diameter) ⌝ }
 {
-    let number = framebuffer::colour_refusal(canvas, colour);
+    let number = frames::colour_refusal(canvas, colour);
     if number != 0 {
         return number;
     }
@@ -426,7 +427,7 @@ pub fn circle_on(
     ) {
         return Drawn {
             number: 0,
-            count: fill_circle(buf, canvas.brush(colour), topleft, diameter),
+            count: fill_circle(buf, Brush::on(canvas, colour), topleft, diameter),
         };
     }
     framebuffer::fill_on(buf, canvas, colour)
@@ -461,7 +462,7 @@ fn fill_triangle(buf: &mut [u8], brush: Brush, v1: Point, v2: Point, v3: Point) 
     while y <= bottom {
         let row = walk.row(y);
         let end = row.high + 1;
-        seen = framebuffer::paint_more(buf, brush, y, row.low, end, seen);
+        seen = painting::paint_more(buf, brush, y, row.low, end, seen);
         walk = row.walk;
         y += 1;
     }
@@ -486,7 +487,7 @@ pub fn triangle_on(
     }
     Drawn {
         number: 0,
-        count: fill_triangle(buf, canvas.brush(colour), v1, v2, v3),
+        count: fill_triangle(buf, Brush::on(canvas, colour), v1, v2, v3),
     }
 }
 

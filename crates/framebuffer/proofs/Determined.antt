@@ -1,16 +1,10 @@
 -- Each public contract determines its answer and every byte of the buffer: any two outcomes that it allows of the same arguments are equal. `Post`
--- is the contract as the source states it. So does that of `held`, which is told by its ends. Assumes nothing.
+-- is the contract as the source states it. Assumes nothing.
 use Rattle.whole.proofs.Determined.{One, OneBuffer, same}
-use Rattle.framebuffer.proofs.Frame.new.Reads as new
 use Rattle.framebuffer.proofs.buffer_size_bpp.Reads as buffer-size-bpp
 use Rattle.framebuffer.proofs.set_pixel.Reads as set-pixel
 use Rattle.framebuffer.proofs.pixel.Reads as pixel
 use Rattle.framebuffer.proofs.fill.Reads as fill
-use Rattle.framebuffer.proofs.held.Reads as held
-use Rattle.framebuffer.proofs.Interval.{held-one}
-
-pub new-one : One new.Post
-new-one κs args r q s t = same
 
 pub buffer-size-bpp-one : One buffer-size-bpp.Post
 buffer-size-bpp-one κs args r q s t = same
@@ -23,6 +17,3 @@ pixel-one κs args r q s t = same
 
 pub fill-one : OneBuffer fill.Post
 fill-one κs args r q s t = same
-
-pub held-answer-one : One held.Post
-held-answer-one κs args r q s t = held-one

@@ -7,9 +7,9 @@ use borrow.Author.Tests.{eq-eqb, ne-eqb}
 use Rattle.refusals.specs.First.{first}
 use Rattle.refusals.proofs.Answer.{not-done}
 use Rattle.refusals.proofs.First.{refused, passed, stops, goes-on}
-use Rattle.framebuffer.specs.declared.Frame.{Frame}
-use Rattle.framebuffer.specs.Description.{frameTests}
-use Rattle.framebuffer.proofs.Refusals.{frame-numbered}
+use Rattle.frames.specs.declared.Frame.{Frame}
+use Rattle.frames.specs.Description.{frameTests}
+use Rattle.frames.proofs.Refusals.{frame-numbered}
 use Rattle.lights.specs.Answer.{notOneBit, litTests, lights}
 
 module _ (f : Frame) (len k : ℕ) {n : ℕ} (e : n ≡ first (frameTests f len)) where

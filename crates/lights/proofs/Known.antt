@@ -5,7 +5,7 @@ use lib.ListN.{length}
 use Rattle.refusals.specs.First.{first}
 use Rattle.layout.specs.Count.{litIn}
 use Rattle.layout.specs.Packed.{rowBytes, field, parts, per, byteOf, slotOf}
-use Rattle.framebuffer.specs.Description.{packedDistance, raster, size, descriptionTests, frameTests}
+use Rattle.frames.specs.Description.{packedDistance, raster, size, descriptionTests, frameTests}
 use Rattle.lights.specs.declared.Lights.{Lights}
 use Rattle.lights.specs.Answer.{litTests, lights}
 use Rattle.lights.specs.Known.{Case, table}

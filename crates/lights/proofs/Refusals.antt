@@ -3,8 +3,8 @@
 use mathlib.Core.Path.{refl}
 use Prim.Native.Nat.{ℕ}
 use Rattle.refusals.proofs.First.{Exact, first-wins}
-use Rattle.framebuffer.specs.declared.Frame.{Frame}
-use Rattle.framebuffer.specs.Description.{descriptionTests, frameTests}
+use Rattle.frames.specs.declared.Frame.{Frame}
+use Rattle.frames.specs.Description.{descriptionTests, frameTests}
 use Rattle.lights.specs.Answer.{litTests}
 
 -- the lit pixels of a frame over len bytes: 1, 2, 3, 10

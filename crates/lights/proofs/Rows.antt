@@ -16,10 +16,10 @@ use Rattle.layout.specs.Packed.{rowBytes, field, parts, per, slotOf}
 use Rattle.layout.specs.Count.{howMany, litIn}
 use Rattle.layout.proofs.Counts.{many-cong, many-le, many-then}
 use Rattle.layout.proofs.Bytes.{pixel-get}
-use Rattle.framebuffer.specs.declared.Frame.{Frame}
-use Rattle.framebuffer.specs.Description.{arranged, raster, size}
-use Rattle.framebuffer.specs.Judged.{Accepted}
-use Rattle.framebuffer.proofs.Refusals.{spaced}
+use Rattle.frames.specs.declared.Frame.{Frame}
+use Rattle.frames.specs.Description.{arranged, raster, size}
+use Rattle.frames.specs.Judged.{Accepted}
+use Rattle.frames.proofs.Refusals.{spaced}
 use Rattle.lights.specs.Bits.{bitAt, litBits}
 
 -- whether pixel p of the frame is lit

@@ -5,8 +5,8 @@ use Prim.Native.Nat.{ℕ}
 use lib.Dec.{eqb}
 use Rattle.refusals.specs.Answer.{ifDone}
 use Rattle.refusals.specs.First.{Tests}
-use Rattle.framebuffer.specs.declared.Frame.{Frame}
-use Rattle.framebuffer.specs.Description.{frameTests}
+use Rattle.frames.specs.declared.Frame.{Frame}
+use Rattle.frames.specs.Description.{frameTests}
 use Rattle.lights.specs.declared.Lights.{Lights}
 
 -- 10: "another depth"

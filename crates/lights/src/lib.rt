@@ -4,11 +4,11 @@ ghost use Prim.Native.Nat.{_+_, _*_, _≤_, min};
 ghost use lib.ListN.{length};
 ghost use Rattle.refusals.specs.First.{first};
 ghost use Rattle.layout.specs.Count.{litIn};
-ghost use Rattle.framebuffer.specs.Description.{raster};
-ghost use Rattle.framebuffer.specs.Judged.{Accepted};
+ghost use Rattle.frames.specs.Description.{raster};
+ghost use Rattle.frames.specs.Judged.{Accepted};
 ghost use Rattle.lights.specs.Answer.{litTests, lights};
 ghost use Rattle.lights.specs.Bits.{litBits};
-use framebuffer::Frame;
+use frames::Frame;
 
 // How many pixels of a one-bit frame have the colour 1; with a refusal its number and 0.
 #[repr(C)]
@@ -103,7 +103,7 @@ fn lit_frame(buf: &[u8], frame: Frame) -> u32
 pub fn lit(buf: &[u8], frame: Frame) -> Lights
     ensures { λ r. ⌜ r ≡ lights (first (litTests frame (length (now (buf .entry))))) (litIn (raster frame) (now (buf .entry))) ⌝ }
 {
-    let number = framebuffer::frame_refusal(frame, buf.len());
+    let number = frames::frame_refusal(frame, buf.len());
     if number != 0 {
         return Lights { number, count: 0 };
     }

@@ -13,12 +13,12 @@ use Rattle.refusals.specs.First.{first}
 use Rattle.refusals.proofs.First.{exactly-0, refused, passed, both-pass, stops, goes-on, fails-alone}
 use Rattle.text.proofs.Writing.{sets-append}
 use Rattle.layout.specs.Packed.{rowBytes}
-use Rattle.framebuffer.specs.declared.Frame.{Frame}
-use Rattle.framebuffer.specs.declared.Size.{Size}
-use Rattle.framebuffer.specs.Answer.{sized}
-use Rattle.framebuffer.specs.Description.{size, tooShort, descriptionTests, frameTests}
-use Rattle.framebuffer.specs.Judged.{Described, Accepted}
-use Rattle.framebuffer.proofs.Refusals.{description-numbered, frame-numbered, is-described, is-accepted}
+use Rattle.frames.specs.declared.Frame.{Frame}
+use Rattle.frames.specs.declared.Size.{Size}
+use Rattle.frames.specs.Answer.{sized}
+use Rattle.frames.specs.Description.{size, tooShort, descriptionTests, frameTests}
+use Rattle.frames.specs.Judged.{Described, Accepted}
+use Rattle.frames.proofs.Refusals.{description-numbered, frame-numbered, is-described, is-accepted}
 use Rattle.netpbm.specs.Image.{bigFirst, imageBytes, imageLength}
 use Rattle.netpbm.specs.Written.{noFormat, noRoom, imageSizeTests, writeTests, written, Writable}
 use Rattle.netpbm.proofs.Transfers.{big-described}

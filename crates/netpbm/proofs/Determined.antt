@@ -5,7 +5,7 @@ use mathlib.Core.List.{List}
 use Prim.Native.Nat.{ℕ}
 use denote.Ref.{now}
 use Rattle.whole.proofs.Determined.{One, OneBuffer, same}
-use Rattle.framebuffer.specs.declared.Size.{Size}
+use Rattle.frames.specs.declared.Size.{Size}
 use Rattle.netpbm.proofs.image_size.Reads as image-size
 use Rattle.netpbm.proofs.write_image.Reads as write-image
 use Rattle.netpbm.proofs.read_image.Reads as read-image

@@ -10,8 +10,8 @@ use borrow.Author.Tests.{eq-eqb, eqb-true, eqb-false, not-false, not-true}
 use Rattle.whole.proofs.Tests.{and-true, or-true, or-false}
 use Rattle.layout.specs.Packed.{parts}
 use Rattle.layout.proofs.Places.{depth-pos}
-use Rattle.framebuffer.specs.declared.Frame.{Frame}
-use Rattle.framebuffer.specs.Description.{size}
+use Rattle.frames.specs.declared.Frame.{Frame}
+use Rattle.frames.specs.Description.{size}
 use Rattle.netpbm.specs.Written.{Writable}
 use Rattle.netpbm.specs.Words.{isTurned, isRun}
 

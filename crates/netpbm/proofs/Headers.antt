@@ -13,8 +13,8 @@ use Rattle.text.specs.Words.{numbered}
 use Rattle.text.proofs.Showing.{shown-most, numbered-length}
 use Rattle.headers.specs.Header.{magic, largest, maximum, headed, headerOf}
 use Rattle.headers.proofs.Forms.{written-header}
-use Rattle.framebuffer.specs.declared.Frame.{Frame}
-use Rattle.framebuffer.specs.Judged.{Described}
+use Rattle.frames.specs.declared.Frame.{Frame}
+use Rattle.frames.specs.Judged.{Described}
 use Rattle.netpbm.specs.Image.{header}
 
 pub no-maximum : (d : ℕ) → d ≡ 1 → maximum d ≡ []

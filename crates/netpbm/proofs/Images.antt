@@ -13,10 +13,10 @@ use Rattle.headers.specs.declared.Header.{Header}
 use Rattle.headers.specs.Header.{kind, headerOf}
 use Rattle.layout.specs.Layout.{shown}
 use Rattle.layout.proofs.Pictures.{Agree, one-picture, shown-colour}
-use Rattle.framebuffer.specs.declared.Frame.{Frame}
-use Rattle.framebuffer.specs.Description.{described, raster, size}
-use Rattle.framebuffer.specs.Judged.{Described}
-use Rattle.framebuffer.proofs.Refusals.{sound}
+use Rattle.frames.specs.declared.Frame.{Frame}
+use Rattle.frames.specs.Description.{described, raster, size}
+use Rattle.frames.specs.Judged.{Described}
+use Rattle.frames.proofs.Refusals.{sound}
 use Rattle.netpbm.specs.Image.{header, bigFirst, pixels, imageBytes, imageLength}
 use Rattle.netpbm.specs.Written.{Writable}
 use Rattle.netpbm.proofs.Transfers.{big-described, pixels-length}

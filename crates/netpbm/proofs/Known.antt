@@ -9,7 +9,7 @@ use Rattle.text.specs.Read.{readDigits}
 use Rattle.headers.specs.Header.{past, numberFrom, fieldFrom, headerField, maximumAt, headerOf}
 use Rattle.layout.specs.Layout.{rendered}
 use Rattle.layout.specs.Packed.{rowBytes, field, parts, per, byteOf, slotOf}
-use Rattle.framebuffer.specs.Description.{packedDistance, size, descriptionTests, frameTests}
+use Rattle.frames.specs.Description.{packedDistance, size, descriptionTests, frameTests}
 use Rattle.netpbm.specs.Image.{header, pixels, imageBytes, imageLength}
 use Rattle.netpbm.specs.Written.{writeTests, written}
 use Rattle.netpbm.specs.Reading.{fileTests, loadTests, loaded}

@@ -14,9 +14,9 @@ use Rattle.refusals.proofs.First.{exactly-0, both-pass, refused, passed, stops,
 use Rattle.headers.specs.declared.Header.{Header}
 use Rattle.headers.specs.Header.{headerOf}
 use Rattle.layout.specs.Layout.{rendered}
-use Rattle.framebuffer.specs.declared.Frame.{Frame}
-use Rattle.framebuffer.specs.Description.{raster, size, frameTests}
-use Rattle.framebuffer.proofs.Refusals.{frame-numbered}
+use Rattle.frames.specs.declared.Frame.{Frame}
+use Rattle.frames.specs.Description.{raster, size, frameTests}
+use Rattle.frames.proofs.Refusals.{frame-numbered}
 use Rattle.netpbm.specs.Image.{bigFirst}
 use Rattle.netpbm.specs.Written.{noFormat}
 use Rattle.netpbm.specs.Reading.{otherSize, fewPixels, fileTests, loadTests, filePicture, loaded}

@@ -25,9 +25,9 @@ use Rattle.layout.proofs.Cells.{value-cong}
 use Rattle.layout.proofs.Places.{Sound, place-in}
 use Rattle.layout.proofs.Pictures.{rendered-cong, shown-rendered, shown-colour}
 use Rattle.layout.proofs.Padding.{padding-stays, tail-stays}
-use Rattle.framebuffer.specs.declared.Frame.{Frame}
-use Rattle.framebuffer.specs.Description.{arranged, raster, size, noDepth, tooLarge, noDistance, tooShort, descriptionTests, frameTests}
-use Rattle.framebuffer.proofs.Refusals.{spaced, sound, is-accepted}
+use Rattle.frames.specs.declared.Frame.{Frame}
+use Rattle.frames.specs.Description.{arranged, raster, size, noDepth, tooLarge, noDistance, tooShort, descriptionTests, frameTests}
+use Rattle.frames.proofs.Refusals.{spaced, sound, is-accepted}
 use Rattle.netpbm.specs.Image.{bigFirst}
 use Rattle.netpbm.specs.Written.{noFormat, Writable}
 use Rattle.netpbm.specs.Reading.{otherSize, fewPixels, fileTests, loadTests, filePicture, loaded}

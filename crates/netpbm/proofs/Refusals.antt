@@ -4,8 +4,8 @@ use mathlib.Core.Path.{refl}
 use mathlib.Core.List.{List}
 use Prim.Native.Nat.{ℕ}
 use Rattle.refusals.proofs.First.{Exact, first-wins}
-use Rattle.framebuffer.specs.declared.Frame.{Frame}
-use Rattle.framebuffer.specs.Description.{descriptionTests, frameTests}
+use Rattle.frames.specs.declared.Frame.{Frame}
+use Rattle.frames.specs.Description.{descriptionTests, frameTests}
 use Rattle.netpbm.specs.Written.{imageSizeTests, writeTests}
 use Rattle.netpbm.specs.Reading.{fileTests, loadTests}
 

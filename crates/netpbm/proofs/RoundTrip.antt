@@ -16,12 +16,12 @@ use Rattle.headers.specs.Header.{headed, headerOf}
 use Rattle.headers.proofs.Forms.{header-is}
 use Rattle.layout.specs.Layout.{shown}
 use Rattle.layout.proofs.Pictures.{shown-rendered, shown-colour}
-use Rattle.framebuffer.specs.declared.Frame.{Frame}
-use Rattle.framebuffer.specs.declared.Size.{Size}
-use Rattle.framebuffer.specs.Answer.{sized}
-use Rattle.framebuffer.specs.Description.{described, arranged, raster, size, frameTests}
-use Rattle.framebuffer.specs.Judged.{Described, Accepted}
-use Rattle.framebuffer.proofs.Refusals.{frame-numbered, is-accepted, spaced, sound}
+use Rattle.frames.specs.declared.Frame.{Frame}
+use Rattle.frames.specs.declared.Size.{Size}
+use Rattle.frames.specs.Answer.{sized}
+use Rattle.frames.specs.Description.{described, arranged, raster, size, frameTests}
+use Rattle.frames.specs.Judged.{Described, Accepted}
+use Rattle.frames.proofs.Refusals.{frame-numbered, is-accepted, spaced, sound}
 use Rattle.netpbm.specs.Image.{header, bigFirst, pixels, imageBytes, imageLength}
 use Rattle.netpbm.specs.Written.{noFormat, noRoom, writeTests, written, Writable}
 use Rattle.netpbm.specs.Reading.{loaded}

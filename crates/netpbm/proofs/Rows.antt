@@ -22,9 +22,9 @@ use Rattle.layout.proofs.Places.{Sound, placing}
 use Rattle.layout.proofs.Pictures.{rendered-length}
 use Rattle.layout.proofs.Padding.{gap-stays, tail-stays}
 use Rattle.packing.specs.Words.{merged}
-use Rattle.framebuffer.specs.declared.Frame.{Frame}
-use Rattle.framebuffer.specs.Description.{arranged, raster, size}
-use Rattle.framebuffer.proofs.Refusals.{spaced, row-room}
+use Rattle.frames.specs.declared.Frame.{Frame}
+use Rattle.frames.specs.Description.{arranged, raster, size}
+use Rattle.frames.proofs.Refusals.{spaced, row-room}
 use Rattle.netpbm.specs.Words.{Alike, transferred, maskedRows, copied, copiedRow, turnedRow, isTurned, isRun}
 use Rattle.packing.proofs.Bits.{rendered-bytes, sourceOf, same-source, turned-place, mixed, mixed-cong, cut, full, beside, by-bits}
 use Rattle.netpbm.proofs.Formats.{row-pos, has-bits, same-bytes, run-full, same-distance, not-turned}

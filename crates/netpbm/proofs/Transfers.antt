@@ -15,10 +15,10 @@ use Rattle.layout.specs.Packed.{rowBytes}
 use Rattle.layout.proofs.Runs.{run-cong, run-is, run-over}
 use Rattle.layout.proofs.Bytes.{Bytes}
 use Rattle.layout.proofs.Pictures.{rendered-length, getD-zeros}
-use Rattle.framebuffer.specs.declared.Frame.{Frame}
-use Rattle.framebuffer.specs.Description.{raster, size}
-use Rattle.framebuffer.specs.Judged.{Described}
-use Rattle.framebuffer.proofs.Refusals.{packed-apart, sound}
+use Rattle.frames.specs.declared.Frame.{Frame}
+use Rattle.frames.specs.Description.{raster, size}
+use Rattle.frames.specs.Judged.{Described}
+use Rattle.frames.proofs.Refusals.{packed-apart, sound}
 use Rattle.netpbm.specs.Image.{bigFirst, pixels}
 use Rattle.netpbm.specs.Written.{Writable}
 use Rattle.netpbm.specs.Words.{Alike, transferred, maskedRows}

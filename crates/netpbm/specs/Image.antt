@@ -6,8 +6,8 @@ use Prim.Native.Nat.{ℕ, _+_}
 use lib.ListN.{length, replicate}
 use Rattle.headers.specs.Header.{headerBytes}
 use Rattle.layout.specs.Layout.{shown, rendered}
-use Rattle.framebuffer.specs.declared.Frame.{Frame}
-use Rattle.framebuffer.specs.Description.{packed, raster, size}
+use Rattle.frames.specs.declared.Frame.{Frame}
+use Rattle.frames.specs.Description.{packed, raster, size}
 
 -- "magic, LF, width, space, height, LF, and for P5 and P6 `255`, LF"
 unfoldable pub header : Frame → List ℕ

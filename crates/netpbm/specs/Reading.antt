@@ -9,8 +9,8 @@ use Rattle.refusals.specs.First.{Tests, first}
 use Rattle.headers.specs.declared.Header.{Header}
 use Rattle.headers.specs.Header.{headerOf}
 use Rattle.layout.specs.Layout.{Picture, shown, rendered}
-use Rattle.framebuffer.specs.declared.Frame.{Frame}
-use Rattle.framebuffer.specs.Description.{raster, size, frameTests}
+use Rattle.frames.specs.declared.Frame.{Frame}
+use Rattle.frames.specs.Description.{raster, size, frameTests}
 use Rattle.netpbm.specs.Image.{bigFirst}
 use Rattle.netpbm.specs.Written.{noFormat}
 

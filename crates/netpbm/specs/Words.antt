@@ -10,9 +10,9 @@ use Rattle.layout.specs.Digits.{setRun}
 use Rattle.layout.specs.Layout.{shown, rendered}
 use Rattle.layout.specs.Packed.{rowBytes}
 use Rattle.packing.specs.Words.{merged}
-use Rattle.framebuffer.specs.declared.Frame.{Frame}
-use Rattle.framebuffer.specs.Description.{raster, size}
-use Rattle.framebuffer.specs.Judged.{Accepted}
+use Rattle.frames.specs.declared.Frame.{Frame}
+use Rattle.frames.specs.Description.{raster, size}
+use Rattle.frames.specs.Judged.{Accepted}
 use Rattle.netpbm.specs.Written.{Writable}
 
 -- two frames of one size and depth that has a format, over m and n bytes

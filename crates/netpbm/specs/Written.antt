@@ -8,11 +8,11 @@ use lib.ListN.{length}
 use lib.Seq.{sets}
 use Rattle.refusals.specs.Answer.{ifDone}
 use Rattle.refusals.specs.First.{Tests, first}
-use Rattle.framebuffer.specs.declared.Frame.{Frame}
-use Rattle.framebuffer.specs.declared.Size.{Size}
-use Rattle.framebuffer.specs.Answer.{sized}
-use Rattle.framebuffer.specs.Description.{descriptionTests, frameTests}
-use Rattle.framebuffer.specs.Judged.{Accepted}
+use Rattle.frames.specs.declared.Frame.{Frame}
+use Rattle.frames.specs.declared.Size.{Size}
+use Rattle.frames.specs.Answer.{sized}
+use Rattle.frames.specs.Description.{descriptionTests, frameTests}
+use Rattle.frames.specs.Judged.{Accepted}
 use Rattle.netpbm.specs.Image.{imageBytes, imageLength}
 
 -- 10: "another depth or a zero side"

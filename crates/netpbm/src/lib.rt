@@ -6,14 +6,14 @@ ghost use lib.Seq.{sets};
 ghost use Rattle.refusals.specs.First.{first};
 ghost use Rattle.headers.specs.Header.{headerOf};
 ghost use Rattle.layout.specs.Digits.{setRun};
-ghost use Rattle.framebuffer.specs.Answer.{sized};
-ghost use Rattle.framebuffer.specs.Judged.{Described};
+ghost use Rattle.frames.specs.Answer.{sized};
+ghost use Rattle.frames.specs.Judged.{Described};
 ghost use Rattle.netpbm.specs.Image.{header, bigFirst, imageLength};
 ghost use Rattle.netpbm.specs.Written.{noFormat, imageSizeTests, written};
 ghost use Rattle.netpbm.specs.Reading.{fileTests, loaded};
 ghost use Rattle.netpbm.specs.Words.{Alike, transferred, maskedRows, copied, copiedRow, turnedRow, isTurned, isRun};
-use framebuffer::Frame;
-use framebuffer::Size;
+use frames::Frame;
+use frames::Size;
 use headers::Header;
 
 // ---- the refusals and the length
@@ -193,7 +193,7 @@ fn transfer_rows(from: &[u8], source: Frame, to: &mut [u8], target: Frame, kept:
 pub fn write_image(buf: &[u8], frame: Frame, out: &mut [u8]) -> Size
     ensures { λ r. ⌜ (r, now (out .exit)) ≡ written frame (now (buf .entry)) (now (out .entry)) ⌝ }
 {
-    let number = framebuffer::frame_refusal(frame, buf.len());
+    let number = frames::frame_refusal(frame, buf.len());
     if number != 0 {
         return Size { number, bytes: 0 };
     }
@@ -240,7 +240,7 @@ fn file_refusal(file: &[u8], frame: Frame, header: Header) -> u32
 pub fn read_image(buf: &mut [u8], frame: Frame, file: &[u8]) -> u32
     ensures { λ r. ⌜ (r, now (buf .exit)) ≡ loaded frame (now (file .entry)) (now (buf .entry)) ⌝ }
 {
-    let number = framebuffer::frame_refusal(frame, buf.len());
+    let number = frames::frame_refusal(frame, buf.len());
     if number != 0 {
         return number;
     }

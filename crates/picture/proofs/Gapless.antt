@@ -18,12 +18,12 @@ use Rattle.geometry.specs.declared.Point.{Point}
 use Rattle.layout.specs.Count.{marked}
 use Rattle.layout.specs.Layout.{Layout, shown}
 use Rattle.layout.specs.Packed.{goodDepth, rowBytes}
-use Rattle.framebuffer.specs.declared.Drawn.{Drawn}
-use Rattle.framebuffer.specs.declared.Frame.{Frame}
-use Rattle.framebuffer.specs.Answer.{sized, drawn, read}
-use Rattle.framebuffer.specs.Description.{described, packedDistance, packed, raster, size, noDistance, tooShort, isOutside, descriptionTests, frameTests, readTests, colourAt}
-use Rattle.framebuffer.specs.Drawing.{Drawing, outcome}
-use Rattle.framebuffer.proofs.Refusals.{packed-apart}
+use Rattle.frames.specs.declared.Drawn.{Drawn}
+use Rattle.frames.specs.declared.Frame.{Frame}
+use Rattle.frames.specs.Answer.{sized, drawn, read}
+use Rattle.frames.specs.Description.{described, packedDistance, packed, raster, size, noDistance, tooShort, isOutside, descriptionTests, frameTests, readTests, colourAt}
+use Rattle.frames.specs.Drawing.{Drawing, outcome}
+use Rattle.frames.proofs.Refusals.{packed-apart}
 use Rattle.picture.specs.Before.{sizeBefore, descriptionBefore, sizedBefore, rasterBefore, outcomeBefore, readBefore}
 
 module _ (w h d : ℕ) (big : Bool) where

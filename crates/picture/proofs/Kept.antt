@@ -14,13 +14,12 @@ use Rattle.layout.specs.Layout.{Picture, shown, rendered}
 use Rattle.layout.specs.Packed.{rowBytes}
 use Rattle.layout.proofs.Padding.{padding-stays, gap-stays, tail-stays}
 use Rattle.layout.proofs.Pictures.{rendered-length, shown-rendered, shown-colour, shown-zeros}
-use Rattle.framebuffer.specs.declared.Frame.{Frame}
-use Rattle.framebuffer.specs.Answer.{read}
-use Rattle.framebuffer.specs.Description.{arranged, raster, size, isOutside, frameTests, readTests, colourAt}
-use Rattle.framebuffer.specs.Judged.{Accepted}
-use Rattle.framebuffer.specs.Window.{wholeWindow}
-use Rattle.framebuffer.proofs.Refusals.{is-accepted, frame-numbered, spaced, sound}
-use Rattle.framebuffer.proofs.Windows.{in-window}
+use Rattle.frames.specs.declared.Frame.{Frame}
+use Rattle.frames.specs.Answer.{read}
+use Rattle.frames.specs.Description.{arranged, raster, size, isOutside, frameTests, readTests, colourAt, wholeWindow}
+use Rattle.frames.specs.Judged.{Accepted}
+use Rattle.frames.proofs.Refusals.{is-accepted, frame-numbered, spaced, sound}
+use Rattle.windows.proofs.Windows.{in-window}
 use Rattle.framebuffer.proofs.pixel.Reads as pixel
 use Rattle.picture.specs.Calls.{Call, blank, pictureAfter}
 use Rattle.picture.proofs.Picture.{zeros, bytes-after, colours-after-calls}

@@ -8,7 +8,7 @@ use Rattle.triangle.specs.Row.{extended, hull, lineColumns, rowSpan, firstRow, 
 use Rattle.triangle.specs.Triangle.{noneBelow, noneAbove, onEdge, isFlat, isInside, contained}
 use Rattle.layout.specs.Layout.{rendered}
 use Rattle.layout.specs.Packed.{rowBytes, field, parts, per, byteOf, slotOf}
-use Rattle.framebuffer.specs.Description.{packedDistance, size, descriptionTests, frameTests}
+use Rattle.frames.specs.Description.{packedDistance, size, descriptionTests, frameTests}
 use Rattle.picture.specs.Known.{table, allHold}
 
 pub known : allHold table ≡ true

@@ -7,8 +7,8 @@ use lib.IntN.{pos}
 use Rattle.refusals.specs.Answer.{ifDone}
 use Rattle.refusals.proofs.Answer.{is-done}
 use Rattle.layout.specs.Layout.{Picture}
-use Rattle.framebuffer.specs.declared.Frame.{Frame}
-use Rattle.framebuffer.specs.Drawing.{Drawing}
+use Rattle.frames.specs.declared.Frame.{Frame}
+use Rattle.frames.specs.Drawing.{Drawing}
 use Rattle.netpbm.specs.Reading.{filePicture}
 use Rattle.picture.specs.Calls.{Call, readImage, Change, draws, changeOf, numberOf, blank, shownAfter, pictureAfter}
 

@@ -11,14 +11,13 @@ use Rattle.refusals.specs.First.{Tests, first}
 use Rattle.refusals.proofs.First.{first-append}
 use Rattle.layout.specs.Layout.{Picture, shown}
 use Rattle.layout.proofs.Pictures.{Agree}
-use Rattle.framebuffer.specs.declared.Frame.{Frame}
-use Rattle.framebuffer.specs.Description.{described, raster, frameTests}
-use Rattle.framebuffer.specs.Drawing.{Drawing}
-use Rattle.framebuffer.proofs.Refusals.{frame-numbered}
+use Rattle.frames.specs.declared.Frame.{Frame}
+use Rattle.frames.specs.Description.{described, raster, frameTests}
+use Rattle.frames.specs.Drawing.{Drawing}
+use Rattle.frames.proofs.Refusals.{frame-numbered}
 use Rattle.netpbm.specs.Reading.{fileTests, filePicture}
 use Rattle.drawing.specs.Drawing.{figureDrawing}
-use Rattle.picture.specs.Calls.{Call, draw, readImage, Change}
-use Rattle.picture.specs.Calls.{draws, loads, changeOf, numberOf, shownAfter, pictureAfter}
+use Rattle.picture.specs.Calls.{Call, draw, readImage, Change, draws, loads, changeOf, numberOf, shownAfter, pictureAfter}
 use Rattle.picture.proofs.Picture.{lawful}
 use Rattle.picture.proofs.Runs.{Run}
 use Rattle.picture.proofs.Kept.{run-shows}

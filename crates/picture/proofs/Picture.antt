@@ -18,22 +18,19 @@ use Rattle.refusals.proofs.First.{refused, both-pass, fails-alone}
 use Rattle.layout.specs.Layout.{Picture, shown, rendered}
 use Rattle.layout.specs.Packed.{field, parts}
 use Rattle.layout.proofs.Fields.{pow-mul}
-use Rattle.layout.proofs.Placing.{Everywhere}
-use Rattle.layout.proofs.Pictures.{Colour, Agree, rendered-length, rendered-cong}
-use Rattle.layout.proofs.Pictures.{rendered-again, rendered-shown, shown-rendered, shown-colour, shown-zeros, one-picture}
+use Rattle.layout.proofs.Placing.{Everywhere, Placing}
+use Rattle.layout.proofs.Pictures.{Colour, Agree, rendered-length, rendered-cong, rendered-again, rendered-shown, shown-rendered, shown-colour, shown-zeros, one-picture}
 use Rattle.layout.proofs.Places.{depth-of}
-use Rattle.layout.proofs.Placing.{Placing}
-use Rattle.framebuffer.specs.declared.Frame.{Frame}
-use Rattle.framebuffer.specs.Description.{raster, size, noColour, frameTests}
-use Rattle.framebuffer.specs.Drawing.{Drawing}
-use Rattle.framebuffer.specs.Judged.{Described, Accepted}
-use Rattle.framebuffer.proofs.Refusals.{is-accepted, frame-numbered, sound}
+use Rattle.frames.specs.declared.Frame.{Frame}
+use Rattle.frames.specs.Description.{raster, size, noColour, frameTests}
+use Rattle.frames.specs.Drawing.{Drawing}
+use Rattle.frames.specs.Judged.{Described, Accepted}
+use Rattle.frames.proofs.Refusals.{is-accepted, frame-numbered, sound}
 use Rattle.headers.specs.Header.{headerOf}
 use Rattle.netpbm.specs.Image.{bigFirst}
 use Rattle.netpbm.proofs.Transfers.{big-described}
 use Rattle.drawing.specs.Drawing.{figureDrawing}
-use Rattle.picture.specs.Calls.{Call, draw, readImage, Change}
-use Rattle.picture.specs.Calls.{draws, loads, changeOf, numberOf, blank, shownAfter, pictureAfter, afterCall, afterCalls}
+use Rattle.picture.specs.Calls.{Call, draw, readImage, Change, draws, loads, changeOf, numberOf, blank, shownAfter, pictureAfter, afterCall, afterCalls}
 
 -- a zero-filled buffer of n bytes
 abbrev pub zeros : ℕ → List ℕ

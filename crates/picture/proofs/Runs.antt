@@ -5,7 +5,7 @@ use mathlib.Core.List.{List, [], _∷_}
 use mathlib.Core.Logic.{_↔_}
 use Prim.Native.Nat.{ℕ, _<_}
 use denote.Ref.{now}
-use Rattle.framebuffer.specs.declared.Frame.{Frame}
+use Rattle.frames.specs.declared.Frame.{Frame}
 use Rattle.framebuffer.proofs.set_pixel.Reads as set-pixel
 use Rattle.framebuffer.proofs.fill.Reads as fill
 use Rattle.drawing.proofs.draw_line.Reads as draw-line
@@ -15,8 +15,7 @@ use Rattle.drawing.proofs.draw_circle.Reads as draw-circle
 use Rattle.drawing.proofs.draw_connected_line.Reads as draw-connected-line
 use Rattle.netpbm.proofs.read_image.Reads as read-image
 use Rattle.drawing.specs.declared.Figure.the-variants.{Fill, Pixel, Line, Connected, Triangle, Outline, Circle}
-use Rattle.picture.specs.Calls.{Call, draw, readImage}
-use Rattle.picture.specs.Calls.{blank, pictureAfter, afterCalls}
+use Rattle.picture.specs.Calls.{Call, draw, readImage, blank, pictureAfter, afterCalls}
 use Rattle.picture.proofs.Picture.{zeros, one-picture-one-frame}
 use Rattle.picture.proofs.Ties.{Does, counts-does, places-does, loads-does}
 

@@ -17,14 +17,14 @@ use Rattle.layout.proofs.Placing.{Placing, Everywhere}
 use Rattle.layout.proofs.Painted.{painted-length}
 use Rattle.layout.proofs.Pictures.{Colour, shown-rendered, painted-rendered}
 use Rattle.layout.proofs.Pixels.{pixels-none, none-of, pixels-everywhere, pixels-le, marked-none, lit-painted}
-use Rattle.framebuffer.specs.declared.Frame.{Frame}
-use Rattle.framebuffer.specs.declared.Drawn.{Drawn}
-use Rattle.framebuffer.specs.Answer.{drawn}
-use Rattle.framebuffer.specs.Description.{raster, size}
-use Rattle.framebuffer.specs.Drawing.{Drawing, fillDrawing, callTests, outcome}
-use Rattle.framebuffer.specs.Judged.{Drawable}
-use Rattle.framebuffer.proofs.Calls.{drawable}
-use Rattle.framebuffer.proofs.Refusals.{sound}
+use Rattle.frames.specs.declared.Frame.{Frame}
+use Rattle.frames.specs.declared.Drawn.{Drawn}
+use Rattle.frames.specs.Answer.{drawn}
+use Rattle.frames.specs.Description.{raster, size}
+use Rattle.frames.specs.Drawing.{Drawing, fillDrawing, callTests, outcome}
+use Rattle.frames.specs.Judged.{Drawable}
+use Rattle.frames.proofs.Calls.{drawable}
+use Rattle.frames.proofs.Refusals.{sound}
 use Rattle.picture.proofs.Picture.{colour-fits}
 
 -- no pixel of the frame is in the figure

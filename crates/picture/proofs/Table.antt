@@ -11,9 +11,9 @@ use Rattle.geometry.specs.declared.Point.{Point}
 use Rattle.line.specs.Answer.{endTests, stepTests}
 use Rattle.triangle.specs.Answer.{vertexTests}
 use Rattle.circle.specs.Refusal.{circleTests}
-use Rattle.framebuffer.specs.declared.Frame.{Frame}
-use Rattle.framebuffer.specs.Description.{descriptionTests, frameTests, readTests}
-use Rattle.framebuffer.specs.Drawing.{callTests}
+use Rattle.frames.specs.declared.Frame.{Frame}
+use Rattle.frames.specs.Description.{descriptionTests, frameTests, readTests}
+use Rattle.frames.specs.Drawing.{callTests}
 use Rattle.drawing.specs.declared.Figure.{Figure}
 use Rattle.drawing.specs.declared.Figure.the-variants.{Fill, Pixel, Line, Connected, Triangle, Outline, Circle}
 use Rattle.drawing.specs.Drawing.{figureDrawing}

@@ -9,19 +9,18 @@ use Rattle.refusals.specs.First.{first}
 use Rattle.geometry.specs.declared.Point.{Point}
 use Rattle.layout.specs.Layout.{painted, shown, coloured, rendered}
 use Rattle.layout.proofs.Pictures.{painted-rendered}
-use Rattle.framebuffer.specs.declared.Frame.{Frame}
-use Rattle.framebuffer.specs.declared.Drawn.{Drawn}
-use Rattle.framebuffer.specs.declared.Placed.{Placed}
-use Rattle.framebuffer.specs.Description.{raster}
-use Rattle.framebuffer.specs.Drawing.{Drawing, callTests, outcome, pixelOutcome}
-use Rattle.framebuffer.proofs.Calls.{drawable}
-use Rattle.framebuffer.proofs.Refusals.{sound}
+use Rattle.frames.specs.declared.Frame.{Frame}
+use Rattle.frames.specs.declared.Drawn.{Drawn}
+use Rattle.frames.specs.declared.Placed.{Placed}
+use Rattle.frames.specs.Description.{raster}
+use Rattle.frames.specs.Drawing.{Drawing, callTests, outcome, pixelOutcome}
+use Rattle.frames.proofs.Calls.{drawable}
+use Rattle.frames.proofs.Refusals.{sound}
 use Rattle.netpbm.specs.Reading.{loadTests, loaded}
 use Rattle.drawing.specs.declared.Figure.{Figure}
 use Rattle.drawing.specs.declared.Figure.the-variants.{Pixel}
 use Rattle.drawing.specs.Drawing.{inFigure, figureDrawing}
-use Rattle.picture.specs.Calls.{Call, draw, readImage}
-use Rattle.picture.specs.Calls.{numberOf, afterCall}
+use Rattle.picture.specs.Calls.{Call, draw, readImage, numberOf, afterCall}
 
 -- what a call o on the frame f is to do: its answer's number, and the bytes afterwards
 pub record Does (f : Frame) (o : Call) (before : List ℕ) (n : ℕ) (after : List ℕ) : Type 0 where

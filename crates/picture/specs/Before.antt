@@ -12,11 +12,11 @@ use Rattle.whole.specs.Interval.{between}
 use Rattle.layout.specs.Layout.{Layout, shown}
 use Rattle.layout.specs.Count.{marked}
 use Rattle.layout.specs.Packed.{goodDepth, rowBytes, laid}
-use Rattle.framebuffer.specs.declared.Drawn.{Drawn}
-use Rattle.framebuffer.specs.declared.Read.{Read}
-use Rattle.framebuffer.specs.declared.Size.{Size}
-use Rattle.framebuffer.specs.Answer.{sized, drawn, read}
-use Rattle.framebuffer.specs.Drawing.{Drawing}
+use Rattle.frames.specs.declared.Drawn.{Drawn}
+use Rattle.frames.specs.declared.Read.{Read}
+use Rattle.frames.specs.declared.Size.{Size}
+use Rattle.frames.specs.Answer.{sized, drawn, read}
+use Rattle.frames.specs.Drawing.{Drawing}
 
 module _ (width height depth : ℕ) where
   -- "A row takes floor((width·depth + 7) / 8) bytes; the frame takes that times height"

@@ -5,9 +5,9 @@ use lib.ListN.{length}
 use Rattle.refusals.specs.First.{Tests, first}
 use Rattle.refusals.specs.Answer.{ifDone}
 use Rattle.layout.specs.Layout.{Picture, shown, coloured, rendered}
-use Rattle.framebuffer.specs.declared.Frame.{Frame}
-use Rattle.framebuffer.specs.Description.{raster, noColour, frameTests}
-use Rattle.framebuffer.specs.Drawing.{Drawing}
+use Rattle.frames.specs.declared.Frame.{Frame}
+use Rattle.frames.specs.Description.{raster, noColour, frameTests}
+use Rattle.frames.specs.Drawing.{Drawing}
 use Rattle.netpbm.specs.Reading.{fileTests, filePicture}
 use Rattle.drawing.specs.declared.Figure.{Figure}
 use Rattle.drawing.specs.Drawing.{figureDrawing}

@@ -13,8 +13,8 @@ use Rattle.line.specs.Line.{pointAt, points}
 use Rattle.triangle.specs.Triangle as triangle
 use Rattle.triangle.specs.Row as row
 use Rattle.circle.specs.Circle as circle
-use Rattle.framebuffer.specs.declared.Frame.{Frame}
-use Rattle.framebuffer.specs.Description.{packed}
+use Rattle.frames.specs.declared.Frame.{Frame}
+use Rattle.frames.specs.Description.{packed}
 use Rattle.drawing.specs.declared.Figure.the-variants.{Pixel}
 use Rattle.picture.specs.Calls.{draw, numberOf, afterCall}
 

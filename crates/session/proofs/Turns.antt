@@ -9,9 +9,9 @@ use lib.Dec.{leb}
 use lib.ListN.{length, take, drop, drop-of-length-le}
 use lib.Seq.{length-take-le}
 use borrow.Author.Tests.{le-leb, lt-leb}
-use Rattle.framebuffer.specs.declared.Frame.{Frame}
-use Rattle.framebuffer.specs.declared.Read.{Read}
-use Rattle.framebuffer.specs.declared.Size.{Size}
+use Rattle.frames.specs.declared.Frame.{Frame}
+use Rattle.frames.specs.declared.Read.{Read}
+use Rattle.frames.specs.declared.Size.{Size}
 use Rattle.lights.specs.declared.Lights.{Lights}
 use Rattle.text.proofs.Numbers.{rest-is}
 use Rattle.readers.specs.Figures.{isLast}

@@ -7,11 +7,11 @@ use lib.ListN.{length, take, drop}
 use Rattle.refusals.specs.First.{first}
 use Rattle.layout.specs.Count.{litIn}
 use Rattle.layout.specs.Digits.{setRun}
-use Rattle.framebuffer.specs.declared.Frame.{Frame}
-use Rattle.framebuffer.specs.declared.Read.{Read}
-use Rattle.framebuffer.specs.declared.Size.{Size}
-use Rattle.framebuffer.specs.Answer.{sized, read}
-use Rattle.framebuffer.specs.Description.{described, packed, raster, size, descriptionTests, readTests, colourAt}
+use Rattle.frames.specs.declared.Frame.{Frame}
+use Rattle.frames.specs.declared.Read.{Read}
+use Rattle.frames.specs.declared.Size.{Size}
+use Rattle.frames.specs.Answer.{sized, read}
+use Rattle.frames.specs.Description.{described, packed, raster, size, descriptionTests, readTests, colourAt}
 use Rattle.lights.specs.declared.Lights.{Lights}
 use Rattle.lights.specs.Answer.{litTests, lights}
 use Rattle.netpbm.specs.Image.{imageLength}

@@ -7,7 +7,7 @@ use crate::screen::Screen;
 use crate::screen::Turn;
 use crate::screen::preset;
 use crate::screen::respond;
-use framebuffer::Frame;
+use frames::Frame;
 use protocol::Reply;
 use protocol::Value;
 use protocol::put_hex;

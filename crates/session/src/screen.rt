@@ -4,7 +4,7 @@ ghost use Prim.Native.Nat.{_≤_};
 ghost use lib.ListN.{length};
 ghost use Rattle.session.specs.Screen.{start, nextScreen, frameTurn, presetCall, readReply, imageSizeReply, litReply, response};
 use calls::draw;
-use framebuffer::Frame;
+use frames::Frame;
 use protocol::Reply;
 use protocol::Value;
 use readers::ends_at;

@@ -2,8 +2,8 @@
 use mathlib.Core.Path.{_∙_}
 use borrow.Author.Needs.{needs}
 use Rattle.refusals.specs.First.{first}
-use Rattle.framebuffer.specs.Answer.{sized}
-use Rattle.framebuffer.specs.Description.{size, descriptionTests}
+use Rattle.frames.specs.Answer.{sized}
+use Rattle.frames.specs.Description.{size, descriptionTests}
 use Rattle.beamacorn.proofs.beamacorn_frame_size.Statement.{statement}
 use Rattle.beamacorn.proofs.beamacorn_frame_size.Tie as tie
 

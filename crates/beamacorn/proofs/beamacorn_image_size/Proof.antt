@@ -2,7 +2,7 @@
 use mathlib.Core.Path.{_∙_}
 use borrow.Author.Needs.{needs}
 use Rattle.refusals.specs.First.{first}
-use Rattle.framebuffer.specs.Answer.{sized}
+use Rattle.frames.specs.Answer.{sized}
 use Rattle.netpbm.specs.Image.{imageLength}
 use Rattle.netpbm.specs.Written.{imageSizeTests}
 use Rattle.beamacorn.proofs.beamacorn_image_size.Statement.{statement}

@@ -4,7 +4,7 @@ use lib.ListN.{length}
 use borrow.Author.Needs.{needs}
 use Rattle.refusals.specs.First.{first}
 use Rattle.layout.specs.Count.{litIn}
-use Rattle.framebuffer.specs.Description.{raster}
+use Rattle.frames.specs.Description.{raster}
 use Rattle.lights.specs.Answer.{litTests, lights}
 use Rattle.beamacorn.proofs.beamacorn_lit.Statement.{statement}
 use Rattle.beamacorn.proofs.beamacorn_lit.Tie as tie

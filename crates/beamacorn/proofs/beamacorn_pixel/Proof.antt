@@ -2,8 +2,8 @@
 use mathlib.Core.Path.{_∙_}
 use borrow.Author.Needs.{needs}
 use lib.ListN.{length}
-use Rattle.framebuffer.specs.Answer.{read}
-use Rattle.framebuffer.specs.Description.{readTests, colourAt}
+use Rattle.frames.specs.Answer.{read}
+use Rattle.frames.specs.Description.{readTests, colourAt}
 use Rattle.refusals.specs.First.{first}
 use Rattle.beamacorn.proofs.Places.{place}
 use Rattle.beamacorn.proofs.beamacorn_pixel.Statement.{statement}

@@ -9,10 +9,11 @@ use borrow.Author.Tests.{not-false}
 use Rattle.circle.specs.Refusal.{circleTests}
 use Rattle.circle.proofs.Corners.{corners-all}
 use Rattle.circle.proofs.Refusals.{is-accepted}
-use Rattle.framebuffer.proofs.Calls.{calls, ready-on, everywhere-on}
-use Rattle.framebuffer.specs.Judged.{brushOf}
-use Rattle.framebuffer.specs.Window.{inWindow}
-use Rattle.framebuffer.proofs.Windows.{window-in, ready-small}
+use Rattle.painting.proofs.Brushes.{calls, ready-on, ready-small}
+use Rattle.frames.proofs.Calls.{everywhere-on}
+use Rattle.painting.specs.Brush.{brushOf}
+use Rattle.windows.specs.Window.{inWindow}
+use Rattle.windows.proofs.Windows.{window-in}
 use Rattle.drawing.specs.Drawing.{circleDrawing}
 use Rattle.drawing.specs.Figure.{circleFigure}
 use Rattle.drawing.proofs.circle_on.Statement.{statement}
@@ -34,8 +35,8 @@ accepted-covers-requires c κs =
     let w = ready-small R in
     (is-accepted _ _ (search calls), omega (arith, w .0, w .1), omega (arith, w .2, w .3), w .1, w .3)
 
-brush-requires : tie.Need-brush-requires
-brush-requires c κs = search needs
+on-requires : tie.Need-on-requires
+on-requires c κs = search needs
 
 fill-circle-requires : tie.Need-fill-circle-requires
 fill-circle-requires c κs = (search calls, is-accepted _ _ (search calls))
@@ -72,7 +73,7 @@ circle-on-spec =
     circle-number-requires
     returns
     accepted-covers-requires
-    brush-requires
+    on-requires
     fill-circle-requires
     same-length
     returns-2

@@ -9,17 +9,17 @@ use borrow.Author.Needs.{needs}
 use Rattle.geometry.specs.declared.Point.{Point}
 use Rattle.layout.specs.Count.{oneIf, pixelsIn}
 use Rattle.layout.specs.Figure.{single}
-use Rattle.framebuffer.specs.declared.Canvas.{Canvas}
-use Rattle.framebuffer.specs.declared.Drawn.{Drawn}
-use Rattle.framebuffer.specs.declared.Placed.{Placed}
-use Rattle.framebuffer.specs.Answer.{drawn, wasInside}
-use Rattle.framebuffer.specs.Canvas.{keeps, numberOn, onCanvas, pixelOn}
-use Rattle.framebuffer.specs.Description.{noColour}
-use Rattle.framebuffer.specs.Drawing.{pixelDrawing}
-use Rattle.framebuffer.specs.Judged.{Judged}
-use Rattle.framebuffer.specs.Window.{inWindow, heldBy}
-use Rattle.framebuffer.proofs.Calls.{behind-passed}
-use Rattle.framebuffer.proofs.Windows.{point-count}
+use Rattle.frames.specs.declared.Canvas.{Canvas}
+use Rattle.frames.specs.declared.Drawn.{Drawn}
+use Rattle.frames.specs.declared.Placed.{Placed}
+use Rattle.frames.specs.Answer.{drawn, wasInside}
+use Rattle.frames.specs.Canvas.{keeps, numberOn, onCanvas, pixelOn}
+use Rattle.frames.specs.Description.{noColour}
+use Rattle.frames.specs.Drawing.{pixelDrawing}
+use Rattle.frames.specs.Judged.{Judged}
+use Rattle.windows.specs.Window.{inWindow, heldBy}
+use Rattle.frames.proofs.Calls.{behind-passed}
+use Rattle.windows.proofs.Windows.{point-count}
 use Rattle.drawing.proofs.dot_on.Statement.{statement}
 use Rattle.drawing.proofs.dot_on.Tie as tie
 

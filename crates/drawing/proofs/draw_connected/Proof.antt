@@ -13,9 +13,9 @@ use Rattle.connected.specs.Connected.{indexOf, lastIndex, connectedPoints, poin
 use Rattle.connected.specs.Walk.{NextAt}
 use Rattle.connected.proofs.Indices.{last-size, index-last, index-more, before-most}
 use Rattle.connected.proofs.Members.{distinct}
-use Rattle.framebuffer.specs.declared.Steps.{Steps}
-use Rattle.framebuffer.specs.Judged.{Ready}
-use Rattle.framebuffer.proofs.Windows.{ready-small}
+use Rattle.windows.specs.declared.Steps.{Steps}
+use Rattle.painting.specs.Brush.{Ready}
+use Rattle.painting.proofs.Brushes.{ready-small}
 use Rattle.clips.specs.Steps.{LineSteps}
 use Rattle.drawing.proofs.Figures.{connected-walked, inside-adds, inside-one, Along, along-start, along-turn, along-skip, none, along-all}
 use Rattle.clips.proofs.Steps.{connected-before, connected-after, connected-none}

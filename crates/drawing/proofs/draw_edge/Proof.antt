@@ -9,7 +9,7 @@ use mir.Val.{boolByte}
 use borrow.Author.Needs.{needs}
 use Rattle.layout.specs.Count.{oneIf}
 use Rattle.layout.proofs.Counts.{one-small}
-use Rattle.framebuffer.proofs.Windows.{ready-small}
+use Rattle.painting.proofs.Brushes.{ready-small}
 use Rattle.drawing.specs.Earlier.{earlierFigure}
 use Rattle.drawing.proofs.Figures.{new-one}
 use Rattle.drawing.proofs.Lines.{LineWalk, few-steps, edge-ended, edge-none, Walks, walks-begun, walks-on, walks-set, walks-turn}

@@ -13,8 +13,8 @@ use Rattle.triangle.specs.Triangle.{isFlat}
 use Rattle.triangle.proofs.Order.{All}
 use Rattle.triangle.proofs.Triangle.{upper}
 use Rattle.triangle.proofs.Refusals.{sorted-bounded}
-use Rattle.framebuffer.specs.Judged.{Ready, brushed}
-use Rattle.framebuffer.proofs.Rows.{brush-sound, few-pixels}
+use Rattle.painting.specs.Brush.{Ready, brushed}
+use Rattle.painting.proofs.Rows.{brush-sound, few-pixels}
 use Rattle.drawing.specs.Figure.{lineFigure, sortedFigure, outlineFigure}
 use Rattle.drawing.proofs.Figures.{after-earlier}
 use Rattle.drawing.proofs.Outline.{outline-flat}

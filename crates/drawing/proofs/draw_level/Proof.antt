@@ -10,7 +10,7 @@ use Rattle.geometry.proofs.Bound.{coord-fits}
 use Rattle.triangle.specs.declared.Columns.{Columns}
 use Rattle.triangle.specs.Row.{hull, lineColumns}
 use Rattle.layout.specs.Figure.{spanFigure}
-use Rattle.framebuffer.specs.Judged.{brushed}
+use Rattle.painting.specs.Brush.{brushed}
 use Rattle.drawing.proofs.Level.{level-line}
 use Rattle.drawing.proofs.draw_level.Statement.{statement}
 use Rattle.drawing.proofs.draw_level.Tie as tie

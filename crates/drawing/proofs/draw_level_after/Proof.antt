@@ -16,8 +16,8 @@ use Rattle.geometry.proofs.Bound.{coord-fits}
 use Rattle.triangle.specs.declared.Columns.{Columns}
 use Rattle.triangle.specs.Row.{hull, lineColumns}
 use Rattle.layout.specs.Figure.{spanFigure}
-use Rattle.framebuffer.specs.Judged.{Ready, brushed}
-use Rattle.framebuffer.proofs.Rows.{brush-sound}
+use Rattle.painting.specs.Brush.{Ready, brushed}
+use Rattle.painting.proofs.Rows.{brush-sound}
 use Rattle.drawing.specs.Earlier.{newIn}
 use Rattle.drawing.specs.Figure.{lineFigure}
 use Rattle.drawing.proofs.Figures.{after-part}

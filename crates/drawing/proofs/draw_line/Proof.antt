@@ -1,6 +1,6 @@
 -- `drawing::draw_line` judges its frame, and makes the call on it. Assumes nothing.
 use borrow.Author.Needs.{needs}
-use Rattle.framebuffer.proofs.Calls.{judging}
+use Rattle.frames.proofs.Calls.{judging}
 use Rattle.drawing.proofs.draw_line.Statement.{statement}
 use Rattle.drawing.proofs.draw_line.Tie as tie
 

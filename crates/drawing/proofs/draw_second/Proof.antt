@@ -5,7 +5,7 @@ use mir.Syntax.{w32}
 use borrow.Author.Needs.{needs}
 use Rattle.whole.proofs.Machine.{eq-bits}
 use Rattle.geometry.proofs.Bound.{coord-fits}
-use Rattle.framebuffer.specs.Judged.{brushed}
+use Rattle.painting.specs.Brush.{brushed}
 use Rattle.drawing.specs.Figure.{lineFigure}
 use Rattle.drawing.proofs.Figures.{or-false}
 use Rattle.drawing.proofs.draw_second.Statement.{statement}

@@ -5,7 +5,7 @@ use Prim.Native.Nat.{_-_, _≤_}
 use native.Mathlib.Omega.{arith}
 use lib.ListN.{length}
 use borrow.Author.Needs.{needs}
-use Rattle.framebuffer.proofs.Windows.{ready-small}
+use Rattle.painting.proofs.Brushes.{ready-small}
 use Rattle.drawing.proofs.Figures.{none}
 use Rattle.drawing.proofs.Lines.{LineWalk, few-steps, line-ended, line-none, Walks, walks-begun, walks-on, walks-set, walks-turn}
 use Rattle.drawing.proofs.draw_slanting.Statement.{statement}

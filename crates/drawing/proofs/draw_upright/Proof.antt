@@ -14,7 +14,7 @@ use Rattle.geometry.specs.Bound.{Bounded}
 use Rattle.geometry.proofs.Bound.{coord, coord-size}
 use Rattle.line.specs.Line.{toward, major, pointAt}
 use Rattle.line.proofs.Lengths.{toward-size}
-use Rattle.framebuffer.proofs.Windows.{ready-small}
+use Rattle.painting.proofs.Brushes.{ready-small}
 use Rattle.drawing.proofs.Figures.{Along, none}
 use Rattle.drawing.proofs.Lines.{LineWalk, few-steps, may-set, line-begun, line-turn, line-ended, line-none}
 use Rattle.drawing.proofs.Level.{upright-at}

@@ -3,9 +3,9 @@ use mathlib.Core.Path.{_≡_, sym, ap, _∙_}
 use mathlib.Core.List.{List}
 use Prim.Native.Nat.{ℕ}
 use borrow.Author.Needs.{needs}
-use Rattle.framebuffer.specs.declared.Canvas.{Canvas}
-use Rattle.framebuffer.specs.declared.Drawn.{Drawn}
-use Rattle.framebuffer.specs.Canvas.{onCanvas}
+use Rattle.frames.specs.declared.Canvas.{Canvas}
+use Rattle.frames.specs.declared.Drawn.{Drawn}
+use Rattle.frames.specs.Canvas.{onCanvas}
 use Rattle.drawing.specs.declared.Figure.{Figure}
 use Rattle.drawing.specs.Drawing.{figureDrawing}
 use Rattle.drawing.proofs.figure_on.Statement.{statement}

@@ -6,7 +6,7 @@ use Rattle.whole.proofs.Machine.{back}
 use Rattle.geometry.specs.Bound.{Coord}
 use Rattle.geometry.proofs.Bound.{coord}
 use Rattle.circle.proofs.Refusals.{widest}
-use Rattle.framebuffer.proofs.Windows.{ready-small}
+use Rattle.painting.proofs.Brushes.{ready-small}
 use Rattle.drawing.proofs.fill_circle.Statement.{statement}
 use Rattle.drawing.proofs.fill_circle.Tie as tie
 

@@ -16,10 +16,10 @@ use Rattle.circle.specs.Circle.{boxRow, spanStart, spanEnd}
 use Rattle.circle.proofs.Refusals.{widest}
 use Rattle.circle.proofs.Worked.{after-fits, after-is}
 use Rattle.layout.specs.Figure.{spanFigure}
-use Rattle.framebuffer.specs.Judged.{Ready, brushed, onTop}
+use Rattle.painting.specs.Brush.{Ready, brushed, onTop}
 use Rattle.drawing.specs.Figure.{circleFigure}
 use Rattle.drawing.proofs.Circles.{circle-columns, box-row, none-before, none-after}
-use Rattle.framebuffer.proofs.Rows.{brush-sound, few-pixels, above, rows-start, rows-turn, rows-end}
+use Rattle.painting.proofs.Rows.{brush-sound, few-pixels, above, rows-start, rows-turn, rows-end}
 use Rattle.drawing.proofs.fill_circle_rows.Statement.{statement}
 use Rattle.drawing.proofs.fill_circle_rows.Tie as tie
 

@@ -22,11 +22,11 @@ use Rattle.triangle.proofs.Triangle.{upper, lower}
 use Rattle.edges.specs.declared.Row.{Row}
 use Rattle.edges.specs.Edges.{WalkAt, Rowed}
 use Rattle.layout.specs.Figure.{spanFigure}
-use Rattle.framebuffer.specs.Window.{inWindow}
-use Rattle.framebuffer.specs.Judged.{Ready, brushed, onTop}
+use Rattle.windows.specs.Window.{inWindow}
+use Rattle.painting.specs.Brush.{Ready, brushed, onTop}
 use Rattle.drawing.specs.Figure.{triangleFigure}
 use Rattle.drawing.proofs.Fill.{solid, none-above, none-below, row-columns, past-fits, row-fits, nearer, still-below}
-use Rattle.framebuffer.proofs.Rows.{brush-sound, few-pixels, above, span-off, rows-start, rows-turn, rows-end}
+use Rattle.painting.proofs.Rows.{brush-sound, few-pixels, above, span-off, rows-start, rows-turn, rows-end}
 use Rattle.drawing.proofs.fill_triangle.Statement.{statement}
 use Rattle.drawing.proofs.fill_triangle.Tie as tie
 

@@ -1,6 +1,6 @@
 -- `drawing::line_number` asks the frame's number and the colour, then the ends. Assumes nothing.
 use borrow.Author.Needs.{needs}
-use Rattle.framebuffer.proofs.Calls.{calls}
+use Rattle.painting.proofs.Brushes.{calls}
 use Rattle.drawing.proofs.line_number.Statement.{statement}
 use Rattle.drawing.proofs.line_number.Tie as tie
 

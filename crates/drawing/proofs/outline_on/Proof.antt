@@ -1,7 +1,7 @@
 -- `drawing::outline_on` answers its number, and where that is 0 draws the edges within the rectangle. Assumes nothing.
 use borrow.Author.Needs.{needs}
 use Rattle.triangle.proofs.Refusals.{is-accepted}
-use Rattle.framebuffer.proofs.Calls.{calls}
+use Rattle.painting.proofs.Brushes.{calls}
 use Rattle.drawing.proofs.outline_on.Statement.{statement}
 use Rattle.drawing.proofs.outline_on.Tie as tie
 

@@ -1,6 +1,6 @@
 -- `drawing::triangle_number` asks the frame's number and the colour, then the vertices. Assumes nothing.
 use borrow.Author.Needs.{needs}
-use Rattle.framebuffer.proofs.Calls.{calls}
+use Rattle.painting.proofs.Brushes.{calls}
 use Rattle.drawing.proofs.triangle_number.Statement.{statement}
 use Rattle.drawing.proofs.triangle_number.Tie as tie
 

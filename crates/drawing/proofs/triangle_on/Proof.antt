@@ -1,7 +1,7 @@
 -- `drawing::triangle_on` answers its number, and where that is 0 fills the rows within the rectangle. Assumes nothing.
 use borrow.Author.Needs.{needs}
 use Rattle.triangle.proofs.Refusals.{is-accepted}
-use Rattle.framebuffer.proofs.Calls.{calls}
+use Rattle.painting.proofs.Brushes.{calls}
 use Rattle.drawing.proofs.triangle_on.Statement.{statement}
 use Rattle.drawing.proofs.triangle_on.Tie as tie
 

@@ -2,7 +2,7 @@
 use mathlib.Core.Path.{sym, _∙_}
 use borrow.Author.Needs.{needs}
 use Rattle.refusals.proofs.Answer.{not-done}
-use Rattle.framebuffer.proofs.Refusals.{is-described}
+use Rattle.frames.proofs.Refusals.{is-described}
 use Rattle.framebuffer.proofs.buffer_size_bpp.Statement.{statement}
 use Rattle.framebuffer.proofs.buffer_size_bpp.Tie as tie
 

@@ -1,6 +1,6 @@
 -- `framebuffer::fill` judges its frame, and makes the call on it. Assumes nothing.
 use borrow.Author.Needs.{needs}
-use Rattle.framebuffer.proofs.Calls.{judging}
+use Rattle.frames.proofs.Calls.{judging}
 use Rattle.framebuffer.proofs.fill.Statement.{statement}
 use Rattle.framebuffer.proofs.fill.Tie as tie
 

@@ -3,7 +3,8 @@ use mathlib.Core.Path.{refl, sym, _∙_}
 use native.Mathlib.Omega.{arith}
 use borrow.Author.Needs.{needs}
 use borrow.Author.Tests.{not-false}
-use Rattle.framebuffer.proofs.Calls.{calls, whole-fits, filled-on}
+use Rattle.painting.proofs.Brushes.{calls}
+use Rattle.frames.proofs.Calls.{whole-fits, filled-on}
 use Rattle.framebuffer.proofs.fill_on.Statement.{statement}
 use Rattle.framebuffer.proofs.fill_on.Tie as tie
 
@@ -18,8 +19,8 @@ is-whole-requires : tie.Need-is-whole-requires
 is-whole-requires c κs = search needs
 
 -- accepted: a part of the frame
-brush-requires : tie.Need-brush-requires
-brush-requires c κs = search needs
+on-requires : tie.Need-on-requires
+on-requires c κs = search needs
 
 fill-rows-requires : tie.Need-fill-rows-requires
 fill-rows-requires c κs = search calls
@@ -58,7 +59,7 @@ fill-on-spec =
     colour-refusal-requires
     returns
     is-whole-requires
-    brush-requires
+    on-requires
     fill-rows-requires
     same-length
     returns-2

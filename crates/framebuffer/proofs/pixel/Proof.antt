@@ -1,6 +1,6 @@
 -- `framebuffer::pixel` judges its frame, and reads on it. Assumes nothing.
 use borrow.Author.Needs.{needs}
-use Rattle.framebuffer.proofs.Calls.{judging}
+use Rattle.frames.proofs.Calls.{judging}
 use Rattle.framebuffer.proofs.pixel.Statement.{statement}
 use Rattle.framebuffer.proofs.pixel.Tie as tie
 

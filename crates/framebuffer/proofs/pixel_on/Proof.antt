@@ -11,13 +11,15 @@ use borrow.Author.Tests.{not-true, not-false}
 use Rattle.whole.proofs.Machine.{field-back}
 use Rattle.refusals.proofs.Answer.{not-done}
 use Rattle.layout.specs.Layout.{getPixel, shown}
-use Rattle.framebuffer.specs.Answer.{read}
-use Rattle.framebuffer.specs.Canvas.{keeps, behind, readOn}
-use Rattle.framebuffer.specs.Window.{inWindow}
-use Rattle.framebuffer.proofs.Windows.{within-small, window-pos, cast-fits, point-in}
-use Rattle.framebuffer.proofs.Calls.{behind-0}
+use Rattle.frames.specs.Answer.{read}
+use Rattle.frames.specs.Canvas.{keeps, behind, readOn}
+use Rattle.windows.specs.Window.{inWindow}
+use Rattle.windows.proofs.Windows.{window-pos, cast-fits, point-in}
+use Rattle.frames.proofs.Refusals.{within-small}
+use Rattle.frames.proofs.Calls.{behind-0}
 use Rattle.framebuffer.proofs.pixel_on.Statement.{statement}
 use Rattle.framebuffer.proofs.pixel_on.Tie as tie
+use Rattle.frames.specs.Description.{described}
 
 returns : tie.Need-returns
 unfolding readOn

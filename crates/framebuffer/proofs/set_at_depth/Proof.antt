@@ -2,8 +2,8 @@
 use mathlib.Core.Path.{_∙_}
 use mir.Facts.{toZ-ofZ}
 use borrow.Author.Needs.{needs}
-use Rattle.framebuffer.specs.Drawing.{pixelOutcome}
-use Rattle.framebuffer.proofs.Calls.{judging, judged-placed}
+use Rattle.frames.specs.Drawing.{pixelOutcome}
+use Rattle.frames.proofs.Calls.{judging, judged-placed}
 use Rattle.framebuffer.proofs.set_at_depth.Statement.{statement}
 use Rattle.framebuffer.proofs.set_at_depth.Tie as tie
 

@@ -6,8 +6,8 @@ use lib.ListN.{length}
 use borrow.Author.Needs.{needs}
 use borrow.Author.Tests.{ne-eqb}
 use Rattle.layout.specs.Packed.{goodDepth}
-use Rattle.framebuffer.proofs.Refusals.{no-depth}
-use Rattle.framebuffer.proofs.Calls.{refused-pixel, pixel-apart}
+use Rattle.frames.proofs.Refusals.{no-depth}
+use Rattle.frames.proofs.Calls.{refused-pixel, pixel-apart}
 use Rattle.framebuffer.proofs.set_pixel.Statement.{statement}
 use Rattle.framebuffer.proofs.set_pixel.Tie as tie
 

@@ -1,6 +1,6 @@
 -- `framebuffer::set_pixel_on` answers its number, and where that is 0 puts the pixel within the rectangle. Assumes nothing.
 use borrow.Author.Needs.{needs}
-use Rattle.framebuffer.proofs.Calls.{calls}
+use Rattle.painting.proofs.Brushes.{calls}
 use Rattle.framebuffer.proofs.set_pixel_on.Statement.{statement}
 use Rattle.framebuffer.proofs.set_pixel_on.Tie as tie
 

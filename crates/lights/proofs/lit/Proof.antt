@@ -4,8 +4,8 @@ use native.Mathlib.Omega.{arith}
 use lib.ListN.{length}
 use borrow.Author.Needs.{needs}
 use Rattle.layout.specs.Count.{litIn}
-use Rattle.framebuffer.specs.Description.{raster}
-use Rattle.framebuffer.proofs.Refusals.{is-accepted}
+use Rattle.frames.specs.Description.{raster}
+use Rattle.frames.proofs.Refusals.{is-accepted}
 use Rattle.lights.proofs.Answers.{lit-refused, lit-other, lit-given}
 use Rattle.lights.proofs.lit.Statement.{statement}
 use Rattle.lights.proofs.lit.Tie as tie

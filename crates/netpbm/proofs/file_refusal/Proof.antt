@@ -8,7 +8,7 @@ use borrow.Author.Needs.{needs}
 use borrow.Author.Tests.{not-false}
 use Rattle.headers.specs.declared.Header.{Header}
 use Rattle.headers.proofs.Forms.{header-ends}
-use Rattle.framebuffer.specs.Description.{size}
+use Rattle.frames.specs.Description.{size}
 use Rattle.netpbm.specs.Image.{bigFirst}
 use Rattle.netpbm.specs.Written.{noFormat}
 use Rattle.netpbm.proofs.Answers.{pixels-size}

@@ -3,9 +3,9 @@ use mathlib.Core.Path.{_≡_, ap₂}
 use Prim.Native.Nat.{ℕ, _+_}
 use native.Mathlib.Omega.{arith}
 use borrow.Author.Needs.{needs}
-use Rattle.framebuffer.specs.Description.{size}
-use Rattle.framebuffer.specs.Judged.{Described}
-use Rattle.framebuffer.proofs.Refusals.{size-fits}
+use Rattle.frames.specs.Description.{size}
+use Rattle.frames.specs.Judged.{Described}
+use Rattle.frames.proofs.Refusals.{size-fits}
 use Rattle.netpbm.specs.Image.{bigFirst, imageLength}
 use Rattle.netpbm.proofs.Headers.{header-short}
 use Rattle.netpbm.proofs.Transfers.{big-described}

@@ -5,7 +5,7 @@ use native.Mathlib.Omega.{arith}
 use Prim.Native.Nat.{_*_}
 use lib.Dec.{eqb}
 use borrow.Author.Needs.{needs}
-use Rattle.framebuffer.proofs.Refusals.{product}
+use Rattle.frames.proofs.Refusals.{product}
 use Rattle.netpbm.proofs.is_run.Statement.{statement}
 use Rattle.netpbm.proofs.is_run.Tie as tie
 

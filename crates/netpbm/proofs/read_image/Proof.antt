@@ -8,10 +8,10 @@ use borrow.Author.Needs.{needs}
 use Rattle.text.proofs.Numbers.{rest-is}
 use Rattle.refusals.specs.First.{first}
 use Rattle.headers.specs.declared.Header.{Header}
-use Rattle.framebuffer.specs.declared.Frame.{Frame}
-use Rattle.framebuffer.specs.Description.{size}
-use Rattle.framebuffer.specs.Judged.{Accepted}
-use Rattle.framebuffer.proofs.Refusals.{is-accepted}
+use Rattle.frames.specs.declared.Frame.{Frame}
+use Rattle.frames.specs.Description.{size}
+use Rattle.frames.specs.Judged.{Accepted}
+use Rattle.frames.proofs.Refusals.{is-accepted}
 use Rattle.netpbm.specs.Image.{bigFirst}
 use Rattle.netpbm.specs.Written.{Writable}
 use Rattle.netpbm.specs.Reading.{loadTests}

@@ -8,9 +8,9 @@ use borrow.Author.Needs.{needs}
 use borrow.Author.Tests.{eqb-true}
 use Rattle.whole.proofs.Tests.{and-true}
 use Rattle.layout.specs.Packed.{rowBytes}
-use Rattle.framebuffer.specs.declared.Frame.{Frame}
-use Rattle.framebuffer.specs.Judged.{Described}
-use Rattle.framebuffer.proofs.Refusals.{product, size-fits, row-room}
+use Rattle.frames.specs.declared.Frame.{Frame}
+use Rattle.frames.specs.Judged.{Described}
+use Rattle.frames.proofs.Refusals.{product, size-fits, row-room}
 use Rattle.netpbm.proofs.Rows.{Transfer, row-copied, row-turned}
 use Rattle.netpbm.proofs.Formats.{has-bits}
 use Rattle.netpbm.proofs.transfer_row.Statement.{statement}

@@ -4,9 +4,9 @@ use Prim.Native.Nat.{ℕ, _-_, _*_, _≤_}
 use native.Mathlib.Omega.{arith}
 use lib.ListN.{length}
 use borrow.Author.Needs.{needs}
-use Rattle.framebuffer.specs.declared.Frame.{Frame}
-use Rattle.framebuffer.specs.Description.{size}
-use Rattle.framebuffer.proofs.Refusals.{size-fits}
+use Rattle.frames.specs.declared.Frame.{Frame}
+use Rattle.frames.specs.Description.{size}
+use Rattle.frames.proofs.Refusals.{size-fits}
 use Rattle.netpbm.specs.Words.{Alike}
 use Rattle.netpbm.proofs.Formats.{same-size}
 use Rattle.netpbm.proofs.Rows.{Transfer, run-copied, rows, no-row, one-row, all-rows}

@@ -8,7 +8,7 @@ use lib.Seq.{sets}
 use borrow.Author.Needs.{needs}
 use Rattle.text.specs.Words.{numbered}
 use Rattle.text.proofs.Writing.{Wrote, wrote-then, wrote-as}
-use Rattle.framebuffer.specs.declared.Frame.{Frame}
+use Rattle.frames.specs.declared.Frame.{Frame}
 use Rattle.headers.specs.Header.{magic, largest}
 use Rattle.netpbm.specs.Image.{header}
 use Rattle.netpbm.proofs.Headers.{sides, a-maximum, without-maximum, with-maximum, header-parts}

@@ -8,9 +8,9 @@ use lib.Seq.{length-take-le}
 use borrow.Author.Needs.{needs}
 use Rattle.refusals.specs.First.{first}
 use Rattle.refusals.proofs.Answer.{not-done}
-use Rattle.framebuffer.specs.declared.Frame.{Frame}
-use Rattle.framebuffer.specs.Answer.{sized}
-use Rattle.framebuffer.specs.Description.{size}
+use Rattle.frames.specs.declared.Frame.{Frame}
+use Rattle.frames.specs.Answer.{sized}
+use Rattle.frames.specs.Description.{size}
 use Rattle.netpbm.specs.Image.{header, bigFirst, pixels, imageBytes, imageLength}
 use Rattle.netpbm.specs.Written.{imageSizeTests, writeTests, Writable}
 use Rattle.netpbm.specs.Words.{Alike, transferred, maskedRows}

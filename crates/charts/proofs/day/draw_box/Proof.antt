@@ -3,7 +3,7 @@ use mathlib.Core.Path.{_∙_}
 use borrow.Author.Needs.{needs}
 use mir.Syntax.{w32}
 use Rattle.whole.proofs.Machine.{field-back}
-use Rattle.framebuffer.specs.Drawing.{outcome}
+use Rattle.frames.specs.Drawing.{outcome}
 use Rattle.drawing.specs.Drawing.{triangleDrawing}
 use Rattle.charts.proofs.Drawn.{bytes-of}
 use Rattle.charts.proofs.day.draw_box.Statement.{statement}

@@ -4,8 +4,8 @@ use Prim.Native.Nat.{_+_}
 use native.Mathlib.Omega.{arith}
 use lib.ListN.{drop}
 use borrow.Author.Needs.{needs}
-use Rattle.framebuffer.specs.declared.Canvas.{Canvas}
-use Rattle.framebuffer.proofs.Refusals.{judged}
+use Rattle.frames.specs.declared.Canvas.{Canvas}
+use Rattle.frames.proofs.Refusals.{judged}
 use Rattle.text.specs.Fields.{lines}
 use Rattle.text.specs.Lines.{each}
 use Rattle.text.proofs.Parting.{until-within}

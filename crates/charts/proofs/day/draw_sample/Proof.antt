@@ -5,8 +5,8 @@ use lib.ListN.{length}
 use borrow.Author.Needs.{needs}
 use Rattle.whole.proofs.Machine.{fits, read, lit, back, minus}
 use Rattle.geometry.specs.declared.Point.{Point}
-use Rattle.framebuffer.specs.Drawing.{outcome}
-use Rattle.framebuffer.proofs.Calls.{is-judged, judged-outcome}
+use Rattle.frames.specs.Drawing.{outcome}
+use Rattle.frames.proofs.Calls.{is-judged, judged-outcome}
 use Rattle.drawing.specs.Drawing.{circleDrawing}
 use Rattle.charts.specs.Picture.{spot}
 use Rattle.charts.specs.Day.{discColour}

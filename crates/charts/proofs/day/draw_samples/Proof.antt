@@ -4,7 +4,7 @@ use Prim.Native.Nat.{_-_}
 use native.Mathlib.Omega.{arith}
 use lib.ListN.{length, drop}
 use borrow.Author.Needs.{needs}
-use Rattle.framebuffer.specs.Judged.{Over}
+use Rattle.frames.specs.Judged.{Over}
 use Rattle.text.specs.declared.Place.{Place}
 use Rattle.text.specs.Fields.{lines}
 use Rattle.text.specs.Lines.{each}

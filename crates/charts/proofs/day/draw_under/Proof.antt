@@ -3,7 +3,7 @@ use mathlib.Core.Path.{ap, _∙_}
 use mathlib.Core.List.{[], _∷_}
 use lib.IntN.{pos}
 use borrow.Author.Needs.{needs}
-use Rattle.framebuffer.specs.Drawing.{outcome}
+use Rattle.frames.specs.Drawing.{outcome}
 use Rattle.drawing.specs.Drawing.{lineDrawing, triangleDrawing}
 use Rattle.charts.specs.Picture.{ground, filling, ink}
 use Rattle.charts.specs.Day.{leaves, box, under}

@@ -1,7 +1,7 @@
 -- `session::screen::first_screen` makes the description that says nothing. Assumes nothing.
 use mathlib.Core.Path.{ap}
 use borrow.Author.Needs.{needs}
-use Rattle.framebuffer.specs.declared.Frame.{Frame}
+use Rattle.frames.specs.declared.Frame.{Frame}
 use Rattle.session.specs.Screen.{screenOf}
 use Rattle.session.proofs.screen.first_screen.Statement.{statement}
 use Rattle.session.proofs.screen.first_screen.Tie as tie

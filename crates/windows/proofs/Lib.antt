@@ -1,0 +1,4 @@
+pub mod Windows
+pub mod Clips
+pub mod Interval
+pub mod Determined

@@ -12,7 +12,8 @@ use Rattle.layout.specs.Figure.{single, everywhere}
 use Rattle.frames.specs.Drawing.{Drawing}
 use Rattle.drawing.specs.declared.Figure.{Figure}
 use Rattle.drawing.specs.declared.Figure.the-variants.{Fill, Pixel, Line, Connected, Triangle, Outline, Circle}
-use Rattle.drawing.specs.Figure.{lineFigure, connectedFigure, triangleFigure, outlineFigure, circleFigure}
+use Rattle.tracing.specs.Figure.{lineFigure, connectedFigure, outlineFigure}
+use Rattle.filling.specs.Figure.{triangleFigure, circleFigure}
 
 -- "Drawing a line, a triangle, an outline: 1 to 5", and 14 behind 2 (02, T-07)
 abbrev pub lineDrawing : Point → Point → ℕ → Drawing

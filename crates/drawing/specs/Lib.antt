@@ -1,3 +1,1 @@
-pub mod Figure
-pub mod Earlier
 pub mod Drawing

@@ -15,7 +15,7 @@ use Rattle.painting.specs.Brush.{brushOf}
 use Rattle.windows.specs.Window.{inWindow}
 use Rattle.windows.proofs.Windows.{window-in}
 use Rattle.drawing.specs.Drawing.{circleDrawing}
-use Rattle.drawing.specs.Figure.{circleFigure}
+use Rattle.filling.specs.Figure.{circleFigure}
 use Rattle.drawing.proofs.circle_on.Statement.{statement}
 use Rattle.drawing.proofs.circle_on.Tie as tie
 

@@ -1,0 +1,5 @@
+pub mod Figures
+pub mod Edge
+pub mod Level
+pub mod Lines
+pub mod Outline

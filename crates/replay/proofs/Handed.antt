@@ -16,7 +16,7 @@ use Rattle.streams.specs.Run.{Ended}
 use Rattle.streams.specs.Handed.{handedAll, cameAll}
 use Rattle.streams.proofs.Answers.{seen, Room, room-before, one-more}
 use Rattle.streams.proofs.Handed.{ahead, lastLine, last-or-none, Follows, cut-short, all-handled}
-use Rattle.session.specs.Files.{Buffers}
+use Rattle.files.specs.Files.{Buffers}
 use Rattle.session.specs.Lines.{Left, Session, answer, answered, room}
 use Rattle.replay.specs.Session.{told, output, Work, bytes, first, afterLines, afterLast}
 use Rattle.replay.proofs.Parts.{told-enough}

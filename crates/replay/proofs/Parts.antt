@@ -10,9 +10,9 @@ use lib.Seq.{take-all}
 use borrow.Author.Tests.{leb-true, leb-false}
 use Rattle.text.specs.Lines.{whole, streamed}
 use Rattle.text.proofs.Streaming.{streamed-is}
-use Rattle.session.specs.Files.{Buffers}
+use Rattle.files.specs.Files.{Buffers}
 use Rattle.session.specs.Lines.{Left, answer}
-use Rattle.session.specs.Screen.{start}
+use Rattle.screens.specs.Screen.{start}
 use Rattle.session.proofs.Answers.{answer-long}
 use Rattle.replay.specs.Session.{told, output}
 

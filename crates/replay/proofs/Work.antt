@@ -9,10 +9,10 @@ use Rattle.streams.specs.declared.State.{State}
 use Rattle.streams.specs.State.{Within, Standing, started}
 use Rattle.streams.proofs.Refilling.{there-is}
 use Rattle.streams.proofs.Turns.{Kept, Going, going-first}
-use Rattle.session.specs.declared.screen.Screen.{Screen}
-use Rattle.session.specs.Files.{Buffers}
+use Rattle.screens.specs.declared.Screen.{Screen}
+use Rattle.files.specs.Files.{Buffers}
 use Rattle.session.specs.Lines.{Session, answered, room}
-use Rattle.session.specs.Screen.{start}
+use Rattle.screens.specs.Screen.{start}
 use Rattle.session.proofs.Lent.{lines-lent}
 use Rattle.replay.specs.Session.{Work, bytes, Sound, first, afterLines}
 

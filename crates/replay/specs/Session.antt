@@ -8,8 +8,8 @@ use Rattle.text.specs.Lines.{over}
 use Rattle.streams.specs.declared.State.{State}
 use Rattle.streams.specs.State.{standsAt, lastIs}
 use Rattle.session.specs.Lines.{Left, Session, answer, answered, afterAll}
-use Rattle.session.specs.Screen.{start}
-use Rattle.session.specs.Files.{Buffers}
+use Rattle.screens.specs.Screen.{start}
+use Rattle.files.specs.Files.{Buffers}
 
 -- the answers to the lines, from the first screen on
 abbrev pub told : List ℕ × Left → List ℕ → List ℕ × Left

@@ -6,7 +6,7 @@ ghost use lib.ListN.{length};
 ghost use Rattle.streams.specs.State.{Standing};
 ghost use Rattle.streams.specs.Run.{Ended};
 ghost use Rattle.replay.specs.Session.{bytes, Sound, first, afterLines, afterLast};
-use session::Screen;
+use screens::Screen;
 use streams::State;
 
 // Where the program stands, and the screen that the lines left.
@@ -69,7 +69,7 @@ fn run(input: &mut [u8], memory: &mut [u8], file: &mut [u8], out: &mut [u8]) -> 
     ensures { λ r. ⌜ Ended bytes afterLines afterLast (first (now (out .entry)) (now (memory .entry), now (file .entry))) r (now (input .exit)) (now (out .exit)) ⌝ }
 {
     let mut st = streams::start();
-    let mut screen = session::first_screen();
+    let mut screen = screens::first_screen();
     while streams::goes_on(st) {
         let reached = answer_some(input, memory, file, out, st, screen);
         screen = reached.screen;

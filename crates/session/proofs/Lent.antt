@@ -13,10 +13,10 @@ use Rattle.text.proofs.Streaming.{handled-keeps}
 use Rattle.readers.specs.Figures.{isLast, ofOne, ofTwo}
 use Rattle.readers.proofs.Letters.{meant-each}
 use Rattle.protocol.specs.Reply.{badLine}
-use Rattle.session.specs.declared.screen.Screen.{Screen}
+use Rattle.screens.specs.declared.Screen.{Screen}
 use Rattle.session.specs.Lines.{Left, Session, wordOf, shownTable, lineAnswer, answer, answered, room}
-use Rattle.session.specs.Screen.{after, framed, frameTurn, nextScreen, turnTable, response}
-use Rattle.session.specs.Files.{Buffers, fileTable, act}
+use Rattle.screens.specs.Screen.{after, framed, frameTurn, nextScreen, turnTable, response}
+use Rattle.files.specs.Files.{Buffers, fileTable, act}
 
 screen-lent : (said : List ℕ) (at : ℕ) → nextScreen said at .ok ≡ true → nextScreen said at .screen .lent ≤ 65536
 unfolding nextScreen ofOne ofTwo

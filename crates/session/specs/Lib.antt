@@ -1,4 +1,2 @@
 pub mod Words
-pub mod Screen
-pub mod Files
 pub mod Lines

@@ -8,11 +8,11 @@ use lib.Seq.{sets}
 use Rattle.text.specs.Fields.{until}
 use Rattle.text.specs.Lines.{handled}
 use Rattle.readers.specs.Words.{meant}
-use Rattle.session.specs.declared.screen.Screen.{Screen}
-use Rattle.session.specs.declared.screen.Turn.{Turn}
+use Rattle.screens.specs.declared.Screen.{Screen}
+use Rattle.screens.specs.declared.Turn.{Turn}
 use Rattle.protocol.specs.Dump.{dumpLine}
 use Rattle.protocol.specs.Reply.{badLine, replyLine}
-use Rattle.session.specs.Files.{Buffers, act}
+use Rattle.files.specs.Files.{Buffers, act}
 use Rattle.session.specs.Words.{dumpWord, fileWord}
 
 -- what a line leaves: the screen, and the bytes of both buffers

@@ -8,7 +8,7 @@ use borrow.Author.Needs.{needs}
 use Rattle.streams.specs.declared.State.{State}
 use Rattle.streams.specs.State.{goesOn}
 use Rattle.streams.proofs.Turns.{Kept, may-read, turns-fewer, going-on, over}
-use Rattle.session.specs.Files.{Buffers}
+use Rattle.files.specs.Files.{Buffers}
 use Rattle.replay.specs.Session.{Work, bytes, Sound, first, afterLines, afterLast}
 use Rattle.replay.proofs.Work.{Runs, begins, lines-keep}
 use Rattle.replay.proofs.run.Statement.{statement}

@@ -11,7 +11,7 @@ use denote.Ref.{now}
 use Rattle.text.specs.Lines.{over}
 use Rattle.text.proofs.Streaming.{handled-over}
 use Rattle.streams.specs.declared.State.{State}
-use Rattle.streams.specs.State.{standsAt, lastIs}
+use Rattle.streams.specs.State.{standsAt}
 use Rattle.streams.specs.Run.{Ran, begun, turn, Ended}
 use Rattle.streams.specs.Handed.{handed, handedAll, cameAll}
 use Rattle.streams.proofs.Refilling.{front}

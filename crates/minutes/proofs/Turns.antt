@@ -2,7 +2,7 @@
 use mathlib.Core.Path.{_≡_, sym, ap, ap₂, subst, _∙_}
 use mathlib.Core.Bool.{Bool, true, false, cond, not, _&&_}
 use mathlib.Core.List.{List}
-use Prim.Native.Nat.{ℕ, _≤_, _<_}
+use Prim.Native.Nat.{ℕ}
 use native.Mathlib.Omega.{arith}
 use lib.ListN.{length, take}
 use lib.Seq.{sets, length-take-le}
@@ -12,7 +12,6 @@ use Rattle.streams.specs.State.{Within, started, goesOn, standsAt}
 use Rattle.streams.specs.Refill.{Refilled}
 use Rattle.streams.specs.Run.{Ran, begun, turn}
 use Rattle.streams.proofs.Refilling.{refilled-within}
-use Rattle.streams.proofs.Turns.{some-turns, refilled-turns}
 use Rattle.reports.specs.declared.Count.{Count}
 use Rattle.reports.specs.declared.Tally.{Tally}
 use Rattle.reports.specs.Minutes.{fresh, takeLine, always, countLine}

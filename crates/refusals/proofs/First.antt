@@ -7,7 +7,7 @@ use mathlib.Core.Logic.{_↔_}
 use Prim.Native.Nat.{ℕ, zero, suc}
 use native.Mathlib.Omega.{arith}
 use lib.Dec.{eqb}
-use borrow.Author.Tests.{eqb-true, eqb-false, eq-eqb, ne-eqb, not-true}
+use borrow.Author.Tests.{eqb-false, not-true}
 use Rattle.whole.proofs.Tests.{and-true}
 use Rattle.refusals.specs.First.{Tests, first, numbered}
 use Rattle.refusals.specs.Answer.{ifDone}

@@ -6,7 +6,7 @@ use Prim.Native.Nat.{ℕ, _+_, _-_, _≤_, _<_}
 use native.Mathlib.Omega.{arith}
 use lib.Dec.{ltb}
 use lib.ListN.{length, take, drop, length-take, length-drop, take-append-drop, drop-of-length-le}
-use lib.Seq.{sets, take-all, take-take, take-at}
+use lib.Seq.{take-all, take-take}
 use borrow.Author.Tests.{ltb-true, ltb-false}
 use Rattle.text.specs.Fields.{until, lines as parted}
 use Rattle.text.specs.Lines.{lineEnd, each, over}
@@ -16,10 +16,9 @@ use Rattle.text.proofs.Writing.{drop-take}
 use Rattle.streams.specs.declared.State.{State}
 use Rattle.streams.specs.State.{standsAt, emptied, written, lastIs}
 use Rattle.streams.specs.Refill.{whole, rest, ReadOn, Refilled}
-use Rattle.streams.specs.Answers.{bytes, said, output, afterLines, afterLast}
 use Rattle.streams.specs.Run.{Ran, begun, turn, Ended}
 use Rattle.streams.specs.Handed.{flushed, brought, handed, came, handedAll, cameAll}
-use Rattle.streams.proofs.Answers.{refilled-at, seen, one-more, lines-said}
+use Rattle.streams.proofs.Answers.{refilled-at}
 use Rattle.streams.proofs.Turns.{still-goes}
 
 -- what is still to be looked at
@@ -235,46 +234,3 @@ module _ {O S : Type 0} (bytes : O → List ℕ) (lines last : List ℕ → Stat
             ∙ ap (over f (view (handed (e .ran)) (e .st .at) (e .left))) (append-nil (ahead input (e .st)))
             ∙ at-end
             ∙ all-moved
-
--- ---- a program that answers every line, and works on nothing but its output's bytes
-module _ (answer : List ℕ → List ℕ) (most : ℕ) (enough : (line : List ℕ) → answer line ≡ answer (take 129 line)) (first : List ℕ) where
-  abbrev saw : List ℕ → ℕ → List ℕ → List ℕ
-  saw before at out = seen before (at, out)
-
-  answers-follow : Follows bytes (afterLines answer most) (afterLast answer) first (said answer) saw
-  answers-follow = record {
-    enough = λ s line. ap (λ (a : List ℕ). s ++ a) (enough line);
-    moved = λ before at out. sym (append-nil (before ++ take at out));
-    goes = λ before input more st out fits. lines-said answer most before (take (st .end) input) more (length (take (st .end) input)) (st .next) (st .at, out) fits;
-    keeps = λ input st out. refl;
-    ends = λ before input st out fits e. rw e (one-more (st .at, out) (answer (lastLine input st)) (rw e at fits) before);
-    stays = λ before input st out e. rw e;
-    last-keeps = λ input st out. last-or-none st (st .at + length (answer (lastLine input st))) (sets out (st .at) (answer (lastLine input st))) out (lastIs st);
-  }
-
-  -- what was said before comes first
-  said-behind : (before : List ℕ) (ls : List (List ℕ)) → each (said answer) before ls ≡ before ++ each (said answer) [] ls
-  said-behind before [] = sym (append-nil before)
-  said-behind before (l ∷ ls) =
-      said-behind (before ++ answer l) ls
-      ∙ append-assoc before (answer l) (each (said answer) [] ls)
-      ∙ ap (λ (t : List ℕ). before ++ t) (sym (said-behind (answer l) ls))
-
-  -- at the end of a run that read its input to the end the bytes that were handed to `write` are the answers to the lines of what came
-  pub hands-over-the-answers : (r : State) (input out : List ℕ) (e : Ended bytes (afterLines answer most) (afterLast answer) first r input out)
-      → r .more ≡ false → r .unread ≡ false
-      → handedAll e ≡ output answer (cameAll e)
-  hands-over-the-answers r input out e no-more no-failure =
-      sym (append-nil (handedAll e))
-      ∙ sym (all-handled bytes (afterLines answer most) (afterLast answer) first (said answer) saw answers-follow r input out e no-more no-failure)
-
-  -- at the end of one that did not they are the front of the answers, whatever else was to come
-  pub hands-over-no-other : (r : State) (input out : List ℕ) (e : Ended bytes (afterLines answer most) (afterLast answer) first r input out)
-      → (not (r .more) && not (r .unread)) ≡ false → (more : List ℕ) → take (length (handedAll e)) (output answer (cameAll e ++ more)) ≡ handedAll e
-  hands-over-no-other r input out e early more =
-      let left : List ℕ = ahead input (e .st) ++ more in
-      ap (take (length (handedAll e)))
-      (cut-short bytes (afterLines answer most) (afterLast answer) first (said answer) saw answers-follow r input out e early more
-      ∙ ap (λ (s : List ℕ). over (said answer) s left) (append-nil (handedAll e))
-      ∙ said-behind (handedAll e) (parted left))
-      ∙ take-at (handedAll e) (output answer left) (length (handedAll e)) refl

@@ -1,5 +1,5 @@
 -- What a program has handed to `write` and what has come to it from `read`: turn by turn, and at the end of its run.
-use mathlib.Core.Bool.{Bool, cond}
+use mathlib.Core.Bool.{cond}
 use mathlib.Core.List.{List, [], _++_}
 use Prim.Native.Nat.{ℕ}
 use lib.Dec.{ltb}

@@ -4,7 +4,7 @@ use Prim.Native.Nat.{ℕ, _+_, _-_, _≤_}
 use native.Mathlib.Omega.{arith}
 use lib.ListN.{length}
 use borrow.Author.Needs.{needs}
-use Rattle.text.specs.Fields.{fields, fieldEnd}
+use Rattle.text.specs.Fields.{fields}
 use Rattle.text.proofs.Parting.{fieldsFrom, from-start, part-end-within}
 use Rattle.readers.specs.Words.{placeOf}
 use Rattle.readers.proofs.Letters.{word-here, word-other, word-none, compared}

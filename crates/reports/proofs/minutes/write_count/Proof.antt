@@ -1,6 +1,6 @@
 -- `reports::minutes::write_count` makes the tests of `countLine`. Assumes nothing.
 use native.Mathlib.Omega.{arith}
-use mir.Syntax.{w32, w64}
+use mir.Syntax.{w64}
 use mir.Val.{Fits}
 use borrow.Author.Needs.{needs}
 use Rattle.text.proofs.Showing.{counted-short}

@@ -3,7 +3,7 @@ use mathlib.Core.Path.{_∙_}
 use mathlib.Core.List.{_++_}
 use native.Mathlib.Omega.{arith}
 use Rattle.text.specs.Words.{numbered}
-use Rattle.text.proofs.Writing.{Wrote, wrote-then}
+use Rattle.text.proofs.Writing.{wrote-then}
 use Rattle.reports.proofs.Counting.{pair-length}
 use Rattle.reports.proofs.minutes.write_pair.Statement.{statement}
 use Rattle.reports.proofs.minutes.write_pair.Tie as tie

@@ -1,3 +1,4 @@
+/* SPDX-License-Identifier: MIT OR Apache-2.0 */
 /*
  * Beamacorn: lines, triangles, circles, packed frames and image files of them, exact for every input. docs/RULES.md has the rules.
  *
@@ -26,10 +27,10 @@
 #include <stdint.h>
 
 /* The version of this header and of the library, as in CHANGELOG.md. */
-#define BEAMACORN_VERSION "0.4.1"
+#define BEAMACORN_VERSION "0.4.2"
 #define BEAMACORN_VERSION_MAJOR 0
 #define BEAMACORN_VERSION_MINOR 4
-#define BEAMACORN_VERSION_PATCH 1
+#define BEAMACORN_VERSION_PATCH 2
 
 #if defined BEAMACORN_STRICT && defined __GNUC__ && !defined __cplusplus
 #define BEAMACORN_BEHIND_THE_NUMBER __attribute__((deprecated("no with a refusal too: ask beamacorn_says")))
@@ -59,6 +60,33 @@ enum {
     BEAMACORN_OTHER_SIZE = 13,    /* the file's picture is not as wide and as high as the frame */
     BEAMACORN_BAD_DISTANCE = 14   /* the row distance is less than a row takes, or above 16,384 */
 };
+
+/*
+ * What a number says, in words for a message; of one that is not in the table, that it is not.
+ *
+ *     fprintf(stderr, "refused with %" PRIu32 ": %s\n", call.number, beamacorn_reason(call.number));
+ */
+static inline const char *beamacorn_reason(uint32_t number)
+{
+    switch (number) {
+    case BEAMACORN_DONE: return "done";
+    case BEAMACORN_BAD_DEPTH: return "the depth is not 1, 2, 4, 8, 16, 24 or 32";
+    case BEAMACORN_TOO_LARGE: return "the frame's width or height is above 2048";
+    case BEAMACORN_SHORT_BUFFER: return "the buffer is too short";
+    case BEAMACORN_BAD_COLOUR: return "the colour does not fit the depth";
+    case BEAMACORN_OUT_OF_BOUNDS: return "a coordinate is outside -131072 to 131071";
+    case BEAMACORN_CIRCLE_TOO_FAR: return "the circle's box ends past 131072";
+    case BEAMACORN_PAST_LAST_STEP: return "the step is past the line's last";
+    case BEAMACORN_OUTSIDE_FRAME: return "the pixel is outside the frame";
+    case BEAMACORN_SHORT_OUTPUT: return "the output is too short";
+    case BEAMACORN_UNFIT_FRAME: return "the frame's depth or size is not taken";
+    case BEAMACORN_BAD_HEADER: return "the file's header is not taken";
+    case BEAMACORN_SHORT_FILE: return "the file has too few pixels";
+    case BEAMACORN_OTHER_SIZE: return "the file's picture has another size";
+    case BEAMACORN_BAD_DISTANCE: return "the rows are too close or too far apart";
+    default: return "a number that is not in the table";
+    }
+}
 
 /* ---- Questions on lines, triangles and circles ---- */
 

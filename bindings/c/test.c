@@ -130,6 +130,22 @@ static void circles(void)
     CHECK(is_verdict(beamacorn_circle_contains(-131073, 0, 1, 0, 0), 5, false));
 }
 
+/* Words of its own for each number of the table, and one for all that are in none. */
+static void reasons(void)
+{
+    const char *unknown = beamacorn_reason(BEAMACORN_BAD_DISTANCE + 1);
+
+    CHECK(strcmp(beamacorn_reason(BEAMACORN_DONE), "done") == 0);
+    CHECK(strcmp(beamacorn_reason(BEAMACORN_OUT_OF_BOUNDS), "a coordinate is outside -131072 to 131071") == 0);
+    CHECK(strcmp(beamacorn_reason(UINT32_MAX), unknown) == 0);
+    for (uint32_t number = BEAMACORN_DONE; number <= BEAMACORN_BAD_DISTANCE; ++number) {
+        CHECK(strcmp(beamacorn_reason(number), unknown) != 0);
+        for (uint32_t other = BEAMACORN_DONE; other < number; ++other) {
+            CHECK(strcmp(beamacorn_reason(number), beamacorn_reason(other)) != 0);
+        }
+    }
+}
+
 static void verdicts(void)
 {
     CHECK(beamacorn_says(beamacorn_circle_contains(0, 0, 3, 1, 0)) == BEAMACORN_SAYS_YES);
@@ -493,6 +509,7 @@ int main(void)
     connected_lines();
     triangles();
     circles();
+    reasons();
     verdicts();
     frames();
     drawing();

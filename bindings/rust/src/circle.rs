@@ -28,6 +28,36 @@ impl Circle {
         Circle { top_left, diameter }
     }
 
+    /// The circle of that diameter around a pixel. An even diameter has four pixels in the middle: the centre is then the upper left of them. The corner is a
+    /// difference that stops at the ends of `i32`, as those of [points](Point) do.
+    ///
+    /// ```
+    /// use beamacorn::{Circle, Point};
+    ///
+    /// assert_eq!(Circle::with_center(Point::new(10, 20), 5), Circle::new(Point::new(8, 18), 5));
+    /// assert_eq!(Circle::with_center(Point::new(10, 20), 6), Circle::new(Point::new(8, 18), 6));
+    /// ```
+    pub const fn with_center(center: Point, diameter: u32) -> Self {
+        let before = before_center(diameter);
+        let top_left = Point::new(center.x.saturating_sub_unsigned(before), center.y.saturating_sub_unsigned(before));
+        Circle { top_left, diameter }
+    }
+
+    /// The pixel in the middle; of an even diameter, which has four there, the upper left. Of diameter 0 it is the corner. It has an answer whether the circle is
+    /// accepted or not, and stops at the ends of `i32`.
+    ///
+    /// ```
+    /// use beamacorn::{Circle, Point};
+    ///
+    /// for diameter in 0..9 {
+    ///     assert_eq!(Circle::with_center(Point::new(10, 20), diameter).center(), Point::new(10, 20));
+    /// }
+    /// ```
+    pub const fn center(&self) -> Point {
+        let before = before_center(self.diameter);
+        Point::new(self.top_left.x.saturating_add_unsigned(before), self.top_left.y.saturating_add_unsigned(before))
+    }
+
     /// Whether the circle contains the pixel.
     ///
     /// # Errors
@@ -83,4 +113,9 @@ impl Circle {
     pub fn translate(&self, by: Point) -> Self {
         Circle { top_left: self.top_left + by, ..*self }
     }
+}
+
+/// How many columns, or rows, of a circle's box lie before its centre.
+const fn before_center(diameter: u32) -> u32 {
+    diameter.saturating_sub(1) / 2
 }

@@ -80,5 +80,5 @@ pub use line::Line;
 pub use point::Point;
 pub use points::Points;
 pub use rectangle::{Rectangle, Size};
-pub use refusal::Refusal;
+pub use refusal::{NoRefusal, Refusal};
 pub use triangle::Triangle;

@@ -2,7 +2,7 @@ use crate::{Point, Points, Rectangle, Refusal, library, points::Walked};
 
 /// A line of pixels from its start to its end.
 ///
-/// Which pixels it has depends on the end that it starts from: halfway between two pixels it takes the one behind.
+/// Which pixels it has depends on the end that it starts from: halfway between two pixels it takes the one nearer to its start.
 ///
 /// ```
 /// use beamacorn::{Line, Point};
@@ -26,6 +26,34 @@ impl Line {
     /// The line from `start` to `end`.
     pub const fn new(start: Point, end: Point) -> Self {
         Line { start, end }
+    }
+
+    /// The line from `start` to `start + delta`, a sum that stops at the ends of `i32`, as those of [points](Point) do.
+    ///
+    /// ```
+    /// use beamacorn::{Line, Point};
+    ///
+    /// let line = Line::with_delta(Point::new(10, 20), Point::new(20, -20));
+    /// assert_eq!(line, Line::new(Point::new(10, 20), Point::new(30, 0)));
+    /// ```
+    pub const fn with_delta(start: Point, delta: Point) -> Self {
+        // The operator is no constant function.
+        let end = Point::new(start.x.saturating_add(delta.x), start.y.saturating_add(delta.y));
+        Line { start, end }
+    }
+
+    /// The place halfway from the start to the end; of two that are, the one nearer to the start, column and row each by itself. It need not be a point of the
+    /// line, and has an answer whether the line is accepted or not.
+    ///
+    /// ```
+    /// use beamacorn::{Line, Point};
+    ///
+    /// let line = Line::new(Point::new(0, 0), Point::new(5, -3));
+    /// assert_eq!(line.midpoint(), Point::new(2, -1));
+    /// assert_eq!(Line::new(line.end, line.start).midpoint(), Point::new(3, -2));
+    /// ```
+    pub const fn midpoint(&self) -> Point {
+        Point::new(halfway(self.start.x, self.end.x), halfway(self.start.y, self.end.y))
     }
 
     /// How many points the line has: one more than the larger of its width and its height.
@@ -93,4 +121,9 @@ impl Line {
     pub fn translate(&self, by: Point) -> Self {
         Line { start: self.start + by, end: self.end + by }
     }
+}
+
+/// The number halfway from one to another, nearer to the first: it lies between them, so that it is an `i32` too.
+const fn halfway(from: i32, to: i32) -> i32 {
+    (from as i64 + (to as i64 - from as i64) / 2) as i32
 }

@@ -10,7 +10,14 @@ use core::{error::Error, fmt, num::NonZeroU32};
 /// assert_eq!(refusal.number(), 6);
 /// ```
 ///
-/// It is shown alike by `{}` and `{:?}`, so that an `unwrap` that fails says why.
+/// It is shown alike by `{}` and `{:?}`, so that an `unwrap` that fails says why. A number that was kept, or that a function of C answered, is made one again:
+///
+/// ```
+/// # use beamacorn::Refusal;
+/// assert_eq!(Refusal::try_from(6), Ok(Refusal::CIRCLE_TOO_FAR));
+/// assert_eq!(Refusal::try_from(0).unwrap_err().to_string(), "0 is the number of no refusal");
+/// assert!(Refusal::try_from(15).is_err());
+/// ```
 #[derive(Clone, Copy, Eq, Hash, PartialEq)]
 pub struct Refusal(NonZeroU32);
 
@@ -57,6 +64,29 @@ impl Refusal {
         }
     }
 }
+
+/// A number that is none of the table of refusals: 0, which is no refusal, or one past the last.
+#[derive(Clone, Copy, Debug, Eq, Hash, PartialEq)]
+pub struct NoRefusal(u32);
+
+impl TryFrom<u32> for Refusal {
+    type Error = NoRefusal;
+
+    fn try_from(number: u32) -> Result<Self, NoRefusal> {
+        match NonZeroU32::new(number) {
+            Some(known) if number <= Refusal::BAD_DISTANCE.number() => Ok(Refusal(known)),
+            _ => Err(NoRefusal(number)),
+        }
+    }
+}
+
+impl fmt::Display for NoRefusal {
+    fn fmt(&self, f: &mut fmt::Formatter<'_>) -> fmt::Result {
+        write!(f, "{} is the number of no refusal", self.0)
+    }
+}
+
+impl Error for NoRefusal {}
 
 impl fmt::Display for Refusal {
     fn fmt(&self, f: &mut fmt::Formatter<'_>) -> fmt::Result {

@@ -29,7 +29,7 @@ impl Triangle {
     /// use beamacorn::{Point, Triangle};
     ///
     /// let places = [(0, 0), (4, 2), (2, 1)].map(Point::from);
-    /// assert_eq!(Triangle::from_slice(&places), Some(Triangle::new(places[0], places[1], places[2])));
+    /// assert_eq!(Triangle::from_slice(&places), Some(Triangle::from(places)));
     /// assert_eq!(Triangle::from_slice(&places[1..]), None);
     /// ```
     pub fn from_slice(vertices: &[Point]) -> Option<Self> {
@@ -108,5 +108,17 @@ impl Triangle {
     #[must_use]
     pub fn translate(&self, by: Point) -> Self {
         Triangle { vertices: self.vertices.map(|vertex| vertex + by) }
+    }
+}
+
+/// ```
+/// use beamacorn::{Point, Triangle};
+///
+/// let [a, b, c] = [(0, 0), (4, 2), (2, 1)].map(Point::from);
+/// assert_eq!(Triangle::from([a, b, c]), Triangle::new(a, b, c));
+/// ```
+impl From<[Point; 3]> for Triangle {
+    fn from(vertices: [Point; 3]) -> Self {
+        Triangle { vertices }
     }
 }

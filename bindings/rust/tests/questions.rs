@@ -50,6 +50,25 @@ fn a_walk_has_no_more_points_after_its_end() {
     assert_eq!((walk.next(), walk.len()), (None, 0));
 }
 
+#[test]
+fn skipping_leads_to_the_points_of_a_walk() {
+    fn check(walk: impl ExactSizeIterator<Item = Point> + Clone) {
+        let points: Vec<Point> = walk.clone().collect();
+        for n in 0..points.len() + 3 {
+            let mut skipping = walk.clone();
+            assert_eq!(skipping.nth(n), points.get(n).copied());
+            assert_eq!(skipping.len(), points.len().saturating_sub(n + 1));
+            assert_eq!(skipping.nth(1), points.get(n + 2).copied());
+        }
+        let mut skipping = walk;
+        assert_eq!((skipping.nth(usize::MAX), skipping.next()), (None, None));
+    }
+    for end in [(0, 0), (5, 2), (-7, 40), (-9, -9)] {
+        check(Line::new(Point::zero(), end.into()).points().unwrap());
+        check(ConnectedLine::new(Point::zero(), end.into()).points().unwrap());
+    }
+}
+
 /// The connected lines from (0, 0) to every place around it.
 fn connected_lines() -> impl Iterator<Item = ConnectedLine> {
     let ends = (-6..=6).flat_map(|y| (-6..=6).map(move |x| Point::new(x, y)));
@@ -194,6 +213,10 @@ fn every_refusal_has_its_number_and_says_why() {
     ];
     for (number, (refusal, why)) in (1..).zip(table) {
         assert_eq!((refusal.number(), refusal.to_string()), (number, format!("refused with {number}: {why}")));
+        assert_eq!(Refusal::try_from(number), Ok(refusal));
+    }
+    for number in [0, 15, u32::MAX] {
+        assert_eq!(Refusal::try_from(number).unwrap_err().to_string(), format!("{number} is the number of no refusal"));
     }
 }
 
@@ -218,6 +241,67 @@ fn the_points_of_a_figure_are_those_that_it_contains() {
     for diameter in 0..12 {
         let circle = Circle::new(Point::new(-3, -2), diameter);
         check(&circle, circle.points().unwrap());
+    }
+}
+
+#[test]
+fn a_figure_knows_how_many_pixels_are_left() {
+    fn check(mut points: FilledPoints) {
+        let all: Vec<Point> = points.clone().collect();
+        for left in (0..all.len()).rev() {
+            assert!(points.next().is_some());
+            assert_eq!(points.size_hint(), (left, Some(left)));
+            assert_eq!(points.clone().count(), left);
+        }
+        assert_eq!((points.next(), points.size_hint()), (None, (0, Some(0))));
+    }
+    for vertices in [[(0, 0), (4, 2), (2, 1)], [(5, -3), (-4, 1), (2, 6)], [(3, 3), (3, 3), (3, 3)]] {
+        check(triangle(vertices).points().unwrap());
+    }
+    for diameter in 0..12 {
+        check(Circle::new(Point::new(-3, -2), diameter).points().unwrap());
+    }
+    let largest = triangle([(-131_072, -131_072), (131_071, -131_072), (-131_072, 131_071)]);
+    assert_eq!(largest.points().unwrap().size_hint().1, Some(262_144 * 262_145 / 2));
+}
+
+#[test]
+fn sums_and_multiples_of_places_stop_at_the_ends() {
+    let [low, high] = [Point::new(i32::MIN, i32::MIN), Point::new(i32::MAX, i32::MAX)];
+    let mut place = high;
+    place += high;
+    assert_eq!((place, high * 2, low * -1, -low, low - high), (high, high, high, high, low));
+    place -= Point::new(1, 0);
+    assert_eq!(place, Point::new(i32::MAX - 1, i32::MAX));
+    assert_eq!((Point::new(3, -4) * 0, -Point::zero()), (Point::zero(), Point::default()));
+    assert_eq!(Line::with_delta(high, Point::new(1, -1)).end, Point::new(i32::MAX, i32::MAX - 1));
+    assert_eq!(Circle::with_center(low, u32::MAX).top_left, low);
+    assert_eq!(Circle::new(high, u32::MAX).center(), high);
+}
+
+#[test]
+fn the_middle_of_a_line_is_as_far_from_both_ends_or_nearer_to_the_start() {
+    for end in (-9..10).flat_map(|y| (-9..10).map(move |x| Point::new(x, y))) {
+        let start = Point::new(3, -2);
+        let middle = Line::new(start, end).midpoint();
+        let [before, behind] = [middle - start, end - middle];
+        for (before, behind) in [(before.x, behind.x), (before.y, behind.y)] {
+            assert!([0, 1].contains(&(behind.abs() - before.abs())) && before.signum() * behind.signum() >= 0);
+        }
+    }
+    let widest = Line::new(Point::new(i32::MIN, i32::MAX), Point::new(i32::MAX, i32::MIN));
+    assert_eq!(widest.midpoint(), Point::new(-1, 0));
+}
+
+#[test]
+fn a_circle_around_a_place_lies_as_far_to_both_sides_or_one_further_behind_it() {
+    for diameter in 1..40 {
+        let circle = Circle::with_center(Point::new(-3, 8), diameter);
+        let bounding_box = circle.bounding_box().unwrap();
+        for (middle, range) in [(-3, bounding_box.columns()), (8, bounding_box.rows())] {
+            assert_eq!(range.end - 1 - middle - (middle - range.start), 1 - diameter as i32 % 2);
+        }
+        assert_eq!((circle.center(), circle.contains(circle.center())), (Point::new(-3, 8), Ok(true)));
     }
 }
 

@@ -1,8 +1,8 @@
 //! The trait that framebuffer.rs implements.
 
-use crate::{pixelcolor::PixelColor, primitives::Rectangle, Pixel};
+use crate::{geometry::Dimensions, pixelcolor::PixelColor, primitives::Rectangle, Pixel};
 
-pub trait DrawTarget {
+pub trait DrawTarget: Dimensions {
     type Color: PixelColor;
     type Error;
 

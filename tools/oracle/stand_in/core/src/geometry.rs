@@ -137,6 +137,12 @@ pub trait OriginDimensions {
     fn size(&self) -> Size;
 }
 
+impl<T: OriginDimensions> Dimensions for T {
+    fn bounding_box(&self) -> Rectangle {
+        unimplemented!()
+    }
+}
+
 pub enum AnchorPoint {}
 
 pub enum AnchorX {}

@@ -22,7 +22,7 @@ use Rattle.netpbm.specs.Written.{noFormat}
 use Rattle.netpbm.specs.Reading.{otherSize, fewPixels, fileTests, loadTests, filePicture, loaded}
 
 -- ---- the tests of a file, by a header that is its own
-abbrev few : Frame → ℕ → Header → Tests
+abbrev pub few : Frame → ℕ → Header → Tests
 few f bytes h = (12, fewPixels f bytes h) ∷ []
 
 abbrev sized-and-few : Frame → ℕ → Header → Tests
@@ -54,11 +54,17 @@ module _ (f : Frame) (s : List ℕ) {h : Header} (e : h ≡ headerOf (f .depth) 
       other-size t = with-header (stops 13 (otherSize f h) (few f (length s) h) t)
 
       module _ (t₃ : otherSize f h ≡ false) where
-        pub too-few : length s < h .start + size (bigFirst f) → 12 ≡ first (fileTests f s)
-        too-few l = with-header (goes-on 13 (otherSize f h) (few f (length s) h) t₃ (stops 12 _ [] (lt-ltb (length s) (h .start + size (bigFirst f)) l)))
+        -- the pixels decide
+        pub by-pixels : {r : ℕ} → r ≡ first (few f (length s) h) → r ≡ first (fileTests f s)
+        by-pixels k = with-header (goes-on 13 (otherSize f h) (few f (length s) h) t₃ k)
 
-        pub enough-pixels : h .start + size (bigFirst f) ≤ length s → 0 ≡ first (fileTests f s)
-        enough-pixels l = with-header (goes-on 13 (otherSize f h) (few f (length s) h) t₃ (goes-on 12 _ [] (le-ltb (length s) (h .start + size (bigFirst f)) l) refl))
+-- too few of them, or enough
+module _ (f : Frame) (bytes : ℕ) (h : Header) where
+  pub too-few : bytes < h .start + size (bigFirst f) → 12 ≡ first (few f bytes h)
+  too-few l = stops 12 _ [] (lt-ltb bytes (h .start + size (bigFirst f)) l)
+
+  pub enough-pixels : h .start + size (bigFirst f) ≤ bytes → 0 ≡ first (few f bytes h)
+  enough-pixels l = goes-on 12 _ [] (le-ltb bytes (h .start + size (bigFirst f)) l) refl
 
 -- ---- what 0 says of a file: it has the frame's format and size, and all pixels
 pub record Readable (f : Frame) (s : List ℕ) : Type 0 where

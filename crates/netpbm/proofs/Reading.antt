@@ -33,7 +33,7 @@ use Rattle.netpbm.specs.Written.{noFormat, Writable}
 use Rattle.netpbm.specs.Reading.{otherSize, fewPixels, fileTests, loadTests, filePicture, loaded}
 use Rattle.netpbm.proofs.Transfers.{big-described}
 use Rattle.netpbm.proofs.Answers.{frame-passes}
-use Rattle.netpbm.proofs.Loads.{is-readable, both-passed, by-file, no-header, other-size, too-few, enough-pixels, accepted-loaded}
+use Rattle.netpbm.proofs.Loads.{is-readable, both-passed, by-file, no-header, other-size, by-pixels, too-few, enough-pixels, accepted-loaded}
 
 -- ---- an accepted read
 abbrev pub accepts : Frame → ℕ → List ℕ → Type 0
@@ -198,7 +198,7 @@ module _ (f : Frame) (len : ℕ) (s : List ℕ) where
   twelve = (
     λ e. let p = by-head 12 (omega arith) (omega arith) e in let q = is-12 ok other few (p .1) in
         (p .0, record { width = head .width; height = head .height; start = head .start; formed = formed (q .0); is = (is-own _ _ (q .1), ltb-true _ _ (q .2)) }),
-    λ p. let S = p .1 in answered (p .0) (too-few f s (read (S .formed)) (p .0 .format) refl (ap not (equal-size (S .width) (S .height) (S .is .0))) (S .is .1)),
+    λ p. let S = p .1 in answered (p .0) (by-pixels f s (read (S .formed)) (p .0 .format) refl (ap not (equal-size (S .width) (S .height) (S .is .0))) (too-few f (length s) (headed true (S .width) (S .height) (S .start)) (S .is .1))),
   )
 
   -- and none
@@ -208,7 +208,7 @@ module _ (f : Frame) (len : ℕ) (s : List ℕ) where
       record { accepted = is-accepted f len (p .0); format = R .format },
       record { width = head .width; height = head .height; start = head .start; formed = formed (R .ok); is = ((R .width, R .height), R .room) },
     ),
-    λ p. let S = p .1 in answered (p .0) (enough-pixels f s (read (S .formed)) (p .0 .format) refl (ap not (equal-size (S .width) (S .height) (S .is .0))) (S .is .1)),
+    λ p. let S = p .1 in answered (p .0) (by-pixels f s (read (S .formed)) (p .0 .format) refl (ap not (equal-size (S .width) (S .height) (S .is .0))) (enough-pixels f (length s) (headed true (S .width) (S .height) (S .start)) (S .is .1))),
   )
 
 -- ---- BYTES BEHIND A FILE (02, T-06: "bytes after the pixels ignored")

@@ -1,5 +1,6 @@
 -- The library's answers to questions, put into a reply, and what answers the needs of a question. Assumes nothing.
-use mathlib.Core.Path.{_≡_, ap, _∙_}
+use mathlib.Core.Path.{_≡_, sym, ap, _∙_}
+use mathlib.Core.Bool.{Bool}
 use lib.IntN.{ℤ}
 use Rattle.whole.proofs.Machine.{field-back}
 use Rattle.geometry.specs.declared.Span.{Span}
@@ -15,6 +16,10 @@ use Rattle.protocol.specs.declared.reply.Reply.the-variants.{Two}
 use Rattle.protocol.specs.declared.reply.Value.the-variants.{Natural, Whole}
 use Rattle.protocol.specs.Reply.{verdictReply}
 use Rattle.questions.specs.Ask.{lengthSaid, stepSaid, spanSaid, rowsSaid, spanOf, discspanOf}
+
+-- a question is of the connected line or of the line, by what the code was told
+pub told-which : (f : Bool → Reply) {trace b : Bool} {r : Reply} → trace ≡ b → r ≡ f b → r ≡ f trace
+told-which f e h = h ∙ ap f (sym e)
 
 pub length-said : {a found : Length} {r : Reply} → r ≡ lengthSaid a → a ≡ found → r ≡ lengthSaid found
 length-said e q = e ∙ ap lengthSaid q

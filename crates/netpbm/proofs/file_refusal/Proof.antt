@@ -1,18 +1,20 @@
 -- `netpbm::file_refusal` asks its tests in their order. Assumes nothing.
 use mathlib.Core.Path.{_≡_, sym, ap, _∙_}
 use mathlib.Core.Bool.{false}
-use Prim.Native.Nat.{_≤_}
+use Prim.Native.Nat.{ℕ, _≤_}
 use native.Mathlib.Omega.{arith}
 use lib.ListN.{length}
 use borrow.Author.Needs.{needs}
 use borrow.Author.Tests.{not-false}
+use Rattle.refusals.specs.First.{first}
 use Rattle.headers.specs.declared.Header.{Header}
 use Rattle.headers.proofs.Forms.{header-ends}
 use Rattle.frames.specs.Description.{size}
 use Rattle.netpbm.specs.Image.{bigFirst}
 use Rattle.netpbm.specs.Written.{noFormat}
+use Rattle.netpbm.specs.Reading.{fileTests}
 use Rattle.netpbm.proofs.Answers.{pixels-size}
-use Rattle.netpbm.proofs.Loads.{no-format, no-header, other-size, too-few, enough-pixels}
+use Rattle.netpbm.proofs.Loads.{few, no-format, no-header, other-size, by-pixels, too-few, enough-pixels}
 use Rattle.netpbm.proofs.file_refusal.Statement.{statement}
 use Rattle.netpbm.proofs.file_refusal.Tie as tie
 
@@ -64,21 +66,18 @@ sub-if4 c = starts (c .before .before .before .before .before .before .before .b
 cast-if4 : tie.Need-cast-if4
 cast-if4 c = search needs
 
-returns-4 : tie.Need-returns-4
-returns-4 c =
-    let b = c .before .before .before in
+-- behind the other tests the pixels decide
+last-test : (b : tie.After-buffer-size-bpp) {r : ℕ} → (let a = begin b .args in r ≡ first (few (a .frame) (length (a .file .now)) (a .header)) → r ≡ first (fileTests (a .frame) (a .file .now)))
+last-test b =
     let k = tested b in
     let s = begin b in
-    too-few (s .args .frame) (s .args .file .now) (s .pre .1) (formatted (k .before .before)) (k .if2 .left) (b .before .before .if3 .left)
-    (omega (arith, c .if4 .taken, starts k, pixels b))
+    by-pixels (s .args .frame) (s .args .file .now) (s .pre .1) (formatted (k .before .before)) (k .if2 .left) (b .before .before .if3 .left)
+
+returns-4 : tie.Need-returns-4
+returns-4 c = let b = c .before .before .before in let a = begin b .args in last-test b (too-few (a .frame) (length (a .file .now)) (a .header) (omega (arith, c .if4 .taken, starts (tested b), pixels b)))
 
 returns-5 : tie.Need-returns-5
-returns-5 c =
-    let b = c .before .before .before in
-    let k = tested b in
-    let s = begin b in
-    enough-pixels (s .args .frame) (s .args .file .now) (s .pre .1) (formatted (k .before .before)) (k .if2 .left) (b .before .before .if3 .left)
-    (omega (arith, c .if4 .left, starts k, pixels b))
+returns-5 c = let b = c .before .before .before in let a = begin b .args in last-test b (enough-pixels (a .frame) (length (a .file .now)) (a .header) (omega (arith, c .if4 .left, starts (tested b), pixels b)))
 
 pub file-refusal-spec : {M : Type 1} → statement M
 file-refusal-spec =

@@ -1,9 +1,20 @@
 -- `questions::point` hands on what the library answers of the line or of the connected one, where the line ends behind the last number. Assumes nothing.
+use mathlib.Core.Bool.{Bool, cond}
+use mathlib.Core.List.{List}
+use Prim.Native.Nat.{ℕ}
 use borrow.Author.Needs.{needs}
+use Rattle.line.specs.Line.{pointAt}
+use Rattle.line.specs.Answer.{stepTests}
+use Rattle.connected.specs.Connected.{connectedAt}
+use Rattle.connected.specs.Answer.{indexTests}
+use Rattle.protocol.specs.declared.reply.Reply.{Reply}
 use Rattle.questions.specs.Ask.{pointReply}
-use Rattle.questions.proofs.Questions.{questions}
+use Rattle.questions.proofs.Questions.{questions, told-which}
 use Rattle.questions.proofs.point.Statement.{statement}
 use Rattle.questions.proofs.point.Tie as tie
+
+abbrev asked : List ℕ → ℕ → Bool → Reply
+asked said at trace = pointReply (cond trace indexTests stepTests) (cond trace connectedAt pointAt) said at
 
 next-ends-requires : tie.Need-next-ends-requires
 next-ends-requires c κs = search needs
@@ -26,7 +37,7 @@ step-reply-requires c κs = search needs
 
 returns-2 : tie.Need-returns-2
 unfolding pointReply
-returns-2 c = rw (c .before .before .if2 .taken) (search questions)
+returns-2 c = told-which (asked (c .before .before .before .before .before .before .before .before .args .said .now) (c .before .before .before .before .before .before .before .before .args .at)) (c .before .before .if2 .taken) (search questions)
 
 point-requires-2 : tie.Need-point-requires-2
 point-requires-2 c κs = search needs
@@ -36,7 +47,7 @@ step-reply-requires-2 c κs = search needs
 
 returns-3 : tie.Need-returns-3
 unfolding pointReply
-returns-3 c = rw (c .before .before .if2 .left) (search questions)
+returns-3 c = told-which (asked (c .before .before .before .before .before .before .before .before .args .said .now) (c .before .before .before .before .before .before .before .before .args .at)) (c .before .before .if2 .left) (search questions)
 
 pub point-spec : {M : Type 1} → statement M
 point-spec =

@@ -39,7 +39,7 @@ sub-t14 c =
 
 circle-on-requires : tie.Need-circle-on-requires
 circle-on-requires c κs =
-    let s = c .before .before .before .before .before .before .before .before .before .before .before .before in
+    let s = c .before .before .before .before .before .before .before .before .before .before .before in
     is-judged (s .args .canvas .frame) (length (s .args .pane .now)) (s .pre .0)
 
 same-length : tie.Need-same-length

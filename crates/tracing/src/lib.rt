@@ -92,7 +92,7 @@ fn draw_upright(buf: &mut [u8], brush: Brush, start: Point, end: Point) -> u32
     past - first
 }
 
-// Any other line goes by the walker. Of earlier edges, which `draw_edge` asks for, this loop knows nothing: it measured faster (docs/BENCHMARKS.md).
+// Any other line goes by the walker. Of earlier edges, which `draw_edge` asks for, this loop knows nothing (docs/BENCHMARKS.md).
 fn draw_slanting(buf: &mut [u8], brush: Brush, start: Point, end: Point) -> u32
     requires { ⌜ Ready brush (length (now buf)) × (Bounded start × Bounded end) ⌝ }
     ensures { λ r. ⌜ (r, now (buf .exit)) ≡ brushed brush (lineFigure start end) (now (buf .entry)) ⌝ }

@@ -353,6 +353,26 @@ shown bytes 65535 a5 -> 0
     bytes 3 0102 -> 0
     file 0 50 -> 50abab0102abababababababababababababababababababababababababababababababababababababababababababab00
     file 65534 2 -> 0aa5
+    file 61440 4097 -> bad line
+    file 65535 2 -> bad line
+    dump 61440 4097 -> bad line
+    dump 65535 2 -> bad line
+    dump 65536 1 -> bad line
+    dump 65535 1 -> 00
+white frame 1 1 8 0 1 1 -> 0 1
+    bytes 0 50350b3120310a3235350a07 -> 0
+    load 12 -> 11
+    bytes 2 0c -> 0
+    load 12 -> 11
+    bytes 2 09 -> 0
+    load 12 -> 0
+    bytes 10 0b -> 0
+    load 12 -> 11
+    bytes 10 0c -> 0
+    load 12 -> 11
+    bytes 10 0d -> 0
+    load 12 -> 0
+    dump 0 1 -> 07
 apart frame 10 3 1 0 14 4 -> 0 12
     preset 255 -> 0
     fill 0 -> 0 30

@@ -1,7 +1,7 @@
 // Lists the spans of a triangle: the first line of the standard input is its six coordinates, parted by tabs. What is written is the definition
 // `spans` of the crate `reports`: `bad line`, or `refused` and the number, or `rows`, how many, and a line a row.
 ghost use mathlib.Core.Path.{_≡_};
-ghost use mathlib.Core.Bool.{false, not, _&&_};
+ghost use mathlib.Core.Bool.{false, cond, not, _&&_};
 ghost use Prim.Native.Nat.{_+_};
 ghost use Rattle.streams.specs.State.{Within, goesOn};
 ghost use Rattle.streams.specs.Refill.{whole};
@@ -28,27 +28,37 @@ fn read_line(input: &mut [u8]) -> State
     }
 }
 
-// Hands the first `end` bytes over to `write`, which are the report's behind the `told` that were handed over before, and answers how many were by then.
-fn hand_over(out: &[u8], end: usize, told: u64, v: Vertices) -> u64
-    requires { ⌜ Next v told end (now out) ⌝ }
-    ensures { λ r. ⌜ r ≡ told + end ⌝ }
-{
-    console::write(out, end);
-    told + end as u64
+// How many bytes of the report were handed over, and whether the last of them were taken.
+struct Reached {
+    told: u64,
+    taken: bool,
 }
 
-// Hands the report over, part after part: each of its bytes once, in their order, and no other. Answers how many bytes that were: as many as the report has.
-fn list(out: &mut [u8], v: Vertices) -> u64
+// Hands the first `end` bytes over to `write`, which are the report's behind the `told` that were handed over before.
+fn hand_over(out: &[u8], end: usize, told: u64, v: Vertices) -> Reached
+    requires { ⌜ Next v told end (now out) ⌝ }
+    ensures { λ r. ⌜ r .told ≡ told + end ⌝ }
+{
+    let taken = console::write(out, end);
+    let told = told + end as u64;
+    Reached { told, taken }
+}
+
+// Hands the report over, part after part and each behind the last, until one is not taken: as many bytes as it has, if all were.
+fn list(out: &mut [u8], v: Vertices) -> Reached
     requires { ⌜ length (now out) ≡ 65536 ⌝ }
-    ensures { λ r. ⌜ r ≡ length (report v) ⌝ }
+    ensures { λ r. ⌜ r .told ≡ cond (r .taken) (length (report v)) (r .told) ⌝ }
 {
     let mut part = reports::first_part(out, v);
-    let mut told = hand_over(out, part.end, 0, v);
+    let mut reached = hand_over(out, part.end, 0, v);
     while part.left > 0 {
+        if !reached.taken {
+            return reached;
+        }
         part = reports::next_part(out, v, part);
-        told = hand_over(out, part.end, told, v);
+        reached = hand_over(out, part.end, reached.told, v);
     }
-    told
+    reached
 }
 
 fn main() {

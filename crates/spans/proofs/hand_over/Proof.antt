@@ -8,11 +8,11 @@ use Rattle.spans.proofs.hand_over.Tie as tie
 write-requires : tie.Need-write-requires
 write-requires c κs = search needs
 
-add-result : tie.Need-add-result
-add-result c = omega (arith, c .before .before .pre .within, report-short (c .before .before .args .v))
+add-told : tie.Need-add-told
+add-told c = omega (arith, c .before .before .pre .within, report-short (c .before .before .args .v))
 
 returns : tie.Need-returns
 returns c = search needs
 
 pub hand-over-spec : {M : Type 1} → statement M
-hand-over-spec = tie.close (tie.spec write-requires add-result returns)
+hand-over-spec = tie.close (tie.spec write-requires add-told returns)

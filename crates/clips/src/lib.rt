@@ -30,7 +30,7 @@ fn axis_steps(a: i32, b: i32, low: u32, high: u32) -> Steps
     windows::held(a, a <= b, low, high, line::distance(a, b) as u32 + 1)
 }
 
-// The moves of an accepted line along both axes.
+// The moves of an accepted line along both axes. Each way asks for its own, so that those across cost nothing where they are not used.
 fn axes_of(window: Window, start: Point, end: Point) -> Axes
     requires { ⌜ Small window × (Bounded start × Bounded end) ⌝ }
     ensures { λ r. ⌜ AxesOf window start end r ⌝ }
@@ -41,21 +41,19 @@ fn axes_of(window: Window, start: Point, end: Point) -> Axes
     let y1 = end.1;
     let wide = line::distance(x0, x1) as u32;
     let high = line::distance(y0, y1) as u32;
-    let columns = axis_steps(x0, x1, window.left, window.right);
-    let rows = axis_steps(y0, y1, window.top, window.bottom);
     if wide <= high {
         return Axes {
             major: high,
             minor: wide,
-            along: rows,
-            across: columns,
+            along: axis_steps(y0, y1, window.top, window.bottom),
+            across: axis_steps(x0, x1, window.left, window.right),
         };
     }
     Axes {
         major: wide,
         minor: high,
-        along: columns,
-        across: rows,
+        along: axis_steps(x0, x1, window.left, window.right),
+        across: axis_steps(y0, y1, window.top, window.bottom),
     }
 }
 

@@ -7,7 +7,7 @@ use Prim.Native.Nat.{ℕ, _+_, _-_, _≤_, _<_, max, min}
 use native.Mathlib.Omega.{arith}
 use borrow.Author.Tests.{leb-true, leb-false, ltb-true, le-leb, lt-leb, lt-ltb, le-ltb}
 use lib.Dec.{leb, ltb}
-use lib.IntN.{ℤ, pos, _+ℤ_, _*ℤ_}
+use lib.IntN.{ℤ, pos, natAbs, _+ℤ_, _-ℤ_, _*ℤ_}
 use lib.Signed.{leZ, ltZ}
 use mir.Syntax.{w32}
 use mir.Val.{toZ, ofZ}
@@ -15,7 +15,7 @@ use Rattle.whole.specs.Interval.{between}
 use Rattle.whole.proofs.Machine.{back}
 use Rattle.whole.proofs.Tests.{same-test, and-true, true-and, lt-or-ge}
 use Rattle.geometry.specs.declared.Point.{Point}
-use Rattle.geometry.specs.Bound.{Coord}
+use Rattle.geometry.specs.Bound.{Coord, Bounded}
 use Rattle.geometry.proofs.Bound.{coord}
 use Rattle.line.specs.Line.{toward, moves, wide, high, steep, major, minor, xMoves, yMoves, points, pointAt}
 use Rattle.line.specs.Reach.{reachFrom}
@@ -26,8 +26,8 @@ use Rattle.connected.specs.Connected.{besideBoth, indexOf, lastIndex, connected
 use Rattle.connected.proofs.Indices.{Grows, View, normal, extra, view, index-more, grows-index, normal-at, extra-at}
 use Rattle.windows.specs.declared.Steps.{Steps}
 use Rattle.windows.specs.declared.Window.{Window}
-use Rattle.windows.specs.Interval.{onFrom, come, stays}
-use Rattle.windows.specs.Window.{inWindow}
+use Rattle.windows.specs.Interval.{Held, onFrom, come, stays}
+use Rattle.windows.specs.Window.{Small, inWindow}
 use Rattle.windows.proofs.Interval.{isStep, held-exactly, one-interval, step-before, step-after}
 use Rattle.clips.specs.declared.Axes.{Axes}
 use Rattle.clips.specs.Steps.{axisOf, axisFrom, axisPast, AxisSteps, AxesOf, LineSteps, Common, comeAlong, staysAlong, InnerSteps}
@@ -36,6 +36,18 @@ use Rattle.clips.specs.Steps.{axisOf, axisFrom, axisPast, AxisSteps, Axe
 pub coord-read : {z : ℤ} → Coord z → Coord (toZ w32 (ofZ w32 z))
 coord-read h = subst Coord (sym (back (coord h) .is)) h
 
+-- what is asked along an axis, with coordinates as they are read
+pub axis-asked : (b : Bool) {q : Window} {s e : Point} → Small q → Bounded s × Bounded e
+    → (Coord (toZ w32 (ofZ w32 (axisOf b s))) × Coord (toZ w32 (ofZ w32 (axisOf b e)))) × (axisFrom b q ≤ 2048) × (axisPast b q ≤ 2048)
+axis-asked true h p = ((coord-read (p .0 .y), coord-read (p .1 .y)), omega (arith, h .2, h .3), h .3)
+axis-asked false h p = ((coord-read (p .0 .x), coord-read (p .1 .x)), omega (arith, h .0, h .1), h .1)
+
+-- and what is answered
+pub held-read : {a z : ℤ} {low high : ℕ} {t : Steps} → Coord a → Coord z
+    → (let a′ = toZ w32 (ofZ w32 a) in let z′ = toZ w32 (ofZ w32 z) in Held a′ (leZ a′ z′) low high (natAbs (z′ -ℤ a′) + 1) t)
+    → Held a (leZ a z) low high (natAbs (z -ℤ a) + 1) t
+held-read h g held = rw (back (coord h) .is, back (coord g) .is) at held
+
 -- ---- the moves along both axes, b being the one that was found to be the major
 pub axes-of : (q : Window) (s e : Point) (b : Bool) → steep s e ≡ b → {r : Axes} → r .major ≡ cond b (high s e) (wide s e) → r .minor ≡ cond b (wide s e) (high s e)
     → AxisSteps b q s e (cond b (high s e) (wide s e) + 1) (r .along) → AxisSteps (not b) q s e (cond b (wide s e) (high s e) + 1) (r .across) → AxesOf q s e r
@@ -43,6 +55,10 @@ axes-of q s e b axis M n h g =
     let long = major-by s e b axis in
     let short = minor-by s e b axis in
     record { length = M ∙ sym long; breadth = n ∙ sym short; along = rw (axis, long) h; across = rw (axis, short) g }
+
+-- ---- the steps along the major axis
+pub line-steps : (q : Window) (s e : Point) (b : Bool) → steep s e ≡ b → {t : Steps} → AxisSteps b q s e (cond b (high s e) (wide s e) + 1) t → LineSteps q s e t
+line-steps q s e b axis h = record { held = rw (axis, major-by s e b axis) h }
 
 -- ---- along the major axis one step is one place
 place-on : (s e : Point) (b : Bool) → steep s e ≡ b → (k : ℕ) → axisOf b (pointAt s e k) ≡ onFrom (leZ (axisOf b s) (axisOf b e)) (axisOf b s) k

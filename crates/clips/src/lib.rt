@@ -7,7 +7,7 @@ ghost use lib.IntN.{natAbs, _-ℤ_};
 ghost use lib.Signed.{leZ};
 ghost use Rattle.geometry.specs.Bound.{Coord, Bounded};
 ghost use Rattle.windows.specs.Window.{Small};
-ghost use Rattle.line.specs.Line.{moves};
+ghost use Rattle.line.specs.Line.{moves, steep};
 ghost use Rattle.windows.specs.Interval.{Held};
 ghost use Rattle.clips.specs.Steps.{AxesOf, LineSteps, Common, InnerSteps};
 use geometry::Point;
@@ -30,7 +30,15 @@ fn axis_steps(a: i32, b: i32, low: u32, high: u32) -> Steps
     windows::held(a, a <= b, low, high, line::distance(a, b) as u32 + 1)
 }
 
-// The moves of an accepted line along both axes. Each way asks for its own, so that those across cost nothing where they are not used.
+// Whether the rows are a line's major axis: where it is as high as wide they are.
+fn is_steep(start: Point, end: Point) -> bool
+    requires { ⌜ Bounded start × Bounded end ⌝ }
+    ensures { λ r. ⌜ r ≡ steep start end ⌝ }
+{
+    line::distance(start.0, end.0) <= line::distance(start.1, end.1)
+}
+
+// The moves of an accepted line along both axes.
 fn axes_of(window: Window, start: Point, end: Point) -> Axes
     requires { ⌜ Small window × (Bounded start × Bounded end) ⌝ }
     ensures { λ r. ⌜ AxesOf window start end r ⌝ }
@@ -41,19 +49,21 @@ fn axes_of(window: Window, start: Point, end: Point) -> Axes
     let y1 = end.1;
     let wide = line::distance(x0, x1) as u32;
     let high = line::distance(y0, y1) as u32;
+    let columns = axis_steps(x0, x1, window.left, window.right);
+    let rows = axis_steps(y0, y1, window.top, window.bottom);
     if wide <= high {
         return Axes {
             major: high,
             minor: wide,
-            along: axis_steps(y0, y1, window.top, window.bottom),
-            across: axis_steps(x0, x1, window.left, window.right),
+            along: rows,
+            across: columns,
         };
     }
     Axes {
         major: wide,
         minor: high,
-        along: axis_steps(x0, x1, window.left, window.right),
-        across: axis_steps(y0, y1, window.top, window.bottom),
+        along: columns,
+        across: rows,
     }
 }
 
@@ -62,8 +72,10 @@ pub fn line_steps(window: Window, start: Point, end: Point) -> Steps
     requires { ⌜ Small window × (Bounded start × Bounded end) ⌝ }
     ensures { λ r. ⌜ LineSteps window start end r ⌝ }
 {
-    let axes = axes_of(window, start, end);
-    axes.along
+    if is_steep(start, end) {
+        return axis_steps(start.1, end.1, window.top, window.bottom);
+    }
+    axis_steps(start.0, end.0, window.left, window.right)
 }
 
 fn larger(a: u32, b: u32) -> u32

@@ -32,7 +32,7 @@ use Rattle.netpbm.proofs.Transfers.{big-described, pixels-length}
 use Rattle.netpbm.proofs.Reading.{accepts, accepted-exactly, shown-append, reading-sets-exactly-the-pixels}
 
 -- the file's pixels show the frame's picture
-same-colour : (f : Frame) → Described f → (a : List ℕ) (x y : ℕ) → x < f .width → y < f .height → shown (raster (bigFirst f)) (pixels f a) x y ≡ shown (raster f) a x y
+pub same-colour : (f : Frame) → Described f → (a : List ℕ) (x y : ℕ) → x < f .width → y < f .height → shown (raster (bigFirst f)) (pixels f a) x y ≡ shown (raster f) a x y
 unfolding pixels size
 same-colour f D a x y hx hy =
     shown-rendered (raster (bigFirst f)) (sound (bigFirst f) (big-described f D)) (shown (raster f) a) (replicate (size (bigFirst f)) 0)

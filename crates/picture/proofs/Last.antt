@@ -39,7 +39,7 @@ module _ (f : Frame) (n x y : ℕ) where
   after-both (o ∷ xs) ys g = after-both xs ys (shownAfter f n o g)
 
   -- an accepted call changes the pixel as it says, and those after it leave it so
-  last-change : (xs ys : List Call) (o : Call) → numberOf f n o ≡ 0 → AllLeave ys
+  pub last-change : (xs ys : List Call) (o : Call) → numberOf f n o ≡ 0 → AllLeave ys
       → (g : Picture) → pictureAfter f n (xs ++ (o ∷ ys)) g x y ≡ changeOf o .changes f (pictureAfter f n xs g) x y
   last-change xs ys o z a g =
       let before = pictureAfter f n xs g in

@@ -1,0 +1,15 @@
+pub mod Lines
+pub mod Triangles
+pub mod Traces
+pub mod Bytes
+pub mod Decimals
+pub mod Headers
+pub mod Numbers
+pub mod Counts
+pub mod Answered
+pub mod Questions
+pub mod Drawing
+pub mod OnePicture
+pub mod Images
+pub mod Outlines
+pub mod Gapless

@@ -1,0 +1,10 @@
+pub mod Figures
+pub mod Bytes
+pub mod Files
+pub mod Numbers
+pub mod Counts
+pub mod Calls
+pub mod Answers
+pub mod Before
+pub mod Arguments
+pub mod Runs

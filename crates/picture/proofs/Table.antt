@@ -1,10 +1,9 @@
 -- THE FIRST TEST THAT HOLDS WINS (01, "Numbers an operation may answer", in the orders of 02): each number is answered exactly when its test holds and none before
 -- it does, and 0 exactly when none holds. Where the numbers rise, as all did in 01, THE LOWEST NUMBER WINS. Assumes nothing.
-use mathlib.Core.Path.{_≡_, refl}
-use mathlib.Core.Bool.{Bool, true}
+use mathlib.Core.Path.{refl}
+use mathlib.Core.Bool.{Bool}
 use mathlib.Core.List.{[], _∷_, _++_}
 use Prim.Native.Nat.{ℕ}
-use Rattle.refusals.specs.First.{Tests, rising}
 use Rattle.refusals.proofs.First.{Exact, first-wins}
 use Rattle.refusals.proofs.Lowest.{Lowest, lowest-wins}
 use Rattle.geometry.specs.declared.Point.{Point}
@@ -16,7 +15,7 @@ use Rattle.frames.specs.Description.{descriptionTests, frameTests, readTests}
 use Rattle.frames.specs.Drawing.{callTests}
 use Rattle.drawing.specs.declared.Figure.{Figure}
 use Rattle.drawing.specs.declared.Figure.the-variants.{Fill, Pixel, Line, Connected, Triangle, Outline, Circle}
-use Rattle.drawing.specs.Drawing.{figureDrawing}
+use Rattle.drawing.specs.Drawing.{ownTests, figureDrawing}
 use Rattle.picture.specs.Before.{descriptionBefore, frameBefore}
 
 -- ---- frames
@@ -50,8 +49,15 @@ module _ (w h depth len : ℕ) where
   pub reading-before : (t : Bool) → Lowest (frameBefore w h depth len ++ ((8, t) ∷ []))
   reading-before t = lowest-wins _ refl
 
-  pub drawing-before : (t : Bool) (own : Tests) → rising 4 own ≡ true → Lowest (frameBefore w h depth len ++ ((4, t) ∷ own))
-  drawing-before t own r = lowest-wins _ r
+  pub drawing-before : (t : Bool) (g : Figure) → Lowest (frameBefore w h depth len ++ ((4, t) ∷ ownTests g))
+  unfolding endTests vertexTests circleTests
+  drawing-before t Fill = lowest-wins _ refl
+  drawing-before t (Pixel p) = lowest-wins _ refl
+  drawing-before t (Line s e) = lowest-wins _ refl
+  drawing-before t (Connected s e) = lowest-wins _ refl
+  drawing-before t (Triangle v1 v2 v3) = lowest-wins _ refl
+  drawing-before t (Outline v1 v2 v3) = lowest-wins _ refl
+  drawing-before t (Circle l d) = lowest-wins _ refl
 
 -- ---- questions
 -- "A point of a line: 5, 7"

@@ -1,5 +1,5 @@
 -- The position of every argument of the exported functions: what each promises, as its source states it, is said here of its arguments by their place and
--- not by their names. Assumes nothing.
+-- not by their names; and that none of them asks anything of its arguments. Assumes nothing.
 use mathlib.Core.Path.{_≡_}
 use mathlib.Core.Bool.{Bool}
 use mathlib.Core.List.{List}
@@ -169,3 +169,18 @@ write-image-at κs a r s h = h
 
 pub read-image-at : Leaves read-image.Post (λ a. loaded (framed frameOf (a .1)) (now (behind (a .1) .0)) (now (a .0)))
 read-image-at κs a r s h = h
+
+-- ---- NOTHING IS ASKED: whatever the arguments are, what a function asks of them holds
+abbrev AsksNothing : {K A : Type 0} → (K → A → Type 0) → Type 0
+AsksNothing {K} {A} Pre = (κs : K) (a : A) → Pre κs a
+
+pub questions-ask-nothing :
+    AsksNothing line-length.Pre × AsksNothing line-point.Pre × AsksNothing line-has-point.Pre × AsksNothing connected-length.Pre × AsksNothing connected-point.Pre
+    × AsksNothing connected-has-point.Pre × AsksNothing triangle-contains.Pre × AsksNothing triangle-rows.Pre × AsksNothing triangle-row-span.Pre × AsksNothing circle-contains.Pre
+    × AsksNothing circle-row-span.Pre × AsksNothing frame-size.Pre × AsksNothing pixel.Pre × AsksNothing lit.Pre × AsksNothing image-size.Pre
+questions-ask-nothing = search tt
+
+pub calls-ask-nothing :
+    AsksNothing set-pixel.Pre × AsksNothing fill.Pre × AsksNothing draw-line.Pre × AsksNothing draw-connected-line.Pre × AsksNothing draw-triangle.Pre × AsksNothing draw-outline.Pre
+    × AsksNothing draw-circle.Pre × AsksNothing write-image.Pre × AsksNothing read-image.Pre
+calls-ask-nothing = search tt

@@ -1,5 +1,7 @@
-// The static library: the public operations for callers in C and Rust, in plain numbers and bytes. Each only hands on. bindings/c/beamacorn.h
-// says what a caller needs to know.
+// The public operations for callers in C and Rust, in plain numbers and bytes. Each only hands on. The crate `beamacorn_c` exports them, and
+// bindings/c/beamacorn.h says what a caller needs to know.
+#![tactic(auto)]
+
 ghost use Rattle.std.specs.Prelude.{◌≡◌};
 ghost use Rattle.refusals.specs.First.{first};
 ghost use Rattle.geometry.specs.Answer.{verdict, span};
@@ -26,7 +28,7 @@ use geometry::Point;
 
 // A line's point at a step, or a connected line's at an index. With a refusal its number, and 0 and 0.
 #[repr(C)]
-#[derive(Drop)]
+#[derive(Clone, Copy)]
 pub struct Step {
     pub number: u32,
     pub x: i32,
@@ -48,24 +50,21 @@ fn plain_step(answer: line::Step) -> Step
 // ---- questions
 
 // The number of points of the line from (x1, y1) to (x2, y2).
-#[unsafe(no_mangle)]
-pub extern "C" fn beamacorn_line_length(x1: i32, y1: i32, x2: i32, y2: i32) -> line::Length
+pub fn beamacorn_line_length(x1: i32, y1: i32, x2: i32, y2: i32) -> line::Length
     ensures { result ≡ length_answer (first (end_tests (x1, y1) (x2, y2))) (points (x1, y1) (x2, y2)) }
 {
     line::major_length(Point(x1, y1), Point(x2, y2))
 }
 
 // The point of the line at a step, the start being step 0.
-#[unsafe(no_mangle)]
-pub extern "C" fn beamacorn_line_point(x1: i32, y1: i32, x2: i32, y2: i32, step: u32) -> Step
+pub fn beamacorn_line_point(x1: i32, y1: i32, x2: i32, y2: i32, step: u32) -> Step
     ensures { result ≡ plain_step (step_answer (first (step_tests (x1, y1) (x2, y2) step)) (point_at (x1, y1) (x2, y2) step)) }
 {
     plain_step(line::point(Point(x1, y1), Point(x2, y2), step))
 }
 
 // Whether (x, y) is a point of the line.
-#[unsafe(no_mangle)]
-pub extern "C" fn beamacorn_line_has_point(
+pub fn beamacorn_line_has_point(
     x1: i32,
     y1: i32,
     x2: i32,
@@ -79,24 +78,21 @@ pub extern "C" fn beamacorn_line_has_point(
 }
 
 // The number of points of the connected line from (x1, y1) to (x2, y2).
-#[unsafe(no_mangle)]
-pub extern "C" fn beamacorn_connected_length(x1: i32, y1: i32, x2: i32, y2: i32) -> line::Length
+pub fn beamacorn_connected_length(x1: i32, y1: i32, x2: i32, y2: i32) -> line::Length
     ensures { result ≡ length_answer (first (end_tests (x1, y1) (x2, y2))) (connected_points (x1, y1) (x2, y2)) }
 {
     connected::length(Point(x1, y1), Point(x2, y2))
 }
 
 // The point of the connected line at an index, the start having index 0.
-#[unsafe(no_mangle)]
-pub extern "C" fn beamacorn_connected_point(x1: i32, y1: i32, x2: i32, y2: i32, index: u32) -> Step
+pub fn beamacorn_connected_point(x1: i32, y1: i32, x2: i32, y2: i32, index: u32) -> Step
     ensures { result ≡ plain_step (step_answer (first (index_tests (x1, y1) (x2, y2) index)) (connected_at (x1, y1) (x2, y2) index)) }
 {
     plain_step(connected::point(Point(x1, y1), Point(x2, y2), index))
 }
 
 // Whether (x, y) is a point of the connected line.
-#[unsafe(no_mangle)]
-pub extern "C" fn beamacorn_connected_has_point(
+pub fn beamacorn_connected_has_point(
     x1: i32,
     y1: i32,
     x2: i32,
@@ -110,8 +106,7 @@ pub extern "C" fn beamacorn_connected_has_point(
 }
 
 // Whether the triangle contains (x, y).
-#[unsafe(no_mangle)]
-pub extern "C" fn beamacorn_triangle_contains(
+pub fn beamacorn_triangle_contains(
     x1: i32,
     y1: i32,
     x2: i32,
@@ -127,8 +122,7 @@ pub extern "C" fn beamacorn_triangle_contains(
 }
 
 // The triangle's first row, and how many it has.
-#[unsafe(no_mangle)]
-pub extern "C" fn beamacorn_triangle_rows(
+pub fn beamacorn_triangle_rows(
     x1: i32,
     y1: i32,
     x2: i32,
@@ -142,8 +136,7 @@ pub extern "C" fn beamacorn_triangle_rows(
 }
 
 // The columns of row y that the triangle contains.
-#[unsafe(no_mangle)]
-pub extern "C" fn beamacorn_triangle_row_span(
+pub fn beamacorn_triangle_row_span(
     x1: i32,
     y1: i32,
     x2: i32,
@@ -158,8 +151,7 @@ pub extern "C" fn beamacorn_triangle_row_span(
 }
 
 // Whether the circle contains (x, y).
-#[unsafe(no_mangle)]
-pub extern "C" fn beamacorn_circle_contains(
+pub fn beamacorn_circle_contains(
     left: i32,
     top: i32,
     diameter: u32,
@@ -172,8 +164,7 @@ pub extern "C" fn beamacorn_circle_contains(
 }
 
 // The columns of row y that the circle contains.
-#[unsafe(no_mangle)]
-pub extern "C" fn beamacorn_circle_row_span(
+pub fn beamacorn_circle_row_span(
     left: i32,
     top: i32,
     diameter: u32,
@@ -194,8 +185,7 @@ fn frame(width: u32, height: u32, depth: u32, order: u32, distance: u32) -> Fram
 }
 
 // The bytes that a buffer for the frame must have.
-#[unsafe(no_mangle)]
-pub extern "C" fn beamacorn_frame_size(
+pub fn beamacorn_frame_size(
     width: u32,
     height: u32,
     depth: u32,
@@ -207,8 +197,7 @@ pub extern "C" fn beamacorn_frame_size(
 }
 
 // The pixel at (x, y) gets the colour; outside the frame nothing changes, and the answer says so.
-#[unsafe(no_mangle)]
-pub extern "C" fn beamacorn_set_pixel(
+pub fn beamacorn_set_pixel(
     buf: &mut [u8],
     width: u32,
     height: u32,
@@ -230,8 +219,7 @@ pub extern "C" fn beamacorn_set_pixel(
 }
 
 // The colour of the pixel at (x, y).
-#[unsafe(no_mangle)]
-pub extern "C" fn beamacorn_pixel(
+pub fn beamacorn_pixel(
     buf: &[u8],
     width: u32,
     height: u32,
@@ -251,8 +239,7 @@ pub extern "C" fn beamacorn_pixel(
 }
 
 // Every pixel of the frame gets the colour.
-#[unsafe(no_mangle)]
-pub extern "C" fn beamacorn_fill(
+pub fn beamacorn_fill(
     buf: &mut [u8],
     width: u32,
     height: u32,
@@ -267,8 +254,7 @@ pub extern "C" fn beamacorn_fill(
 }
 
 // Draws the line from (x1, y1) to (x2, y2).
-#[unsafe(no_mangle)]
-pub extern "C" fn beamacorn_draw_line(
+pub fn beamacorn_draw_line(
     buf: &mut [u8],
     width: u32,
     height: u32,
@@ -293,8 +279,7 @@ pub extern "C" fn beamacorn_draw_line(
 }
 
 // Draws the connected line from (x1, y1) to (x2, y2).
-#[unsafe(no_mangle)]
-pub extern "C" fn beamacorn_draw_connected_line(
+pub fn beamacorn_draw_connected_line(
     buf: &mut [u8],
     width: u32,
     height: u32,
@@ -319,8 +304,7 @@ pub extern "C" fn beamacorn_draw_connected_line(
 }
 
 // Draws the filled triangle.
-#[unsafe(no_mangle)]
-pub extern "C" fn beamacorn_draw_triangle(
+pub fn beamacorn_draw_triangle(
     buf: &mut [u8],
     width: u32,
     height: u32,
@@ -348,8 +332,7 @@ pub extern "C" fn beamacorn_draw_triangle(
 }
 
 // Draws the triangle's outline.
-#[unsafe(no_mangle)]
-pub extern "C" fn beamacorn_draw_outline(
+pub fn beamacorn_draw_outline(
     buf: &mut [u8],
     width: u32,
     height: u32,
@@ -377,8 +360,7 @@ pub extern "C" fn beamacorn_draw_outline(
 }
 
 // Draws the filled circle.
-#[unsafe(no_mangle)]
-pub extern "C" fn beamacorn_draw_circle(
+pub fn beamacorn_draw_circle(
     buf: &mut [u8],
     width: u32,
     height: u32,
@@ -402,8 +384,7 @@ pub extern "C" fn beamacorn_draw_circle(
 }
 
 // How many pixels of a one-bit frame have colour 1.
-#[unsafe(no_mangle)]
-pub extern "C" fn beamacorn_lit(
+pub fn beamacorn_lit(
     buf: &[u8],
     width: u32,
     height: u32,
@@ -419,8 +400,7 @@ pub extern "C" fn beamacorn_lit(
 // ---- image files
 
 // The bytes that the image file of a frame takes.
-#[unsafe(no_mangle)]
-pub extern "C" fn beamacorn_image_size(
+pub fn beamacorn_image_size(
     width: u32,
     height: u32,
     depth: u32,
@@ -432,8 +412,7 @@ pub extern "C" fn beamacorn_image_size(
 }
 
 // Writes the frame as an image file into the output, from its first byte on, and answers how many bytes that were.
-#[unsafe(no_mangle)]
-pub extern "C" fn beamacorn_write_image(
+pub fn beamacorn_write_image(
     buf: &[u8],
     width: u32,
     height: u32,
@@ -448,8 +427,7 @@ pub extern "C" fn beamacorn_write_image(
 }
 
 // Reads an image file of the frame's size into the frame, and answers a number.
-#[unsafe(no_mangle)]
-pub extern "C" fn beamacorn_read_image(
+pub fn beamacorn_read_image(
     buf: &mut [u8],
     width: u32,
     height: u32,

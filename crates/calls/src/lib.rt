@@ -1,4 +1,6 @@
 // The drawing calls on the lent bytes. The numbers of a line start at `at`.
+#![tactic(auto)]
+
 ghost use Rattle.std.specs.Prelude.{◌≡◌, cond};
 ghost use Rattle.drawing.specs.Drawing.{line_drawing, triangle_drawing, outline_drawing, connected_drawing};
 ghost use Rattle.calls.specs.Draw.{drawn_reply, pixel_call, fill_call, ends_call, corners_call, circle_call, draw_call};

@@ -1,5 +1,7 @@
 // Circles: whether one contains a pixel, and the span of a row. Pixel places are `Point`, half_pixel places `Doubled`; the one becomes the other
 // in `place_2x` and `center_2x` alone.
+#![tactic(auto)]
+
 mod root;
 
 ghost use Rattle.std.specs.Prelude.{◌≡◌, true, ◌≤◌, nat_abs, pos, ◌-ℤ◌};

@@ -1,5 +1,7 @@
 // Which steps of a line lead into a rectangle of a frame. Both coordinates of a line move one way only, so that these steps follow one another, and they are worked out
 // from the line's ends.
+#![tactic(auto)]
+
 ghost use Rattle.std.specs.Prelude.{◌≡◌, ℕ, ◌+◌, ◌≤◌, max, min, leb, nat_abs, ◌-ℤ◌};
 ghost use Rattle.std.specs.Int.Signed.{le_z};
 ghost use Rattle.geometry.specs.Bound.{Coord, Bounded};
@@ -12,7 +14,7 @@ use geometry::Point;
 use windows::{Steps, Window};
 
 // The moves of a line along its major axis and those across it, along the minor one: how many, and those that lead to a coordinate of the rectangle's.
-#[derive(Drop)]
+#[derive(Clone, Copy)]
 struct Axes {
     major: u32,
     minor: u32,

@@ -1,5 +1,7 @@
 // Connected lines: the points of a line with an extra one at each minor move, on the right side, so that each shares an edge with the next and no diagonal gap is
 // left. The walker, and the questions on a connected line. Its points depend on the end that it starts from.
+#![tactic(auto)]
+
 ghost use Rattle.std.specs.Prelude.{◌≡◌, ℕ, ◌+◌, ◌-◌, ◌≤◌, nat_abs, ◌-ℤ◌};
 ghost use Rattle.refusals.specs.First.{first};
 ghost use Rattle.geometry.specs.declared.Point.{Point as Place};
@@ -16,7 +18,7 @@ use geometry::{Point, Verdict};
 use line::{Course, Length, Step, Walker};
 
 // A point, whether it is an extra one, and the walker at the next.
-#[derive(Drop)]
+#[derive(Clone, Copy)]
 pub struct SteppedAll {
     pub point: Point,
     pub extra: bool,

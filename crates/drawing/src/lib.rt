@@ -1,5 +1,7 @@
 // Drawing calls into a lent buffer. Each judges its frame once, then its own arguments, and sets every pixel of the frame that its figure
 // contains; its answer says how many these are. Calls on a frame that was judged already have `_on` in their name.
+#![tactic(auto)]
+
 ghost use Rattle.std.specs.Prelude.{◌≡◌, ◌-◌, length};
 ghost use Rattle.line.specs.Answer.{end_tests};
 ghost use Rattle.triangle.specs.Answer.{vertex_tests};
@@ -14,7 +16,7 @@ use geometry::Point;
 use painting::Brush;
 
 // A figure that a call may draw.
-#[derive(Drop)]
+#[derive(Clone, Copy)]
 pub enum Figure {
     Fill,
     Pixel(Point),

@@ -1,5 +1,7 @@
 // The edges of a triangle, walked together from the top down: each row takes from every edge the points that it has there, so that each edge is
 // walked once, and widens the row's first and last column by them. An edge that is not on the row hands out nothing.
+#![tactic(auto)]
+
 ghost use Rattle.std.specs.Prelude.{◌≡◌, Bool, ℕ, ◌+◌, ◌<◌, pos, negsuc, ◌≤ℤ◌};
 ghost use Rattle.geometry.specs.declared.Point.{Point as Place};
 ghost use Rattle.geometry.specs.Bound.{Bounded};
@@ -13,7 +15,7 @@ use geometry::Point;
 use triangle::Sorted;
 
 // An edge's walker, and the points that it has still to hand out.
-#[derive(Drop)]
+#[derive(Clone, Copy)]
 pub struct Side {
     pub walker: line::Walker,
     pub left: u32,
@@ -21,7 +23,7 @@ pub struct Side {
 
 // A run along an edge: its walker, the points that it has still to hand out, the columns met on the row, and the points handed out so far by
 // all walkers.
-#[derive(Drop)]
+#[derive(Clone, Copy)]
 pub struct Run {
     pub walker: line::Walker,
     pub left: u32,
@@ -31,7 +33,7 @@ pub struct Run {
 }
 
 // The walks along the three edges, and the points handed out so far.
-#[derive(Drop)]
+#[derive(Clone, Copy)]
 pub struct Walk {
     pub a: Side,
     pub b: Side,
@@ -40,7 +42,7 @@ pub struct Walk {
 }
 
 // The walks after a row, and the row's first and last column: 131072 and -131073 where it has none.
-#[derive(Drop)]
+#[derive(Clone, Copy)]
 pub struct Row {
     pub walk: Walk,
     pub low: i32,

@@ -1,4 +1,6 @@
 // The file buffer: the frame written into it as an image file and read from it, and setting its bytes, all or some; any other line is the screen's.
+#![tactic(auto)]
+
 ghost use Rattle.std.specs.Prelude.{◌≡◌, ◌≤◌, length};
 ghost use Rattle.files.specs.Files.{image_call, bytes_call, load_call, act};
 

@@ -1,4 +1,6 @@
 // Triangles and circles by a brush, row by row: each paints the columns that the brush's rectangle holds, and counts them.
+#![tactic(auto)]
+
 ghost use Rattle.std.specs.Prelude.{◌≡◌, true, ◌-◌, length};
 ghost use Rattle.geometry.specs.Bound.{Bounded};
 ghost use Rattle.circle.specs.Refusal.{Fits};

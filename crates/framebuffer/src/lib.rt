@@ -1,4 +1,6 @@
 // The calls on a frame: its size, setting, reading and filling, each on a frame in a lent buffer, and on a canvas that was judged already.
+#![tactic(auto)]
+
 ghost use Rattle.std.specs.Prelude.{◌≡◌, ◌*◌, length};
 ghost use Rattle.refusals.specs.First.{first};
 ghost use Rattle.frames.specs.Answer.{sized, read};

@@ -1,4 +1,6 @@
 // A frame as its owner describes it, the tests that refuse it, and a frame judged over a buffer: a canvas. Nothing here reaches a byte.
+#![tactic(auto)]
+
 ghost use Rattle.std.specs.Prelude.{◌≡◌, true, [], ◌+◌, ◌*◌, ◌/◌, ◌≤◌, ◌<◌};
 ghost use Rattle.refusals.specs.First.{first};
 ghost use Rattle.layout.specs.Packed.{good_depth};
@@ -10,7 +12,7 @@ use windows::Window;
 
 // A frame as its owner describes it; `distance` is the number of bytes from a row to the next. It is made by Frame::new and Frame::packed and by nothing
 // else outside this crate.
-#[derive(Drop)]
+#[derive(Clone, Copy)]
 pub struct Frame {
     pub width: u32,
     pub height: u32,
@@ -20,7 +22,7 @@ pub struct Frame {
 }
 
 // Inside the library: a frame and a rectangle of it that calls stay within, with their number over a buffer, or 0. Calls on one of them and one buffer need not judge it each.
-#[derive(Drop)]
+#[derive(Clone, Copy)]
 pub struct Canvas {
     pub frame: Frame,
     pub window: Window,
@@ -29,7 +31,7 @@ pub struct Canvas {
 
 // The bytes that a frame takes; with a refusal its number and 0.
 #[repr(C)]
-#[derive(Drop)]
+#[derive(Clone, Copy)]
 pub struct Size {
     pub number: u32,
     pub bytes: u32,
@@ -37,7 +39,7 @@ pub struct Size {
 
 // How many pixels of the frame the figure of a drawing call contains; with a refusal its number and 0.
 #[repr(C)]
-#[derive(Drop)]
+#[derive(Clone, Copy)]
 pub struct Drawn {
     pub number: u32,
     pub count: u32,
@@ -45,7 +47,7 @@ pub struct Drawn {
 
 // Whether a pixel that was set is inside the frame; with a refusal its number and no.
 #[repr(C)]
-#[derive(Drop)]
+#[derive(Clone, Copy)]
 pub struct Placed {
     pub number: u32,
     pub inside: bool,
@@ -53,7 +55,7 @@ pub struct Placed {
 
 // The colour of a pixel; with a refusal its number and 0.
 #[repr(C)]
-#[derive(Drop)]
+#[derive(Clone, Copy)]
 pub struct Read {
     pub number: u32,
     pub colour: u32,

@@ -1,21 +1,23 @@
 // Places of pixels and of half pixels, which look alike and are kept apart by their types; the bound on coordinates; the order of places and of
 // columns; and the answers that questions on every figure share.
+#![tactic(auto)]
+
 ghost use Rattle.std.specs.Prelude.{◌≡◌};
 ghost use Rattle.geometry.specs.Place.{same_place, before};
 ghost use Rattle.geometry.specs.Extreme.{lesser, greater};
 ghost use Rattle.geometry.specs.Bound.{is_coord, in_bounds};
 
 // A pixel's place: its column and its row.
-#[derive(Drop)]
+#[derive(Clone, Copy)]
 pub struct Point(pub i32, pub i32);
 
 // A place in half_pixel (doubled) units, in which a circle's centre is a whole place too.
-#[derive(Drop)]
+#[derive(Clone, Copy)]
 pub struct Doubled(pub i64, pub i64);
 
 // A yes or no. The number is 0, or that of the refusal, and then the answer is no.
 #[repr(C)]
-#[derive(Drop)]
+#[derive(Clone, Copy)]
 pub struct Verdict {
     pub number: u32,
     pub yes: bool,
@@ -23,7 +25,7 @@ pub struct Verdict {
 
 // A row's columns, from the first to one past the last; 0 to 0 where there are none. With a refusal its number and 0 to 0.
 #[repr(C)]
-#[derive(Drop)]
+#[derive(Clone, Copy)]
 pub struct Span {
     pub number: u32,
     pub start: i32,

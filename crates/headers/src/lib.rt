@@ -1,9 +1,11 @@
 // The header of an image file, read: the sides that it says, and where its pixels start.
+#![tactic(auto)]
+
 ghost use Rattle.std.specs.Prelude.{◌≡◌};
 ghost use Rattle.headers.specs.Header.{kind, is_space, past, header_field, has_magic, maximum_at, header_of};
 
 // Inside the library: what a header says: the sides, and where the pixels start; zeros where it is none.
-#[derive(Drop)]
+#[derive(Clone, Copy)]
 pub struct Header {
     pub ok: bool,
     pub width: u32,
@@ -12,7 +14,7 @@ pub struct Header {
 }
 
 // A field of a header: its number, and the place behind it; zeros where there is none.
-#[derive(Drop)]
+#[derive(Clone, Copy)]
 struct Field {
     ok: bool,
     value: u32,

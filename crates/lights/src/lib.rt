@@ -1,4 +1,6 @@
 // The lit pixels of a one-bit frame, by the processor's count of ones on each byte.
+#![tactic(auto)]
+
 ghost use Rattle.std.specs.Prelude.{◌≡◌, ◌+◌, ◌*◌, ◌≤◌, min, length};
 ghost use Rattle.refusals.specs.First.{first};
 ghost use Rattle.layout.specs.Count.{lit_in};
@@ -11,7 +13,7 @@ use frames::Frame;
 
 // How many pixels of a one-bit frame have the colour 1; with a refusal its number and 0.
 #[repr(C)]
-#[derive(Drop)]
+#[derive(Clone, Copy)]
 pub struct Lights {
     pub number: u32,
     pub count: u32,

@@ -1,4 +1,6 @@
 // Lines: the walker over a line's points, and the questions on a line. A line's points depend on the end that it starts from.
+#![tactic(auto)]
+
 ghost use Rattle.std.specs.Prelude.{◌≡◌, true, ℕ, ◌+◌, ◌*◌, ◌≤◌, ◌<◌, eqb, pos, nat_abs, ◌+ℤ◌, ◌-ℤ◌, ◌*ℤ◌};
 ghost use Rattle.refusals.specs.First.{first};
 ghost use Rattle.geometry.specs.declared.Point.{Point as Place};
@@ -12,7 +14,7 @@ ghost use Rattle.line.specs.Answer.{end_tests, step_tests, length_answer, step_a
 use geometry::{Point, Verdict};
 
 // The parameters of a line: the error that a minor move needs, its change with a major and with a minor move, and the moves.
-#[derive(Drop)]
+#[derive(Clone, Copy)]
 pub struct Course {
     pub threshold: i32,
     pub up: i32,
@@ -24,7 +26,7 @@ pub struct Course {
 }
 
 // A walk along a line, at the point that it hands out next.
-#[derive(Drop)]
+#[derive(Clone, Copy)]
 pub struct Walker {
     pub x: i32,
     pub y: i32,
@@ -33,7 +35,7 @@ pub struct Walker {
 }
 
 // A point, and the walker at the next.
-#[derive(Drop)]
+#[derive(Clone, Copy)]
 pub struct Stepped {
     pub point: Point,
     pub walker: Walker,
@@ -41,14 +43,14 @@ pub struct Stepped {
 
 // How many points a line has.
 #[repr(C)]
-#[derive(Drop)]
+#[derive(Clone, Copy)]
 pub struct Length {
     pub number: u32,
     pub points: u32,
 }
 
 // A line's point at a step.
-#[derive(Drop)]
+#[derive(Clone, Copy)]
 pub struct Step {
     pub number: u32,
     pub point: Point,

@@ -1,6 +1,8 @@
 // Counts the samples that a planned-load wedge contains. The first line of the standard input is the wedge, six coordinates of second of day against
 // Mbit/s, and each further line a sample, second and Mbit/s, fields parted by tabs. The input is of any length: a line and a count are kept. What is counted
 // is the definition `minutes` of the crate `reports`, and what is written its `countLine`; if a read fails, nothing is written but a line on standard error.
+#![tactic(auto)]
+
 ghost use Rattle.std.specs.Prelude.{◌≡◌, ◌≤◌, length};
 ghost use Rattle.streams.specs.State.{Within};
 ghost use Rattle.streams.specs.Run.{Ended};
@@ -48,7 +50,7 @@ fn tell(out: &mut [u8], st: State, k: Count) -> State
 }
 
 // Turn after turn, until the input ends.
-fn run(input: &mut [u8], out: &mut [u8]) -> State
+fn run(rt: &HostRuntime, input: &mut [u8], out: &mut [u8]) -> State
     requires { (length input.old ≡ 65536) × (length out.old ≡ 64) }
     ensures { Ended bytes lines last (fresh, out.old) result input.new out.new }
 {
@@ -59,17 +61,17 @@ fn run(input: &mut [u8], out: &mut [u8]) -> State
         let t = taken.tally;
         tally = t;
         st = streams::stands_at(st, taken.next, 0);
-        st = streams::refill(input, st);
+        st = streams::refill(rt, input, st);
     }
     tally = count_last(input, st, tally);
     let k = tally.count;
     st = tell(out, st, k);
-    streams::empty(out, st)
+    streams::empty(rt, out, st)
 }
 
-fn main() {
+fn main(rt: HostRuntime) {
     let mut input = [0u8; 65536];
     let mut out = [0u8; 64];
-    let st = run(&mut input, &mut out);
-    streams::complain(st);
+    let st = run(&rt, &mut input, &mut out);
+    streams::complain(&rt, st);
 }

@@ -17,3 +17,4 @@
 //   Images     T-01 and T-06: the file that is written, that it reads back, and what is ignored of a file
 //   Outlines   T-04; Traces, T-05; Gapless, T-07
 // The other files of proofs/ show that the library's definitions are those of specs/.
+#![tactic(auto)]

@@ -1,5 +1,7 @@
 // A pixel's bits and bytes, wherever its frame keeps them: masks and fields of a byte at depths 1, 2 and 4, the bytes of a colour from depth 8 on, and
 // runs of bytes that hold pixels of one colour.
+#![tactic(auto)]
+
 ghost use Rattle.std.specs.Prelude.{◌≡◌, true, ℕ, ◌+◌, ◌*◌, ◌/◌, ◌%◌, ◌^◌, ◌≤◌, ◌<◌, length, get_or, replicate};
 ghost use Rattle.layout.specs.Digits.{digit, value, replaced, set_run};
 ghost use Rattle.layout.specs.Packed.{good_depth, field, parts, per, turned, slot_of, full_byte};

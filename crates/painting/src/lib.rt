@@ -1,5 +1,7 @@
 // Points, spans and fills in the bytes of an accepted frame, and reading a point. Nothing here judges: figures reach the bytes through put_point, set_point, paint_span and
 // paint_more, and the bytes of a pixel through read_point.
+#![tactic(auto)]
+
 ghost use Rattle.std.specs.Prelude.{◌≡◌, true, ◌+◌, ◌*◌, ◌/◌, ◌≤◌, ◌<◌, pos, length};
 ghost use Rattle.refusals.specs.First.{first};
 ghost use Rattle.layout.specs.Figure.{single, span_figure, everywhere};
@@ -13,7 +15,7 @@ use frames::{Canvas, Frame};
 use windows::Window;
 
 // Inside the library: what painters are given beside the bytes: a frame that was accepted, the rectangle of it that they stay within, and a colour of it.
-#[derive(Drop)]
+#[derive(Clone, Copy)]
 pub struct Brush {
     pub frame: Frame,
     pub window: Window,

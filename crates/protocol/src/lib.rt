@@ -1,4 +1,6 @@
 // The line that answers a line of `replay`, and bytes as hexadecimal digits, written and read.
+#![tactic(auto)]
+
 mod digits;
 mod reply;
 

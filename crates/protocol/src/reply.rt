@@ -6,14 +6,14 @@ ghost use Rattle.protocol.specs.Reply.{bad_line, natural, value_field, one_line,
 use geometry::Verdict;
 
 // A value of an answer: unsigned, or signed.
-#[derive(Drop)]
+#[derive(Clone, Copy)]
 pub enum Value {
     Natural(u32),
     Whole(i32),
 }
 
 // A line that is no request; or an answer's number, alone or with one value or two.
-#[derive(Drop)]
+#[derive(Clone, Copy)]
 pub enum Reply {
     Bad,
     Number(u32),

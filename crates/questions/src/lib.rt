@@ -1,4 +1,6 @@
 // The questions on figures, each asked of the library. The numbers of a line start at `at`.
+#![tactic(auto)]
+
 ghost use Rattle.std.specs.Prelude.{◌≡◌, cond};
 ghost use Rattle.line.specs.Line.{points, point_at, has_point};
 ghost use Rattle.line.specs.Answer.{step_tests};

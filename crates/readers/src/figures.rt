@@ -6,14 +6,14 @@ use geometry::Point;
 use text::{Place, Vertices};
 
 // What reading two coordinates finds, and the place of the next field.
-#[derive(Drop)]
+#[derive(Clone, Copy)]
 pub struct NextPoint {
     pub point: Point,
     pub next: usize,
 }
 
 // The same of a line's ends.
-#[derive(Drop)]
+#[derive(Clone, Copy)]
 pub struct NextEnds {
     pub start: Point,
     pub end: Point,
@@ -21,7 +21,7 @@ pub struct NextEnds {
 }
 
 // A triangle's corners, in the order in which they were given.
-#[derive(Drop)]
+#[derive(Clone, Copy)]
 pub struct Corners {
     pub a: Point,
     pub b: Point,
@@ -29,14 +29,14 @@ pub struct Corners {
 }
 
 // What reading three corners finds, and the place of the next field.
-#[derive(Drop)]
+#[derive(Clone, Copy)]
 pub struct NextCorners {
     pub corners: Corners,
     pub next: usize,
 }
 
 // The same of a circle.
-#[derive(Drop)]
+#[derive(Clone, Copy)]
 pub struct NextCircle {
     pub topleft: Point,
     pub diameter: u32,

@@ -1,4 +1,6 @@
 // What a line of words and numbers says: which word it begins with, and the figures that its numbers describe.
+#![tactic(auto)]
+
 mod figures;
 mod words;
 

@@ -19,6 +19,7 @@ rises : (m n : ℕ) (ts : Tests) → (ltb m n && rising n ts) ≡ true → (m < 
 rises m n ts r = let p = and_true (ltb m n) (rising n ts) r in (ltb-true m n p.0, p.1)
 
 above : {k : ℕ} (m : ℕ) (ts : Tests) → rising m ts ≡ true → Applies k ts → m < k
+above {k = k} m [] r a = elim a [ ]
 above m ((n, b) ∷ ts) r here = (rises m n ts r).0
 above m ((n, b) ∷ ts) r (later a) = let p = rises m n ts r in let l = above n ts p.1 a in omega (arith, p.0)
 
@@ -38,6 +39,7 @@ first_applies ((m, false) ∷ ts) n = later (first_applies ts n)
 
 -- and no lower number's does
 pub first_least : {k : ℕ} (m : ℕ) (ts : Tests) → rising m ts ≡ true → Applies k ts → first ts ≤ k
+first_least {k = k} m [] r a = elim a [ ]
 first_least m ((n, true) ∷ ts) r here = omega arith
 first_least m ((n, true) ∷ ts) r (later a) = omega (arith, above n ts (rises m n ts r).1 a)
 first_least m ((n, false) ∷ ts) r (later a) = first_least n ts (rises m n ts r).1 a

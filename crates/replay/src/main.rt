@@ -1,5 +1,7 @@
 // Puts any question or call to the library: reads lines of a word and tab-parted numbers and answers each by a line. A line ends at LF or at
 // the end of the input, of whatever length that is and in whatever parts it comes.
+#![tactic(auto)]
+
 ghost use Rattle.std.specs.Prelude.{◌≡◌, ◌≤◌, length};
 ghost use Rattle.streams.specs.State.{Standing};
 ghost use Rattle.streams.specs.Run.{Ended};
@@ -9,7 +11,7 @@ use screens::Screen;
 use streams::State;
 
 // Where the program stands, and the screen that the lines left.
-#[derive(Drop)]
+#[derive(Clone, Copy)]
 pub struct Reached {
     pub st: State,
     pub screen: Screen,
@@ -64,7 +66,7 @@ fn last_line(
 }
 
 // Turn after turn, until the input ends.
-fn run(input: &mut [u8], memory: &mut [u8], file: &mut [u8], out: &mut [u8]) -> State
+fn run(rt: &HostRuntime, input: &mut [u8], memory: &mut [u8], file: &mut [u8], out: &mut [u8]) -> State
     requires { (length input.old ≡ 65536) × (length memory.old ≡ 65536) × (length file.old ≡ 65536) × (length out.old ≡ 65536) }
     ensures { Ended bytes after_lines after_last (first out.old (memory.old, file.old)) result input.new out.new }
 {
@@ -73,18 +75,18 @@ fn run(input: &mut [u8], memory: &mut [u8], file: &mut [u8], out: &mut [u8]) -> 
     while streams::goes_on(st) {
         let reached = answer_some(input, memory, file, out, st, screen);
         screen = reached.screen;
-        st = streams::flush(out, reached.st);
-        st = streams::refill(input, st);
+        st = streams::flush(rt, out, reached.st);
+        st = streams::refill(rt, input, st);
     }
     let reached = last_line(input, memory, file, out, st, screen);
-    streams::empty(out, reached.st)
+    streams::empty(rt, out, reached.st)
 }
 
-fn main() {
+fn main(rt: HostRuntime) {
     let mut input = [0u8; 65536];
     let mut memory = [0u8; 65536];
     let mut file = [0u8; 65536];
     let mut out = [0u8; 65536];
-    let st = run(&mut input, &mut memory, &mut file, &mut out);
-    streams::complain(st);
+    let st = run(&rt, &mut input, &mut memory, &mut file, &mut out);
+    streams::complain(&rt, st);
 }

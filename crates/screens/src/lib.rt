@@ -1,4 +1,6 @@
 // The buffer, the description of the frame and the lent length: the lines that change them, and those that show them.
+#![tactic(auto)]
+
 ghost use Rattle.std.specs.Prelude.{◌≡◌, ◌≤◌, length};
 ghost use Rattle.screens.specs.Screen.{start, next_screen, frame_turn, preset_call, read_reply, image_size_reply, lit_reply, response};
 
@@ -8,7 +10,7 @@ use protocol::{Reply, Value};
 use readers::{ends_at, ends_within, next_point, place_in};
 
 // The description, and how many bytes of the buffer are lent to drawing calls.
-#[derive(Drop)]
+#[derive(Clone, Copy)]
 pub struct Screen {
     pub frame: Frame,
     pub lent: usize,
@@ -25,14 +27,14 @@ pub fn first_screen() -> Screen
 }
 
 // What a line leaves of the screen, and what it is answered.
-#[derive(Drop)]
+#[derive(Clone, Copy)]
 pub struct Turn {
     pub screen: Screen,
     pub reply: Reply,
 }
 
 // What reading a description finds.
-#[derive(Drop)]
+#[derive(Clone, Copy)]
 pub struct Described {
     pub ok: bool,
     pub screen: Screen,

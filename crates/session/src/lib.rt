@@ -1,4 +1,6 @@
 // Answering a line, and the lines of a part of the input one after the other: a line shows bytes, or takes a turn.
+#![tactic(auto)]
+
 ghost use Rattle.std.specs.Prelude.{◌≡◌, ◌+◌, ◌≤◌, length};
 ghost use Rattle.session.specs.Lines.{answered, after_all};
 
@@ -8,14 +10,14 @@ use readers::place_in;
 use screens::Screen;
 
 // What a line leaves: the screen, and how far the output is filled.
-#[derive(Drop)]
+#[derive(Clone, Copy)]
 pub struct Answered {
     pub screen: Screen,
     pub at: usize,
 }
 
 // What lines leave: the same, and how far the input is read.
-#[derive(Drop)]
+#[derive(Clone, Copy)]
 pub struct Progress {
     pub next: usize,
     pub screen: Screen,

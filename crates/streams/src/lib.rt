@@ -1,6 +1,8 @@
 // Programs that answer their input line by line, of whatever length it is and in whatever parts it comes. A program goes on turn by turn: it answers
 // the lines that LF ends, writes, and reads on; and at the end the last line. What is decided in between stands here; the calls of `read` and `write` are
 // those of `console`.
+#![tactic(auto)]
+
 ghost use Rattle.std.specs.Prelude.{◌≡◌, ◌≤◌, ◌<◌, length};
 ghost use Rattle.streams.specs.State.{Within, started, goes_on, stands_at, written, emptied, last_is};
 ghost use Rattle.streams.specs.Refill.{whole, Refilled};
@@ -8,7 +10,7 @@ ghost use Rattle.streams.specs.Refill.{whole, Refilled};
 // The bytes of the input's buffer from `next` up to `end` are still to be looked at, and the output's is filled up to `at`; whether more input may come,
 // whether a read or a write failed. A proved loop has to end, and nothing says that an input does: so the turns are counted down, from a number that no
 // run uses up.
-#[derive(Drop)]
+#[derive(Clone, Copy)]
 pub struct State {
     pub next: usize,
     pub end: usize,
@@ -66,22 +68,22 @@ pub fn stands_at(st: State, next: usize, at: usize) -> State
 }
 
 // Inside the library: writes the output once half of 64 KiB is filled.
-pub fn flush(out: &[u8], st: State) -> State
+pub fn flush(rt: &HostRuntime, out: &[u8], st: State) -> State
     requires { st.at ≤ length out.now }
     ensures { result ≡ written st result.unwritten }
 {
     if st.at < 32768 {
         return st;
     }
-    empty(out, st)
+    empty(rt, out, st)
 }
 
 // Inside the library: writes all that the output is filled with.
-pub fn empty(out: &[u8], st: State) -> State
+pub fn empty(rt: &HostRuntime, out: &[u8], st: State) -> State
     requires { st.at ≤ length out.now }
     ensures { result ≡ emptied st result.unwritten }
 {
-    let taken = console::write(out, st.at);
+    let taken = console::write(rt, out, st.at);
     State {
         next: st.next,
         end: st.end,
@@ -103,7 +105,7 @@ pub fn has_line(input: &[u8], st: State) -> bool
 }
 
 // Inside the library: once no line is left that LF ends, keeps what is behind the last of them, of which 129 bytes are enough, and reads on behind it.
-pub fn refill(input: &mut [u8], st: State) -> State
+pub fn refill(rt: &HostRuntime, input: &mut [u8], st: State) -> State
     requires { Within st × (0 < st.turns) × (length input.old ≡ 65536) }
     ensures { Refilled input.old st result input.new }
 {
@@ -121,7 +123,7 @@ pub fn refill(input: &mut [u8], st: State) -> State
         };
     }
     let kept = text::keep(input, next, end, 129);
-    let came = console::read_more(input, kept);
+    let came = console::read_more(rt, input, kept);
     State {
         next: 0,
         end: kept + came.count,
@@ -147,8 +149,8 @@ pub fn has_last(st: State) -> bool
 }
 
 // Inside the library: says on standard error if a read failed.
-pub fn complain(st: State) {
+pub fn complain(rt: &HostRuntime, st: State) {
     if st.unread {
-        console::complain(b"the standard input could not be read\n");
+        console::complain(rt, b"the standard input could not be read\n");
     }
 }

@@ -1,4 +1,6 @@
 // Decimal numbers in byte slices: read and written.
+#![tactic(auto)]
+
 mod fields;
 mod parts;
 mod read;
@@ -13,35 +15,35 @@ pub use write::{
 };
 
 // What reading an unsigned number finds: the number, or 0 where there is none.
-#[derive(Drop)]
+#[derive(Clone, Copy)]
 pub struct Unsigned {
     pub ok: bool,
     pub value: u32,
 }
 
 // The same for a signed number.
-#[derive(Drop)]
+#[derive(Clone, Copy)]
 pub struct Signed {
     pub ok: bool,
     pub value: i32,
 }
 
 // What reading an unsigned field of a line finds: the number, or 0 where there is none; and the place of the next field.
-#[derive(Drop)]
+#[derive(Clone, Copy)]
 pub struct NextU32 {
     pub value: u32,
     pub next: usize,
 }
 
 // The same for a signed field.
-#[derive(Drop)]
+#[derive(Clone, Copy)]
 pub struct NextI32 {
     pub value: i32,
     pub next: usize,
 }
 
 // What a line of two coordinates says; zeros where the line is another.
-#[derive(Drop)]
+#[derive(Clone, Copy)]
 pub struct Place {
     pub ok: bool,
     pub x: i32,
@@ -49,7 +51,7 @@ pub struct Place {
 }
 
 // What a line of six coordinates says; zeros where the line is another.
-#[derive(Drop)]
+#[derive(Clone, Copy)]
 pub struct Vertices {
     pub ok: bool,
     pub x1: i32,

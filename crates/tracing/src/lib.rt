@@ -1,4 +1,6 @@
 // Lines, connected lines and outlines by a brush, point by point: each sets the points that the brush's rectangle holds, and counts every pixel once.
+#![tactic(auto)]
+
 ghost use Rattle.std.specs.Prelude.{◌≡◌, true, ◌-◌, ◌≤◌, length, ◌≤ℤ◌};
 ghost use Rattle.geometry.specs.Bound.{Bounded};
 ghost use Rattle.painting.specs.Brush.{Ready, brushed};
@@ -9,7 +11,7 @@ use geometry::Point;
 use painting::Brush;
 
 // The edges of an outline that are drawn already: the line a to b, and with the second one the line b to c too.
-#[derive(Drop)]
+#[derive(Clone, Copy)]
 struct Earlier {
     second: bool,
     a: Point,

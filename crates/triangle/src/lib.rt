@@ -1,4 +1,6 @@
 // Triangles: whether a pixel is contained, the columns of a row, and the rows. Vertices may come in any order, lie on one line or coincide.
+#![tactic(auto)]
+
 ghost use Rattle.std.specs.Prelude.{◌≡◌, cond, not, ◌&&◌, ◌||◌, ◌<◌, ◌≤◌, min, pos, neg_ℤ, nat_abs, ◌+ℤ◌, ◌≤ℤ◌};
 ghost use Rattle.whole.specs.Equal.{eq_z};
 ghost use Rattle.refusals.specs.First.{first};
@@ -16,7 +18,7 @@ ghost use Rattle.triangle.specs.Answer.{vertex_tests, rows_answer};
 use geometry::{Point, Span, Verdict};
 
 // The vertices by y, then x.
-#[derive(Drop)]
+#[derive(Clone, Copy)]
 pub struct Sorted {
     pub p1: Point,
     pub p2: Point,
@@ -24,11 +26,11 @@ pub struct Sorted {
 }
 
 // A span of columns: the first, and one past the last; empty if they are the same.
-#[derive(Drop)]
+#[derive(Clone, Copy)]
 pub struct Columns(pub i32, pub i32);
 
 // A stretch of columns, counted from an edge's start: the first and the last.
-#[derive(Drop)]
+#[derive(Clone, Copy)]
 struct Stretch {
     first: u32,
     last: u32,
@@ -36,7 +38,7 @@ struct Stretch {
 
 // The rows of a triangle: the first, and how many. With a refusal its number, and 0 and 0.
 #[repr(C)]
-#[derive(Drop)]
+#[derive(Clone, Copy)]
 pub struct RowRange {
     pub number: u32,
     pub first: i32,

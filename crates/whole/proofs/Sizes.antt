@@ -1,6 +1,6 @@
 -- Rules by which `search (needs, sizes)` closes the needs of signed arithmetic by itself: `Sz k z` is |z| ≤ 2 ^ k, asked at a written-out k.
 use mathlib.Core.Path.{◌≡◌, refl, sym, subst, ap, ap₂, ◌∙◌}
-use Prim.Native.Nat.{ℕ, suc, ◌+◌, ◌*◌, ◌-◌, ◌/◌, ◌<◌, ◌≤◌, ◌^◌}
+use Prim.Native.Nat.{ℕ, zero, suc, ◌+◌, ◌*◌, ◌-◌, ◌/◌, ◌<◌, ◌≤◌, ◌^◌}
 use native.Mathlib.Nat.{le_trans, lt_trans, le_of_lt, mul-le-mul}
 use native.Mathlib.Omega.{arith}
 use lib.Dec.{T, ltb, leb, ltb→lt, leb→le, lit<}
@@ -17,6 +17,7 @@ pub record Sz (k : ℕ) (z : ℤ) : Type 0 where
   pub sz : nat_abs z ≤ 2 ^ k
 
 twice : (k : ℕ) → 0 < k → 2 ^ (k - 1) + 2 ^ (k - 1) ≤ 2 ^ k
+twice zero h = elim h [ ]
 twice (suc k) h = rw (one_off k, pow-suc) (omega arith)
   where
     one_off : (k : ℕ) → suc k - 1 ≡ k

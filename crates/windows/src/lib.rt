@@ -1,4 +1,6 @@
 // Rectangles of a frame, and the steps of a walk that one holds.
+#![tactic(auto)]
+
 ghost use Rattle.std.specs.Prelude.{◌≡◌, ◌≤◌, ◌<◌, pos};
 ghost use Rattle.whole.specs.Interval.{between};
 ghost use Rattle.geometry.specs.Bound.{Coord};
@@ -6,7 +8,7 @@ ghost use Rattle.windows.specs.Window.{in_window, clipped, Small};
 ghost use Rattle.windows.specs.Interval.{Held};
 
 // Inside the library: a rectangle of a frame, from column `left` and row `top` to one before `right` and `bottom`.
-#[derive(Drop)]
+#[derive(Clone, Copy)]
 pub struct Window {
     pub left: u32,
     pub top: u32,
@@ -15,7 +17,7 @@ pub struct Window {
 }
 
 // Inside the library: steps of a walk, from `from` to one before `past`.
-#[derive(Drop)]
+#[derive(Clone, Copy)]
 pub struct Steps {
     pub from: u32,
     pub past: u32,

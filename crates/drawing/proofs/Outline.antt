@@ -27,7 +27,7 @@ use Rattle.frames.proofs.Refusals.{sound}
 use Rattle.drawing.specs.Drawing.{triangle_drawing, outline_drawing}
 use Rattle.tracing.specs.Figure.{line_figure, outline_figure}
 use Rattle.filling.specs.Figure.{triangle_figure}
-use Rattle.tracing.proofs.Outline.{outline_any_order, on_edge}
+use Rattle.tracing.proofs.Outline.{outline_any_order, on_edge_lem}
 
 -- ---- ANY ORDER OF THE VERTICES gives the same outline, and so the same count and the same bytes
 module _ {a b c d e f : Point} (same : Same a b c d e f) where
@@ -37,7 +37,7 @@ module _ {a b c d e f : Point} (same : Same a b c d e f) where
 module _ (v1 v2 v3 : Point) where
   -- ---- EVERY OUTLINE PIXEL IS CONTAINED in the filled triangle, whatever its area
   pub outline_contained : (x y : ℤ) → outline_figure v1 v2 v3 x y ≡ true → triangle_figure v1 v2 v3 x y ≡ true
-  outline_contained x y h = edge_contained v1 v2 v3 (x, y) (sym (on_edge v1 v2 v3 x y) ∙ h)
+  outline_contained x y h = edge_contained v1 v2 v3 (x, y) (sym (on_edge_lem v1 v2 v3 x y) ∙ h)
 
   -- so what lies in the fill or in the outline lies in the fill
   pub fill_or_outline : (x y : ℤ) → triangle_figure v1 v2 v3 x y || outline_figure v1 v2 v3 x y ≡ triangle_figure v1 v2 v3 x y

@@ -32,15 +32,15 @@ module _ (said : List ℕ) (next value : ℕ) (file : List ℕ) {t : Bool} (size
   part_count = lent_count value file part_within
 
 -- ---- the file: what writing an image into its first bytes leaves, and what a turn on it and one on the screen leave
-pub image_said : (file : List ℕ) (room : ℕ) {a : Size} {left : List ℕ} {w : Size × List ℕ} → ◌≡◌ {A = Size × List ℕ} (a, left) w
+pub image_said_lem : (file : List ℕ) (room : ℕ) {a : Size} {left : List ℕ} {w : Size × List ℕ} → ◌≡◌ {A = Size × List ℕ} (a, left) w
     → ◌≡◌ {A = Reply × List ℕ} (One a.number (Natural a.bytes), left ++ drop room file) (image_said file room w)
-image_said file room e = ap (image_said file room) e
+image_said_lem file room e = ap (image_said file room) e
 
-pub load_said : {n : ℕ} {left : List ℕ} {w : ℕ × List ℕ} → ◌≡◌ {A = ℕ × List ℕ} (n, left) w → ◌≡◌ {A = Reply × List ℕ} (Number n, left) (load_said w)
-load_said e = ap load_said e
+pub load_said_lem : {n : ℕ} {left : List ℕ} {w : ℕ × List ℕ} → ◌≡◌ {A = ℕ × List ℕ} (n, left) w → ◌≡◌ {A = Reply × List ℕ} (Number n, left) (load_said w)
+load_said_lem e = ap load_said e
 
 -- what answers the needs of `image` and `load`
-pub ruleset images = (readings, image_said, load_said, part_within, part_count)
+pub ruleset images = (readings, image_said_lem, load_said_lem, part_within, part_count)
 
 -- bytes that the rest of a line is: there is none, or it is put as it stands
 module _ (said : List ℕ) (next value : ℕ) (file : List ℕ) where

@@ -47,11 +47,11 @@ module _ (v1 v2 v3 : Point) where
   rows_of : {x y : ℤ} → InRow (flat v1 v2 v3) (p1 v1 v2 v3) (p2 v1 v2 v3) (p3 v1 v2 v3) (x, y) → ((p1 v1 v2 v3).1 ≤ℤ y) × (y ≤ℤ (p3 v1 v2 v3).1)
   rows_of b = edge_point_rows (p1 v1 v2 v3) (p2 v1 v2 v3) (p3 v1 v2 v3) (upper v1 v2 v3) (lower v1 v2 v3) (flat v1 v2 v3) _ b.at_first
 
-  pub none_above : (u v : ℕ) → pos v <ℤ (p1 v1 v2 v3).1 → triangle_figure v1 v2 v3 (pos u) (pos v) ≡ false
-  none_above u v l = decides_no (contained_decides v1 v2 v3 (pos u, pos v)) (λ b. omega (arith, lt_nat l, le_nat (rows_of b).0))
+  pub none_above_lem : (u v : ℕ) → pos v <ℤ (p1 v1 v2 v3).1 → triangle_figure v1 v2 v3 (pos u) (pos v) ≡ false
+  none_above_lem u v l = decides_no (contained_decides v1 v2 v3 (pos u, pos v)) (λ b. omega (arith, lt_nat l, le_nat (rows_of b).0))
 
-  pub none_below : (u v : ℕ) → (p3 v1 v2 v3).1 <ℤ pos v → triangle_figure v1 v2 v3 (pos u) (pos v) ≡ false
-  none_below u v l = decides_no (contained_decides v1 v2 v3 (pos u, pos v)) (λ b. omega (arith, lt_nat l, le_nat (rows_of b).1))
+  pub none_below_lem : (u v : ℕ) → (p3 v1 v2 v3).1 <ℤ pos v → triangle_figure v1 v2 v3 (pos u) (pos v) ≡ false
+  none_below_lem u v l = decides_no (contained_decides v1 v2 v3 (pos u, pos v)) (λ b. omega (arith, lt_nat l, le_nat (rows_of b).1))
 
   -- ---- a row that was walked
   module _ (y : ℤ) (r : Row) (done : Rowed (sorted v1 v2 v3) solid y r) where

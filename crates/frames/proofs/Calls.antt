@@ -173,9 +173,9 @@ filled_on c colour b e z J all n h =
     ∙ ap (λ (q : Window). marked (keeps c) (held_by q everywhere) colour b) (sym (all_window c all)))
 
 -- a call whose figure has every pixel of the rectangle is a fill
-has_all : (p s : Bool) → (p ≡ true → s ≡ true) → (p && true) ≡ (p && s)
-has_all true s h = sym (h refl)
-has_all false s h = refl
+has_all_lem : (p s : Bool) → (p ≡ true → s ≡ true) → (p && true) ≡ (p && s)
+has_all_lem true s h = sym (h refl)
+has_all_lem false s h = refl
 
 pub everywhere_on : (c : Canvas) (d : Drawing) (b : List ℕ) {r : ℕ} → r ≡ number_on c d.colour d.own → r ≡ 0 → Judged c (length b)
     → ((u v : ℕ) → in_window c.window (pos u) (pos v) ≡ true → d.figure (pos u) (pos v) ≡ true) → on_canvas c (fill_drawing d.colour) b ≡ on_canvas c d b
@@ -186,7 +186,7 @@ everywhere_on c d b e z J all =
     ap (λ (n : ℕ). made_of n (keeps c) (held_by c.window everywhere) d.colour b) (sym alone ∙ sym z ∙ e)
     ∙ same_made (keeps c) d.colour b (held_by c.window everywhere) (held_by c.window d.figure) (number_on c d.colour d.own)
     (λ y. marked_cong (keeps c) (sound c.frame (J.accepted p.0).described) d.colour b (held_by c.window everywhere) (held_by c.window d.figure)
-    (λ u v hu hv. has_all (in_window c.window (pos u) (pos v)) (d.figure (pos u) (pos v)) (all u v)))
+    (λ u v hu hv. has_all_lem (in_window c.window (pos u) (pos v)) (d.figure (pos u) (pos v)) (all u v)))
 
 -- ---- whoever judges a canvas: its tests, and behind them the call's
 pub judged_by : (ts : Tests) → numbered ts ≡ true → (c : Canvas) → c.number ≡ first ts → (d : Drawing) (b : List ℕ)

@@ -64,8 +64,8 @@ module _ (s e p : Point) where
       }
 
   -- the moves at a step of the line are on it
-  on_line : (k : ℕ) → k ≤ major s e → OnLine (steep s e) (wide s e) (high s e) (x_moves s e k) (y_moves s e k)
-  on_line k l = by (steep s e) refl
+  on_line_lem : (k : ℕ) → k ≤ major s e → OnLine (steep s e) (wide s e) (high s e) (x_moves s e k) (y_moves s e k)
+  on_line_lem k l = by (steep s e) refl
     where
       by : (t : Bool) → steep s e ≡ t → OnLine t (wide s e) (high s e) (x_moves s e k) (y_moves s e k)
       by true h =
@@ -82,7 +82,7 @@ module _ (s e p : Point) where
         let eu : x_moves s e h.step ≡ u = ap nat_abs (sym o.x ∙ off.x) in
         let ev : y_moves s e h.step ≡ v = ap nat_abs (sym o.y ∙ off.y) in
         subst (λ (n : ℕ). OnLine (steep s e) (wide s e) (high s e) u n) ev
-        (subst (λ (n : ℕ). OnLine (steep s e) (wide s e) (high s e) n (y_moves s e h.step)) eu (on_line h.step h.walked))
+        (subst (λ (n : ℕ). OnLine (steep s e) (wide s e) (high s e) n (y_moves s e h.step)) eu (on_line_lem h.step h.walked))
 
     pub closed← : OnLine (steep s e) (wide s e) (high s e) u v → HasPoint s e p
     unfolding point_at

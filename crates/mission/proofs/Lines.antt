@@ -47,12 +47,12 @@ module _ (s e : Point) where
           λ i. (towards_is s.0 e.0 j i, (ap (λ (n : ℕ). s.1 +ℤ toward s.1 e.1 *ℤ pos n) (m_is j) ∙ towards_is s.1 e.1 (m s e j)) i)
 
 module _ {s e p : Point} where
-  pub on_line : HasPoint s e p → OnLine s e p
-  on_line h = record { step = h.step; walked = subst (λ (n : ℕ). h.step ≤ n) (larger_is s e) h.walked; here = h.here ∙ point_is s e h.step }
+  pub on_line_lem : HasPoint s e p → OnLine s e p
+  on_line_lem h = record { step = h.step; walked = subst (λ (n : ℕ). h.step ≤ n) (larger_is s e) h.walked; here = h.here ∙ point_is s e h.step }
 
   pub line_has : OnLine s e p → HasPoint s e p
   line_has h = record { step = h.step; walked = subst (λ (n : ℕ). h.step ≤ n) (sym (larger_is s e)) h.walked; here = h.here ∙ sym (point_is s e h.step) }
 
 -- whether a pixel is a point of a line is 01's question
 pub line_decides : (s e p : Point) → Decides (has_point s e p) (OnLine s e p)
-line_decides s e p = decides_map (has_decides s e p) on_line line_has
+line_decides s e p = decides_map (has_decides s e p) on_line_lem line_has

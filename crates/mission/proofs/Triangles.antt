@@ -25,7 +25,7 @@ use Rattle.circle.specs.Circle as circle
 use Rattle.circle.proofs.Spans.{span_agrees, row_some, start_is, end_is, no_start, no_end}
 use Rattle.tracing.specs.Figure.{outline_figure}
 use Rattle.mission.specs.Figures.{OnLine, InOrder, Arranged, as123, as132, as213, as231, as312, as321, Sorting, area, AllAtLeast, AllAtMost, OnEdge, InTriangle, EdgePoint, OnOutline, RowSpan, InCircle, CircleSpan, some, none}
-use Rattle.mission.proofs.Lines.{on_line, line_has, line_decides}
+use Rattle.mission.proofs.Lines.{on_line_lem, line_has, line_decides}
 
 -- the two formulas for twice the area are one
 pub area_is : (a b c : Point) → area_doubled a b c ≡ area a b c
@@ -175,10 +175,10 @@ module _ (v1 v2 v3 : Point) where
       solid d q = record { sorting = sorting v1 v2 v3; solid = λ n. q; flat = λ z. absurd (d.no refl z) }
 
       by : (b : Bool) → Decides b (area v1 v2 v3 ≡ pos 0) → edge.EdgePoint b (sorted v1 v2 v3).p1 (sorted v1 v2 v3).p2 (sorted v1 v2 v3).p3 p → EdgePoint v1 v2 v3 p
-      by true d q = record { sorting = sorting v1 v2 v3; solid = λ n. absurd (n (d.yes refl)); flat = λ z. on_line q }
-      by false d (inl q) = solid d (inl (on_line q))
-      by false d (inr (inl q)) = solid d (inr (inl (on_line q)))
-      by false d (inr (inr q)) = solid d (inr (inr (on_line q)))
+      by true d q = record { sorting = sorting v1 v2 v3; solid = λ n. absurd (n (d.yes refl)); flat = λ z. on_line_lem q }
+      by false d (inl q) = solid d (inl (on_line_lem q))
+      by false d (inr (inl q)) = solid d (inr (inl (on_line_lem q)))
+      by false d (inr (inr q)) = solid d (inr (inr (on_line_lem q)))
 
   of_edge : (p : Point) → EdgePoint v1 v2 v3 p → edge.EdgePoint (is_flat v1 v2 v3) (sorted v1 v2 v3).p1 (sorted v1 v2 v3).p2 (sorted v1 v2 v3).p3 p
   of_edge p E = by (is_flat v1 v2 v3) (flat_decides v1 v2 v3)

@@ -11,7 +11,7 @@ use Rattle.drawing.proofs.draw_connected_line.Reads as draw_connected_line
 use Rattle.drawing.proofs.draw_triangle.Reads as draw_triangle
 use Rattle.drawing.proofs.draw_outline.Reads as draw_outline
 use Rattle.drawing.proofs.draw_circle.Reads as draw_circle
-use Rattle.netpbm.proofs.read_image.Reads as read_image
+use Rattle.netpbm.proofs.read_image.Reads as image_read
 use Rattle.netpbm.proofs.write_image.Reads as write_image
 use Rattle.beamacorn.proofs.beamacorn_set_pixel.Reads as exported_set_pixel
 use Rattle.beamacorn.proofs.beamacorn_fill.Reads as exported_fill
@@ -39,7 +39,7 @@ pub data Made : Frame → Call → List ℕ → ℕ → ℕ → List ℕ → Typ
       → Made a.1.0 (draw (Outline a.1.1.0 a.1.1.1.0 a.1.1.1.1.0) a.1.1.1.1.1.0) a.0.now r.number r.count s.0.now
   by_draw_circle : (κs : _) (a : _) (r : _) (s : _) → draw_circle.Post κs a r s
       → Made a.1.0 (draw (Circle a.1.1.0 a.1.1.1.0) a.1.1.1.1.0) a.0.now r.number r.count s.0.now
-  by_read_image : (κs : _) (a : _) (r : _) (s : _) → read_image.Post κs a r s → Made a.1.0 (read_image a.1.1.0.now) a.0.now r 0 s.0.now
+  by_read_image : (κs : _) (a : _) (r : _) (s : _) → image_read.Post κs a r s → Made a.1.0 (read_image a.1.1.0.now) a.0.now r 0 s.0.now
   by_exported_set_pixel : (κs : _) (a : _) (r : _) (s : _) → exported_set_pixel.Post κs a r s
       → Made (framed a.1) (draw (Pixel (one (behind a.1))) (behind a.1).1.1.0) a.0.now r.number (cond r.inside 1 0) s.0.now
   by_exported_fill : (κs : _) (a : _) (r : _) (s : _) → exported_fill.Post κs a r s

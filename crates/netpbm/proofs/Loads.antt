@@ -36,8 +36,8 @@ module _ (f : Frame) (s : List ℕ) {h : Header} (e : h ≡ header_of f.depth s)
   unfolding file_tests
   given k = k ∙ ap (λ (h : Header). first ((10, no_format f) ∷ headed_and_sized f (length s) h)) e
 
-  pub no_format : no_format f ≡ true → 10 ≡ first (file_tests f s)
-  no_format t = given (stops 10 (no_format f) (headed_and_sized f (length s) h) t)
+  pub no_format_lem : no_format f ≡ true → 10 ≡ first (file_tests f s)
+  no_format_lem t = given (stops 10 (no_format f) (headed_and_sized f (length s) h) t)
 
   module _ (t₁ : no_format f ≡ false) where
     formatted : {r : ℕ} → r ≡ first (headed_and_sized f (length s) h) → r ≡ first (file_tests f s)

@@ -18,7 +18,7 @@ use Rattle.frames.specs.Answer.{read}
 use Rattle.frames.specs.Description.{arranged, raster, size, is_outside, frame_tests, read_tests, colour_at, whole_window}
 use Rattle.frames.specs.Judged.{Accepted}
 use Rattle.frames.proofs.Refusals.{is_accepted, frame_numbered, spaced, sound}
-use Rattle.windows.proofs.Windows.{in_window}
+use Rattle.windows.proofs.Windows.{in_window_lem}
 use Rattle.framebuffer.proofs.pixel.Reads as pixel
 use Rattle.picture.specs.Calls.{Call, blank, picture_after}
 use Rattle.picture.proofs.Picture.{zeros, bytes_after, colours_after_calls}
@@ -26,7 +26,7 @@ use Rattle.picture.proofs.Runs.{Run, run_leaves}
 
 -- a place of the frame is not refused with 8
 inside_frame : (f : Frame) (x y : ℕ) → x < f.width → y < f.height → is_outside f (pos x, pos y) ≡ not true
-inside_frame f x y hx hy = ap not (in_window (whole_window f) x y (omega arith) hx (omega arith) hy)
+inside_frame f x y hx hy = ap not (in_window_lem (whole_window f) x y (omega arith) hx (omega arith) hy)
 
 module _ (f : Frame) (n : ℕ) (ok : first (frame_tests f n) ≡ 0) {os : List Call} {b c : List ℕ} (e : length b ≡ n) (run : Run f os b c) where
   A : Accepted f n

@@ -12,7 +12,7 @@ use Rattle.drawing.proofs.draw_triangle.Reads as draw_triangle
 use Rattle.drawing.proofs.draw_outline.Reads as draw_outline
 use Rattle.drawing.proofs.draw_circle.Reads as draw_circle
 use Rattle.drawing.proofs.draw_connected_line.Reads as draw_connected_line
-use Rattle.netpbm.proofs.read_image.Reads as read_image
+use Rattle.netpbm.proofs.read_image.Reads as image_read
 use Rattle.drawing.specs.declared.Figure.TheVariants.{Fill, Pixel, Line, Connected, Triangle, Outline, Circle}
 use Rattle.picture.specs.Calls.{Call, draw, read_image, blank, picture_after, after_calls}
 use Rattle.picture.proofs.Picture.{zeros, one_picture_one_frame}
@@ -32,7 +32,7 @@ pub data Made : Frame → Call → List ℕ → ℕ → List ℕ → Type 0 wher
       → Made a.1.0 (draw (Circle a.1.1.0 a.1.1.1.0) a.1.1.1.1.0) a.0.now r.number s.0.now
   by_draw_connected_line : (κs : _) (a : _) (r : _) (s : _) → draw_connected_line.Post κs a r s
       → Made a.1.0 (draw (Connected a.1.1.0 a.1.1.1.0) a.1.1.1.1.0) a.0.now r.number s.0.now
-  by_read_image : (κs : _) (a : _) (r : _) (s : _) → read_image.Post κs a r s → Made a.1.0 (read_image a.1.1.0.now) a.0.now r s.0.now
+  by_read_image : (κs : _) (a : _) (r : _) (s : _) → image_read.Post κs a r s → Made a.1.0 (read_image a.1.1.0.now) a.0.now r s.0.now
 
 -- calls made one after the other on one frame, from the bytes at the start to those at the end
 pub data Run (f : Frame) : List Call → List ℕ → List ℕ → Type 0 where

@@ -66,9 +66,9 @@ unfolding end_tests step_tests
 point s e k = lowest_wins _ refl
 
 -- "Other questions on a line or triangle: 5; on a circle: 5, 6"
-pub on_line : (s e : Point) → Lowest (end_tests s e)
+pub on_line_lem : (s e : Point) → Lowest (end_tests s e)
 unfolding end_tests
-on_line s e = lowest_wins _ refl
+on_line_lem s e = lowest_wins _ refl
 
 pub on_triangle : (v1 v2 v3 : Point) → Lowest (vertex_tests v1 v2 v3)
 unfolding vertex_tests

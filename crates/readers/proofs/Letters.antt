@@ -77,9 +77,9 @@ abbrev pub NoneBelow : ℕ → ℕ → Type 0
 NoneBelow zero k = Unit {0}
 NoneBelow (suc n) k = NoneBelow n k × (k ≡ n → ⊥)
 
-none_below : (n k : ℕ) → NoneBelow n k → n ≤ k
-none_below zero k h = omega arith
-none_below (suc n) k h = omega (arith, none_below n k h.0, h.1)
+none_below_lem : (n k : ℕ) → NoneBelow n k → n ≤ k
+none_below_lem zero k h = omega arith
+none_below_lem (suc n) k h = omega (arith, none_below_lem n k h.0, h.1)
 
 past_all : {A : Type 0} (k : ℕ) (ms : List (List ℕ × A)) (other : A) → length ms ≤ k → meaning_at k ms other ≡ other
 past_all k [] other h = refl
@@ -91,7 +91,7 @@ module _ {A : Type 0} (word : List ℕ) (ms : List (List ℕ × A)) (other : A) 
   meant_as n e q = q ∙ ap (λ (j : ℕ). meaning_at j ms other) (sym e ∙ found) ∙ means word ms other
 
   pub meant_other : NoneBelow (length ms) k → r ≡ other → r ≡ meant word ms other
-  meant_other h q = meant_as k refl (q ∙ sym (past_all k ms other (none_below (length ms) k h)))
+  meant_other h q = meant_as k refl (q ∙ sym (past_all k ms other (none_below_lem (length ms) k h)))
 
 -- what holds of every meaning holds of the word's
 abbrev pub Each : {A : Type 0} → (A → Type 0) → List (List ℕ × A) → Type 0

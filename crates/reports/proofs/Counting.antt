@@ -19,8 +19,8 @@ use Rattle.text.specs.Read.{read_signed}
 use Rattle.text.specs.Lines.{first_line, each, over, whole, streamed}
 use Rattle.text.specs.Words.{numbered, counted}
 use Rattle.text.proofs.Amiss.{amiss_long}
-use Rattle.text.proofs.Joining.{too_long}
-use Rattle.text.proofs.Numbers.{no_place, no_vertices}
+use Rattle.text.proofs.Joining.{too_long_lem}
+use Rattle.text.proofs.Numbers.{no_place, no_vertices_lem}
 use Rattle.text.proofs.Showing.{numbered_short, numbered_wide}
 use Rattle.text.proofs.Streaming.{first_line_lem, streamed_is}
 use Rattle.readers.specs.declared.figures.Corners.{Corners}
@@ -132,7 +132,7 @@ long_is : (t : Tally) (line : List ℕ) → 128 < length line
     }) (record { begun = true; wedge = corners_of no_vertices; count = bad_at 1 0 })
 unfolding take_line with_line
 long_is t line h =
-    rw (← no_place (fields line) (too_long 2 line (omega arith)), ← no_vertices (fields line) (too_long 6 line (omega arith)), ← amiss_long 2 line h, ← amiss_long 6 line h)
+    rw (← no_place (fields line) (too_long_lem 2 line (omega arith)), ← no_vertices_lem (fields line) (too_long_lem 6 line (omega arith)), ← amiss_long 2 line h, ← amiss_long 6 line h)
 
 pub take_blind : (t : Tally) (line : List ℕ) → take_line t line ≡ take_line t (take 129 line)
 take_blind t line = by (leb (length line) 128) refl

@@ -14,7 +14,7 @@ use Rattle.text.specs.Read.{plain, negated, read_digits, read_signed, read_i32}
 use Rattle.text.specs.Fields.{until, on_first, fields, joined_behind, joined, number, numbers, exactly, read_vertices}
 use Rattle.text.specs.Lines.{first_line}
 use Rattle.text.proofs.And.{and_second}
-use Rattle.text.proofs.Numbers.{exactly_numbers, numbers_less, no_vertices}
+use Rattle.text.proofs.Numbers.{exactly_numbers, numbers_less, no_vertices_lem}
 use Rattle.text.proofs.Parting.{fields_from, first_field, until_within}
 
 -- ---- joining what was parted
@@ -121,8 +121,8 @@ numbers_line k line e =
     )
 
 -- so a longer one is none
-pub too_long : (k : ℕ) (line : List ℕ) → k * 12 ≤ length line → exactly k (fields line) ≡ false
-too_long k line h = by (exactly k (fields line)) refl
+pub too_long_lem : (k : ℕ) (line : List ℕ) → k * 12 ≤ length line → exactly k (fields line) ≡ false
+too_long_lem k line h = by (exactly k (fields line)) refl
   where
     by : (t : Bool) → exactly k (fields line) ≡ t → exactly k (fields line) ≡ false
     by true e = absurd (omega (arith, numbers_line k line e))
@@ -145,7 +145,7 @@ first_cut n s h = by (leb (until 10 s) n) refl
     cut = ap (λ (k : ℕ). take k (take n s)) (until_cut n s) ∙ take-take (min n (until 10 s)) n s (omega arith)
 
     long : (l : List ℕ) → 72 ≤ length l → record { ok = false; x1 = pos 0; y1 = pos 0; x2 = pos 0; y2 = pos 0; x3 = pos 0; y3 = pos 0 } ≡ read_vertices (fields l)
-    long l k = no_vertices (fields l) (too_long 6 l (omega arith))
+    long l k = no_vertices_lem (fields l) (too_long_lem 6 l (omega arith))
 
     by : (t : Bool) → leb (until 10 s) n ≡ t → read_vertices (fields (first_line (take n s))) ≡ read_vertices (fields (first_line s))
     by true e =

@@ -140,9 +140,9 @@ pub a_place : (fs : List (List ℕ)) (x y : ℤ) → exactly 2 fs ≡ true → x
 unfolding read_place
 a_place fs x y e p q = rw (e, p, q)
 
-pub no_vertices : (fs : List (List ℕ)) → exactly 6 fs ≡ false → no_vertices ≡ read_vertices fs
+pub no_vertices_lem : (fs : List (List ℕ)) → exactly 6 fs ≡ false → no_vertices ≡ read_vertices fs
 unfolding read_vertices
-no_vertices fs e = rw e
+no_vertices_lem fs e = rw e
 
 pub some_vertices : (fs : List (List ℕ)) (a b c d e f : ℤ) → exactly 6 fs ≡ true
     → a ≡ (number fs 0).value → b ≡ (number fs 1).value → c ≡ (number fs 2).value → d ≡ (number fs 3).value → e ≡ (number fs 4).value → f ≡ (number fs 5).value

@@ -46,9 +46,9 @@ module _ {a b c d e f : Point} (same : Same a b c d e f) where
 
 module _ (v1 v2 v3 : Point) where
   -- the edges that containment asks for
-  pub on_edge : (x y : ℤ) → outline_figure v1 v2 v3 x y ≡ on_edge (p1 v1 v2 v3) (p2 v1 v2 v3) (p3 v1 v2 v3) (x, y)
+  pub on_edge_lem : (x y : ℤ) → outline_figure v1 v2 v3 x y ≡ on_edge (p1 v1 v2 v3) (p2 v1 v2 v3) (p3 v1 v2 v3) (x, y)
   unfolding outline_figure on_edge
-  on_edge x y =
+  on_edge_lem x y =
       let first = line_figure (p1 v1 v2 v3) (p2 v1 v2 v3) x y in
       let second = line_figure (p2 v1 v2 v3) (p3 v1 v2 v3) x y in
       let third = line_figure (p1 v1 v2 v3) (p3 v1 v2 v3) x y in
@@ -56,4 +56,4 @@ module _ (v1 v2 v3 : Point) where
 
   -- ---- ZERO AREA: the outline is the line p1 to p3
   pub outline_flat : flat v1 v2 v3 ≡ true → (x y : ℤ) → outline_figure v1 v2 v3 x y ≡ line_figure (p1 v1 v2 v3) (p3 v1 v2 v3) x y
-  outline_flat e x y = on_edge x y ∙ flat_edges v1 v2 v3 (x, y) e
+  outline_flat e x y = on_edge_lem x y ∙ flat_edges v1 v2 v3 (x, y) e

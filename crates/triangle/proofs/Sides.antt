@@ -58,9 +58,9 @@ inside_decides a b c p =
     C = area_doubled p c a
 
 -- all at most 0 is all at least 0, negated
-pub none_above : (a b c : ℤ) → none_below (neg_ℤ a) (neg_ℤ b) (neg_ℤ c) ≡ none_above a b c
+pub none_above_lem : (a b c : ℤ) → none_below (neg_ℤ a) (neg_ℤ b) (neg_ℤ c) ≡ none_above a b c
 unfolding none_below none_above
-none_above a b c = λ i. turned a i && (turned b i && turned c i)
+none_above_lem a b c = λ i. turned a i && (turned b i && turned c i)
   where
     turned : (z : ℤ) → le_z (pos 0) (neg_ℤ z) ≡ le_z z (pos 0)
     turned z = decides_one _ _ (decides_le (pos 0) (neg_ℤ z)) (decides_map (decides_le z (pos 0)) (neg_flip z (pos 0)) (flip_neg z (pos 0)))

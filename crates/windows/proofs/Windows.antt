@@ -45,8 +45,8 @@ window_in q x y e =
     let p = and_true (between (pos q.left) (pos q.right) (pos x)) (between (pos q.top) (pos q.bottom) (pos y)) e in
     (in_between x q.left q.right p.0, in_between y q.top q.bottom p.1)
 
-pub in_window : (q : Window) (x y : ℕ) → q.left ≤ x → x < q.right → q.top ≤ y → y < q.bottom → in_window q (pos x) (pos y) ≡ true
-in_window q x y a b c d = true_and (between_in x q.left q.right a b) (between_in y q.top q.bottom c d)
+pub in_window_lem : (q : Window) (x y : ℕ) → q.left ≤ x → x < q.right → q.top ≤ y → y < q.bottom → in_window q (pos x) (pos y) ≡ true
+in_window_lem q x y a b c d = true_and (between_in x q.left q.right a b) (between_in y q.top q.bottom c d)
 
 -- the coordinates of a place in a rectangle are not negative
 pub window_pos : (q : Window) (x y : ℤ) → in_window q x y ≡ true → (x ≡ pos (nat_abs x)) × (y ≡ pos (nat_abs y))
@@ -115,4 +115,4 @@ module _ (q : Window) (x y : ℤ) where
 pub marked_all : (l : Layout) → Placing l → (colour : ℕ) (b : List ℕ) (s : ℤ → ℤ → Bool) → marked l (held_by (all_of l.width l.height) s) colour b ≡ marked l s colour b
 marked_all l P colour b s =
     marked_cong l P colour b _ _
-    (λ x y hx hy. ap (λ (t : Bool). t && s (pos x) (pos y)) (in_window (all_of l.width l.height) x y (omega arith) hx (omega arith) hy))
+    (λ x y hx hy. ap (λ (t : Bool). t && s (pos x) (pos y)) (in_window_lem (all_of l.width l.height) x y (omega arith) hx (omega arith) hy))

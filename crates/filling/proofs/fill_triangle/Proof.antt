@@ -25,7 +25,7 @@ use Rattle.layout.specs.Figure.{span_figure}
 use Rattle.windows.specs.Window.{in_window}
 use Rattle.painting.specs.Brush.{Ready, brushed, on_top}
 use Rattle.filling.specs.Figure.{triangle_figure}
-use Rattle.filling.proofs.Fill.{solid, none_above, none_below, row_columns, past_fits, row_fits, nearer, still_below}
+use Rattle.filling.proofs.Fill.{solid, none_above_lem, none_below_lem, row_columns, past_fits, row_fits, nearer, still_below}
 use Rattle.painting.proofs.Rows.{brush_sound, few_pixels_lem, above, span_off, rows_start, rows_turn, rows_end}
 use Rattle.filling.proofs.fill_triangle.Statement.{statement}
 use Rattle.filling.proofs.fill_triangle.Tie as tie
@@ -100,7 +100,7 @@ loop-holds c =
       λ v1 v2 v3 ok first at. (
         at,
         sym (rows_start a.brush (brush_sound ok) a.buf.now (triangle_figure v1 v2 v3) (top c)
-            (λ u v l. span_off (in_window a.brush.window (pos u) (pos v)) _ (none_above v1 v2 v3 u v (subst (λ (z : ℤ). pos v <ℤ z) first l)))),
+            (λ u v l. span_off (in_window a.brush.window (pos u) (pos v)) _ (none_above_lem v1 v2 v3 u v (subst (λ (z : ℤ). pos v <ℤ z) first l)))),
       ),
     )
 
@@ -211,7 +211,7 @@ returns c =
     let past : bottom d <ℤ to_z w32 l.y = search tests in
     (l.invariant.2 (v1 d) (v2 d) (v3 d) (entry d).requires.0 (top_is d) (begun d)).1
     ∙ rows_end a.brush (brush_sound (entry d).requires.0) a.buf.now (triangle_figure (v1 d) (v2 d) (v3 d)) (to_z w32 l.y)
-    (λ u v k. span_off (in_window a.brush.window (pos u) (pos v)) _ (none_below (v1 d) (v2 d) (v3 d) u v (nat_lt (omega (arith, lt_nat past, le_nat k, eq_nat (bottom_is d))))))
+    (λ u v k. span_off (in_window a.brush.window (pos u) (pos v)) _ (none_below_lem (v1 d) (v2 d) (v3 d) u v (nat_lt (omega (arith, lt_nat past, le_nat k, eq_nat (bottom_is d))))))
 
 pub fill_triangle_spec : {M : Type 1} → statement M
 fill_triangle_spec =

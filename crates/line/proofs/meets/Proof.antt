@@ -66,7 +66,7 @@ returns c =
     x.progress.ensures ∙ (λ i. toward (sx i) (ex i) *ℤ (px i -ℤ sx i)) in
     let down : y.progress2.result ≡ toward s.args.start.1 s.args.end.1 *ℤ (s.args.p.1 -ℤ s.args.start.1) =
     y.progress2.ensures ∙ (λ i. toward (sy i) (ey i) *ℤ (py i -ℤ sy i)) in
-    c.on_line.ensures ∙ (λ i. on_line (nat_is (A a) i) (nat_is (B b) i) ((x_back ∙ along) i) ((y_back ∙ down) i)) ∙ has_closed s.args.start s.args.end s.args.p
+    c.on_line_lem.ensures ∙ (λ i. on_line (nat_is (A a) i) (nat_is (B b) i) ((x_back ∙ along) i) ((y_back ∙ down) i)) ∙ has_closed s.args.start s.args.end s.args.p
 
 pub meets_spec : {M : Type 1} → statement M
 meets_spec =

@@ -14,7 +14,7 @@ use Rattle.netpbm.specs.Image.{big_first}
 use Rattle.netpbm.specs.Written.{no_format}
 use Rattle.netpbm.specs.Reading.{file_tests}
 use Rattle.netpbm.proofs.Answers.{pixels_size}
-use Rattle.netpbm.proofs.Loads.{few, no_format, no_header, other_size_lem, by_pixels, too_few, enough_pixels}
+use Rattle.netpbm.proofs.Loads.{few, no_format_lem, no_header, other_size_lem, by_pixels, too_few, enough_pixels}
 use Rattle.netpbm.proofs.file_refusal.Statement.{statement}
 use Rattle.netpbm.proofs.file_refusal.Tie as tie
 
@@ -43,7 +43,7 @@ has-no-format-requires : tie.Need-has-no-format-requires
 has-no-format-requires c κs = search rules
 
 returns : tie.Need-returns
-returns c = let s = c.before.before.before in no_format s.args.frame s.args.file.now s.requires.1 (sym c.before.has-no-format.ensures ∙ c.if1.true)
+returns c = let s = c.before.before.before in no_format_lem s.args.frame s.args.file.now s.requires.1 (sym c.before.has-no-format.ensures ∙ c.if1.true)
 
 returns-2 : tie.Need-returns-2
 returns-2 c = let s = c.before.before.before.before.before in no_header s.args.frame s.args.file.now s.requires.1 (formatted c.before.before) c.if2.true

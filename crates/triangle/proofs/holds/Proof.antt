@@ -165,7 +165,7 @@ returns-4 c =
     let a = areas t in
     let solid = decides_no (flat_decides (v1 a) (v2 a) (v3 a)) (λ e. c.before.if3.false (ap (of_z w64) (whole a ∙ e))) in
     let outside = sym (and_yes _) ∙ ap (λ (b : Bool). is_inside (v1 a) (v2 a) (v3 a) (p a) && not b) (sym solid) ∙ sides t.before.before ∙ t.before.if2.false in
-    c.on_edge.ensures ∙ ap (λ (t : Sorted). on_edge t.p1 t.p2 t.p3 (p a)) t.sorted-yx.ensures
+    c.on_edge_lem.ensures ∙ ap (λ (t : Sorted). on_edge t.p1 t.p2 t.p3 (p a)) t.sorted-yx.ensures
     ∙ sym (contained_by (v1 a) (v2 a) (v3 a) (p a) false false solid outside)
 
 pub holds_spec : {M : Type 1} → statement M

@@ -15,8 +15,8 @@ none-below-requires : tie.Need-none-below-requires
 none-below-requires c κs = search rules
 
 -- what the call says
-below : (c : tie.After-none-below) → (let a = c.before.args in none_below a.a a.b a.c ≡ c.none_below.result)
-below c = let f = c.before.ranges in sym (c.none_below.ensures ∙ (λ i. none_below (to_z-of_z f.a i) (to_z-of_z f.b i) (to_z-of_z f.c i)))
+below : (c : tie.After-none-below) → (let a = c.before.args in none_below a.a a.b a.c ≡ c.none_below_lem.result)
+below c = let f = c.before.ranges in sym (c.none_below_lem.ensures ∙ (λ i. none_below (to_z-of_z f.a i) (to_z-of_z f.b i) (to_z-of_z f.c i)))
 
 returns : tie.Need-returns
 returns c =

@@ -7,7 +7,7 @@ use borrow.Author.Rules.{rules}
 use Rattle.whole.specs.Equal.{eq_z}
 use Rattle.whole.proofs.Machine.{Has, one, minus_of, fits, back}
 use Rattle.triangle.specs.Triangle.{none_below, none_above}
-use Rattle.triangle.proofs.Sides.{none_above, neg_zero}
+use Rattle.triangle.proofs.Sides.{none_above_lem, neg_zero}
 use Rattle.triangle.proofs.same_side.Statement.{statement}
 use Rattle.triangle.proofs.same_side.Tie as tie
 
@@ -50,7 +50,7 @@ second c =
     let d = (back (minus_of (back (C s)))).is in
     sym (c.one-side2.ensures
     ∙ (λ i. none_below (a i) (b i) (d i) && not (eq_z ((a i +ℤ b i) +ℤ d i) (pos 0)))
-    ∙ ap₂ (λ (t u : Bool). t && not u) (none_above s.args.a s.args.b s.args.c) (neg_zero s.args.a s.args.b s.args.c))
+    ∙ ap₂ (λ (t u : Bool). t && not u) (none_above_lem s.args.a s.args.b s.args.c) (neg_zero s.args.a s.args.b s.args.c))
 
 returns : tie.Need-returns
 returns c =

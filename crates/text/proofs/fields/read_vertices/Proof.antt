@@ -5,7 +5,7 @@ use mir.Syntax.{w32}
 use borrow.Author.Rules.{rules}
 use Rattle.whole.proofs.Machine.{field_back}
 use Rattle.text.specs.Fields.{fields, numbers}
-use Rattle.text.proofs.Numbers.{after, then_next, then_value, ended, not_ended, exactly_numbers, numbers_less, no_vertices, some_vertices}
+use Rattle.text.proofs.Numbers.{after, then_next, then_value, ended, not_ended, exactly_numbers, numbers_less, no_vertices_lem, some_vertices}
 use Rattle.text.proofs.fields.read_vertices.Statement.{statement}
 use Rattle.text.proofs.fields.read_vertices.Tie as tie
 
@@ -64,7 +64,7 @@ returns : tie.Need-returns
 returns c =
     let at = c.before.before.before in
     let line = c.before.before.before.before.before.before.before.before.before.before.args.line.now in
-    c.no-vertices.ensures ∙ no_vertices (fields line) (not_ended line 6 at.next-i326.result.next (behind_six at) c.before.if1.true)
+    c.no-vertices.ensures ∙ no_vertices_lem (fields line) (not_ended line 6 at.next-i326.result.next (behind_six at) c.before.if1.true)
 
 returns-2 : tie.Need-returns-2
 returns-2 c =

@@ -5,7 +5,7 @@ use mathlib.Core.Bool.{Bool}
 use mathlib.Core.List.{List}
 use Prim.Native.Nat.{ℕ}
 use lib.IntN.{ℤ}
-use denote.Ref.{Bor}
+use denote.MutBor.{MutBor}
 use Rattle.refusals.specs.First.{Tests, first}
 use Rattle.geometry.specs.declared.Point.{Point}
 use Rattle.geometry.specs.declared.Verdict.{Verdict}
@@ -62,8 +62,8 @@ abbrev Answers : {K A R S : Type 0} → (K → A → R → S → Type 0) → (A 
 Answers {K} {A} {R} {S} Post answer = (κs : K) (a : A) (r : R) (s : S) → Post κs a r s → r ≡ answer a
 
 -- an answer, and the bytes of the buffer that is lent first
-abbrev Leaves : {K A R S : Type 0} → (K → A → R → Bor (List ℕ) × S → Type 0) → (A → R × List ℕ) → Type 0
-Leaves {K} {A} {R} {S} Post left = (κs : K) (a : A) (r : R) (s : Bor (List ℕ) × S) → Post κs a r s → ◌≡◌ {A = R × List ℕ} (r, s.0.now) (left a)
+abbrev Leaves : {K A R S : Type 0} → (K → A → R → MutBor (List ℕ) × S → Type 0) → (A → R × List ℕ) → Type 0
+Leaves {K} {A} {R} {S} Post left = (κs : K) (a : A) (r : R) (s : MutBor (List ℕ) × S) → Post κs a r s → ◌≡◌ {A = R × List ℕ} (r, s.0.now) (left a)
 
 -- ---- the arguments
 -- points, each x first: the first, the second, the third
@@ -137,7 +137,7 @@ pub set_pixel_at : Leaves set_pixel.Post (λ a. framed placed_on a.1 (one (behin
 set_pixel_at κs a r s h = h
 
 -- what a call that draws is made of comes behind the frame
-abbrev Draws : {K T S : Type 0} → (K → Bor (List ℕ) × (ℕ × (ℕ × (ℕ × (ℕ × (ℕ × T))))) → Drawn → Bor (List ℕ) × S → Type 0) → (T → Drawing) → Type 0
+abbrev Draws : {K T S : Type 0} → (K → MutBor (List ℕ) × (ℕ × (ℕ × (ℕ × (ℕ × (ℕ × T))))) → Drawn → MutBor (List ℕ) × S → Type 0) → (T → Drawing) → Type 0
 Draws Post drawing = Leaves Post (λ a. framed outcome_on a.1 (drawing (behind a.1)) a.0.now)
 
 pub fill_at : Draws fill.Post (λ a. fill_drawing a.0)

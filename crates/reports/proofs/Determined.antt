@@ -3,7 +3,7 @@
 use mathlib.Core.Path.{◌≡◌, ap}
 use mathlib.Core.List.{List}
 use Prim.Native.Nat.{ℕ}
-use denote.Ref.{Bor}
+use denote.MutBor.{MutBor}
 use Rattle.whole.proofs.Determined.{One, OneText, same}
 use Rattle.reports.specs.declared.Part.{Part}
 use Rattle.reports.specs.declared.Tally.{Tally}
@@ -40,9 +40,9 @@ pub write_count_one : OneText write_count.Post
 write_count_one κs args r q s t h k = (same h.0 k.0, same h.1 k.1)
 
 -- a part, and the buffer
-abbrev OnePart : {K A S : Type 0} → (K → A → Part → Bor (List ℕ) × S → Type 0) → Type 0
+abbrev OnePart : {K A S : Type 0} → (K → A → Part → MutBor (List ℕ) × S → Type 0) → Type 0
 OnePart {K} {A} {S} Post =
-    (κs : K) (args : A) (r q : Part) (s t : Bor (List ℕ) × S) → Post κs args r s → Post κs args q t → (r ≡ q) × (s.0.now ≡ t.0.now)
+    (κs : K) (args : A) (r q : Part) (s t : MutBor (List ℕ) × S) → Post κs args r s → Post κs args q t → (r ≡ q) × (s.0.now ≡ t.0.now)
 
 pub first_part_one : OnePart first_part.Post
 first_part_one κs args r q s t h k = (same h.0 k.0, same h.1 k.1)

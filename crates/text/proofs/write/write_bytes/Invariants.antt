@@ -1,0 +1,12 @@
+-- `text::write::write_bytes` stores byte after byte; the stores that are left are at each turn those of the rest of `s`. Assumes nothing.
+use mathlib.Core.Path.{◌≡◌}
+use Prim.Native.Nat.{◌+◌, ◌-◌, ◌≤◌}
+use lib.ListN.{length, drop}
+use lib.Seq.{sets}
+use Rattle.text.proofs.write.write_bytes.Given as goal
+
+abbrev pub invariant-loop-i : goal.invariant-loop-i
+invariant-loop-i l = (l.i ≤ length l.s) × (length l.buf ≡ length l.initial.buf) × (sets l.buf (l.at + l.i) (drop l.i l.s) ≡ sets l.initial.buf l.at l.s)
+
+abbrev pub decreases-loop-i : goal.decreases-loop-i
+decreases-loop-i l = length l.s - l.i

@@ -8,25 +8,18 @@ use Rattle.whole.specs.Equal.{eq_z}
 use Rattle.whole.proofs.Machine.{Has, sized, minus_of, fits, eq_bits, eq_test}
 use Rattle.line.proofs.Walk.{xmajor_read, ymajor_read, xminor_read, yminor_read}
 use Rattle.connected.proofs.Walk.{mirrors_x, mirrors_y}
-use Rattle.connected.proofs.mirrors.Statement.{statement}
-use Rattle.connected.proofs.mirrors.Tie as tie
+use Rattle.connected.proofs.mirrors.Goals as goal
 
 -- a field that is read fits
 field_fits : {z : ℤ} → Has w32 (to_z w32 (of_z w32 z)) z 1 → SFits w32 z
 field_fits h = sized h.size h.room
 
-returns : tie.Need-returns
-returns c = λ s e h. eq_test (field_fits (xmajor_read h)) (field_fits (yminor_read h)) ∙ mirrors_x h (λ z. c.before.before.if1.true (ap (of_z w32) z))
+pub returns-then-x-ne0 : goal.returns-then-x-ne0
+returns-then-x-ne0 c = λ s e h. eq_test (field_fits (xmajor_read h)) (field_fits (yminor_read h)) ∙ mirrors_x h (λ z. c.if-x-ne0.true (ap (of_z w32) z))
 
-sub-result : tie.Need-overflow-sub-result
-sub-result c = fits (minus_of (xminor_read c.before.before.before.before.requires.here))
-
-returns-2 : tie.Need-returns-2
-returns-2 c =
+pub returns : goal.returns
+returns c =
     let s = c.before.before.before.before.before.before in
     λ s' e h.
     eq_test (field_fits (ymajor_read h)) (fits (minus_of (xminor_read h))) ∙ ap (eq_z s.args.c.ymajor) (minus_of (xminor_read h)).is
-    ∙ mirrors_y h (eq_bits (field_fits (xmajor_read h)) (sfits_lit {z = pos 0} tt) c.before.before.before.before.if1.false)
-
-pub mirrors_spec : {M : Type 1} → statement M
-mirrors_spec = tie.close (tie.spec returns sub-result returns-2)
+    ∙ mirrors_y h (eq_bits (field_fits (xmajor_read h)) (sfits_lit {z = pos 0} tt) c.if-x-ne0.false)

@@ -1,0 +1,7 @@
+-- `connected::crossings` is the quotient that leaves the error within its bounds. Assumes nothing.
+use native.Mathlib.Omega.{arith}
+use Rattle.connected.proofs.Made.{quotient_made}
+use Rattle.connected.proofs.crossings.Goals as goal
+
+pub returns : goal.returns
+returns c = quotient_made c.args.major c.args.minor c.args.i (omega arith) (omega arith)

@@ -1,6 +1,5 @@
 -- `text::fields::next_i32` reads the field where there is one. Assumes nothing.
 use mathlib.Core.Path.{ap, ◌∙◌}
-use mathlib.Core.Logic.{⊎_elim}
 use Prim.Native.Nat.{◌+◌}
 use lib.IntN.{ℤ}
 use mir.Syntax.{w32}
@@ -25,6 +24,6 @@ pub returns : goal.returns
 returns c =
     let a = c.args in
     elim c.if-at-line.branch [
-      then-at-line+else-field w ↦ i32_other a.line.now a.at w.part_end-end.result w.part_end-end.ensures w.read_i32-field.result w.read_i32-field.ensures w.if-field.false
+      | then-at-line+else-field w ↦ i32_other a.line.now a.at w.part_end-end.result w.part_end-end.ensures w.read_i32-field.result w.read_i32-field.ensures w.if-field.false
       | else-at-line w ↦ i32_past a.line.now a.at w.if-at-line.false
     ]

@@ -1,5 +1,4 @@
 -- `text::fields::next_u32` reads the field where there is one. Assumes nothing.
-use mathlib.Core.Logic.{⊎_elim}
 use Rattle.text.proofs.Parting.{field_ends}
 use Rattle.text.proofs.Numbers.{u32_found, u32_other, u32_past}
 use Rattle.text.proofs.fields.next_u32.Goals as goal
@@ -19,6 +18,6 @@ pub returns : goal.returns
 returns c =
     let a = c.args in
     elim c.if-at-line.branch [
-      then-at-line+else-field w ↦ u32_other a.line.now a.at w.part_end-end.result w.part_end-end.ensures w.read_u32-field.result w.read_u32-field.ensures w.if-field.false
+      | then-at-line+else-field w ↦ u32_other a.line.now a.at w.part_end-end.result w.part_end-end.ensures w.read_u32-field.result w.read_u32-field.ensures w.if-field.false
       | else-at-line w ↦ u32_past a.line.now a.at w.if-at-line.false
     ]

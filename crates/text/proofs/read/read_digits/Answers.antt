@@ -1,10 +1,9 @@
 -- `text::read::read_digits` goes digit by digit; what it has still to find is at each turn what it had to find at the start. Assumes nothing.
 use mathlib.Core.Path.{◌≡◌, sym, ◌∙◌}
 use mathlib.Core.Bool.{true, false}
-use mathlib.Core.Logic.{⊎_elim}
 use native.Mathlib.Omega.{arith}
 use lib.ListN.{length, get_or}
-use borrow.Author.Tests.{ltb-true, ltb-false, not-true, not-false}
+use borrow.Author.Tests.{ltb-false, not-true, not-false}
 use Rattle.text.specs.Digits.{with_digit}
 use Rattle.text.proofs.Reading.{fitting, read_is, read_empty, read_long, scan_goes, scan_stops, scan_ends, fitting_most, ok_is, value_is, none_is}
 use Rattle.text.proofs.read.read_digits.Goals as goal
@@ -15,7 +14,7 @@ returns-then-s-eq0 c =
     let s = c.args.s.now in
     let limit = c.args.limit in
     elim c.then-s-eq0.branch [
-      then-s-eq0-via-then-s-eq0 w ↦ read_empty limit _ s (omega arith)
+      | then-s-eq0-via-then-s-eq0 w ↦ read_empty limit _ s (omega arith)
       | then-s-eq0-via-else-s-eq0+then-s-limit w ↦ read_long limit _ s w.if-s-limit.true
     ]
 

@@ -1,0 +1,12 @@
+-- `questions::disc` hands on what the library answers, where the line ends behind the last number. Assumes nothing.
+use Rattle.questions.specs.Ask.{disc_reply}
+use Rattle.questions.proofs.Questions.{questions}
+use Rattle.questions.proofs.disc.Goals as goal
+
+pub returns-then-not-ends_at : goal.returns-then-not-ends_at
+unfolding disc_reply
+returns-then-not-ends_at c = search questions
+
+pub returns : goal.returns
+unfolding disc_reply
+returns c = search questions

@@ -1,0 +1,7 @@
+-- `spans::hand_over` hands over no byte beyond the report's end, so their number fits. Assumes nothing.
+use native.Mathlib.Omega.{arith}
+use Rattle.reports.proofs.Within.{report_short}
+use Rattle.spans.proofs.hand_over.Goals as goal
+
+pub overflow_add-told : goal.overflow_add-told
+overflow_add-told c = omega (arith, c.requires.within, report_short c.args.v)

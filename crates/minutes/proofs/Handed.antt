@@ -93,7 +93,7 @@ module _ (first : List ℕ) where
 -- `run` is lent the input and the output
 module _ (κs : _) (args : _) (r : _) (s : _) (e : run.Post κs args r s) where
   pub hands_over_the_count : r.more ≡ false → r.unread ≡ false → handed_all e ≡ count_line (minutes (came_all e))
-  hands_over_the_count = the_count args.1.0.now r _ _ e
+  hands_over_the_count = the_count args.1.1.0.now r _ _ e
 
   pub hands_over_nothing : (not r.more && not r.unread) ≡ false → handed_all e ≡ []
-  hands_over_nothing = nothing args.1.0.now r _ _ e
+  hands_over_nothing = nothing args.1.1.0.now r _ _ e

@@ -30,7 +30,7 @@ use Rattle.frames.specs.declared.Drawn.{Drawn}
 use Rattle.frames.specs.declared.Placed.{Placed}
 use Rattle.frames.specs.declared.Read.{Read}
 use Rattle.frames.specs.Answer.{was_inside, read}
-use Rattle.frames.specs.Description.{at_depth, raster, no_colour, is_outside, frame_tests, read_tests, colour_at, whole_window, described}
+use Rattle.frames.specs.Description.{at_depth, raster, no_colour, is_outside, frame_tests, read_tests, colour_at, whole_window}
 use Rattle.frames.specs.Drawing.{Drawing, pixel_drawing, fill_drawing, behind_those, call_tests, made_of, outcome, pixel_outcome}
 use Rattle.frames.specs.Judged.{Described, Drawable, over_bytes, Judged}
 use Rattle.frames.specs.Canvas.{keeps, behind, number_on, on_canvas, pixel_on, read_on, has_all}

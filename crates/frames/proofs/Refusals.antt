@@ -15,7 +15,7 @@ use Rattle.layout.proofs.Placing.{Placing}
 use Rattle.layout.proofs.Places.{Sound, placing, depth_le, pixel_in}
 use Rattle.frames.specs.declared.Canvas.{Canvas}
 use Rattle.frames.specs.declared.Frame.{Frame}
-use Rattle.frames.specs.Description.{at_depth, packed_distance, arranged, raster, size, no_distance, too_short, size_tests, description_tests, frame_tests, described}
+use Rattle.frames.specs.Description.{at_depth, packed_distance, arranged, raster, size, no_distance, too_short, size_tests, description_tests, frame_tests}
 use Rattle.frames.specs.Judged.{Described, Accepted, over_bytes, Over}
 use Rattle.windows.specs.Window.{Within, Small}
 use Rattle.windows.specs.declared.Window.{Window}

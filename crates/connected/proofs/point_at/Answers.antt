@@ -90,9 +90,9 @@ returns c =
     let a = c.args in
     c.place_after-2.ensures a.end (course (goal.at.returns c).After-crossings-m)
     ∙ elim c.if-is_due.branch [
-      then-is_due+else-mirrors w ↦
-        made_extra a.start a.end a.i (k (goal.at.returns c).After-crossings-m) (m (goal.at.returns c).After-crossings-m) c.requires.1 (sum (goal.at.returns c).After-crossings-m) (made (goal.at.returns c).After-crossings-m) (sym (due_is (goal.at.returns c).After-is_due) ∙ w.if-is_due.true)
-        (sym (w.mirrors.ensures a.start a.end (course (goal.at.returns c).After-crossings-m)) ∙ w.if-mirrors.false)
+      | then-is_due+else-mirrors w ↦
+          made_extra a.start a.end a.i (k (goal.at.returns c).After-crossings-m) (m (goal.at.returns c).After-crossings-m) c.requires.1 (sum (goal.at.returns c).After-crossings-m) (made (goal.at.returns c).After-crossings-m) (sym (due_is (goal.at.returns c).After-is_due) ∙ w.if-is_due.true)
+          (sym (w.mirrors.ensures a.start a.end (course (goal.at.returns c).After-crossings-m)) ∙ w.if-mirrors.false)
       | else-is_due w ↦
-        made_normal a.start a.end a.i (k (goal.at.returns c).After-crossings-m) (m (goal.at.returns c).After-crossings-m) c.requires.1 (sum (goal.at.returns c).After-crossings-m) (made (goal.at.returns c).After-crossings-m) (sym (due_is (goal.at.returns c).After-is_due) ∙ w.if-is_due.false)
+          made_normal a.start a.end a.i (k (goal.at.returns c).After-crossings-m) (m (goal.at.returns c).After-crossings-m) c.requires.1 (sum (goal.at.returns c).After-crossings-m) (made (goal.at.returns c).After-crossings-m) (sym (due_is (goal.at.returns c).After-is_due) ∙ w.if-is_due.false)
     ]

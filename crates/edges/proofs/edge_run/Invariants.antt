@@ -1,8 +1,6 @@
 -- `edges::edge_run` hands out points while they are on row y: rows never go up along an edge, so it has them all. Assumes nothing.
 use mathlib.Core.Path.{◌≡◌}
 use Prim.Native.Nat.{ℕ, ◌+◌}
-use mir.Syntax.{w32}
-use mir.Val.{to_z}
 use Rattle.geometry.specs.declared.Point.{Point}
 use Rattle.edges.specs.Side.{WalkedTo}
 use Rattle.edges.proofs.Runs.{Part}

@@ -6,7 +6,7 @@ use lib.Signed.{◌≤ℤ◌}
 use lib.ListN.{length}
 use lib.Seq.{sets}
 use mir.Syntax.{w32}
-use mir.Val.{to_z, SFits}
+use mir.Val.{SFits}
 use Rattle.reports.specs.Spans.{row_lines}
 use Rattle.reports.proofs.spans.write_rows.Given as goal
 

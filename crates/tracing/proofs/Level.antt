@@ -14,6 +14,7 @@ use Rattle.whole.proofs.Decides.{decides_one, decides_map, decides_and, decides_
 use Rattle.whole.proofs.Difference.{lt_nat, le_nat}
 use Rattle.whole.proofs.Order.{le_antisym, le_of, le_trans, lt_le_lt, le_lt_more, more_lt_le}
 use Rattle.geometry.specs.declared.Point.{Point}
+use Rattle.geometry.specs.Bound.{Bounded}
 use Rattle.geometry.specs.Extreme.{lesser, greater}
 use Rattle.geometry.proofs.Extreme.{extremes}
 use Rattle.line.specs.Line.{toward, wide, high, steep, major, x_moves, point_at, has_point, HasPoint}
@@ -117,3 +118,11 @@ upright_at s e k same walked =
     let axis : steep s e ≡ true = le-leb (wide s e) (high s e) (omega arith) in
     let still : x_moves s e k ≡ 0 = x_by s e true axis k ∙ omega (arith, moves_minor (high s e) (wide s e) k (omega (arith, major_by s e true axis))) in
     λ i. ((ap (λ (n : ℕ). s.0 +ℤ toward s.0 e.0 *ℤ pos n) still ∙ stay s.0 e.0) i, s.1 +ℤ toward s.1 e.1 *ℤ pos (y_by s e true axis k i))
+
+-- the column, the first row and the way of an upright line
+pub record Column (s e : Point) (x from on : ℤ) : Type 0 where
+  pub start : Bounded s
+  pub upright : s.0 ≡ e.0
+  pub column : x ≡ s.0
+  pub row : from ≡ s.1
+  pub way : on ≡ toward s.1 e.1

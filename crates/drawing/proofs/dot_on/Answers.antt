@@ -5,7 +5,6 @@ use mathlib.Core.List.{List, [], ◌∷◌}
 use Prim.Native.Nat.{ℕ, zero, suc}
 use lib.ListN.{length}
 use mir.Val.{bool_byte}
-use borrow.Author.Rules.{rules}
 use Rattle.geometry.specs.declared.Point.{Point}
 use Rattle.layout.specs.Count.{one_if, pixels_in}
 use Rattle.layout.specs.Figure.{single}
@@ -20,8 +19,7 @@ use Rattle.frames.specs.Judged.{Judged}
 use Rattle.windows.specs.Window.{in_window, held_by}
 use Rattle.frames.proofs.Calls.{behind_passed}
 use Rattle.windows.proofs.Windows.{point_count}
-use Rattle.drawing.proofs.dot_on.Statement.{statement}
-use Rattle.drawing.proofs.dot_on.Tie as tie
+use Rattle.drawing.proofs.dot_on.Goals as goal
 
 -- inside or not, as a count
 counted : Placed → Drawn
@@ -47,19 +45,6 @@ module _ (c : Canvas) (p : Point) (colour : ℕ) (b : List ℕ) (J : Judged c (l
   unfolding pixel_on on_canvas counted
   dotted h = ap (λ (o : Placed × List ℕ). (counted o.0, o.1)) h ∙ (λ i. (count_is (number_on c colour []) refl i, (on_canvas c (pixel_drawing p colour) b).1))
 
-set-pixel-on-requires : tie.Need-set-pixel-on-requires
-set-pixel-on-requires c κs = search rules
-
-cast-t8 : tie.Need-overflow-cast-t8
-cast-t8 c = tt
-
-same_length : tie.Need-same-length
-same_length c = search rules
-
-returns : tie.Need-returns
+pub returns : goal.returns
 returns c =
-    let s = c.before.before.before.before.before.before in
-    dotted s.args.canvas s.args.p s.args.colour s.args.buf.now s.requires c.before.before.before.set-pixel-on.ensures
-
-pub dot_on_spec : {M : Type 1} → statement M
-dot_on_spec = tie.close (tie.spec set-pixel-on-requires cast-t8 same_length returns)
+    dotted c.args.canvas c.args.p c.args.colour c.args.buf.now c.requires c.set_pixel_on-placed.ensures

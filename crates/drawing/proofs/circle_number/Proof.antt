@@ -1,8 +1,0 @@
--- `drawing::circle_number` asks the frame's number and the colour, then the box. Assumes nothing.
-use borrow.Author.Rules.{rules}
-use Rattle.painting.proofs.Brushes.{calls}
-use Rattle.drawing.proofs.circle_number.Statement.{statement}
-use Rattle.drawing.proofs.circle_number.Tie as tie
-
-pub circle_number_spec : {M : Type 1} → statement M
-circle_number_spec = tie.close (tie.spec (λ c κs. search rules) (λ c. search calls) (λ c κs. search rules) (λ c. search calls))

@@ -164,12 +164,7 @@ pub fn beamacorn_circle_contains(
 }
 
 // The columns of row y that the circle contains.
-pub fn beamacorn_circle_row_span(
-    left: i32,
-    top: i32,
-    diameter: u32,
-    y: i32,
-) -> geometry::Span
+pub fn beamacorn_circle_row_span(left: i32, top: i32, diameter: u32, y: i32) -> geometry::Span
     ensures { result ≡ span (first (circle_tests (left, top) diameter)) (circle.span_start (left, top) diameter y) (circle.span_end (left, top) diameter y) }
 {
     circle::row_span(Point(left, top), diameter, y)
@@ -185,12 +180,7 @@ fn frame(width: u32, height: u32, depth: u32, order: u32, distance: u32) -> Fram
 }
 
 // The bytes that a buffer for the frame must have.
-pub fn beamacorn_frame_size(
-    width: u32,
-    height: u32,
-    depth: u32,
-    distance: u32,
-) -> frames::Size
+pub fn beamacorn_frame_size(width: u32, height: u32, depth: u32, distance: u32) -> frames::Size
     ensures { result ≡ sized (first (description_tests (frame_of width height depth 0 distance))) (size (frame_of width height depth 0 distance)) }
 {
     framebuffer::buffer_size_bpp(frame(width, height, depth, 0, distance))
@@ -400,12 +390,7 @@ pub fn beamacorn_lit(
 // ---- image files
 
 // The bytes that the image file of a frame takes.
-pub fn beamacorn_image_size(
-    width: u32,
-    height: u32,
-    depth: u32,
-    distance: u32,
-) -> frames::Size
+pub fn beamacorn_image_size(width: u32, height: u32, depth: u32, distance: u32) -> frames::Size
     ensures { result ≡ sized (first (image_size_tests (frame_of width height depth 0 distance))) (image_length (frame_of width height depth 0 distance)) }
 {
     netpbm::image_size(frame(width, height, depth, 0, distance))

@@ -26,4 +26,4 @@ is_drawn e q = said_beside _ e ∙ ap drawn_said q
 pub ruleset calls = (readings, is_placed, is_drawn)
 
 -- what answers the needs of the choice between them
-pub ruleset call-words = (choices, said_beside)
+pub ruleset call_words = (choices, said_beside)

@@ -62,4 +62,4 @@ pub turn_screen : (file : List ℕ) {t : Turn} {left : List ℕ} {c : Turn × Li
     → ◌≡◌ {A = Turn × Buffers} (t, (left, file)) (screen_turn file c)
 turn_screen file e = ap (screen_turn file) e
 
-pub ruleset file-words = (choices, turn_file, turn_screen, turn_lent, lent_count)
+pub ruleset file_words = (choices, turn_file, turn_screen, turn_lent, lent_count)

@@ -71,4 +71,4 @@ pub lent_count : (n : ℕ) (l : List ℕ) → n ≤ length l → n ≡ length (t
 lent_count n l h = sym (length-take-le n l h)
 
 -- what answers the needs of the choice between them
-pub ruleset turn-words = (choices, turn_buffer, turn_lent, turn_said, lent_count)
+pub ruleset turn_words = (choices, turn_buffer, turn_lent, turn_said, lent_count)

@@ -45,7 +45,7 @@ wedge_long t = place_long t.c (place_long t.b (place_long t.a (omega arith, omeg
 pub samples_long : {e : Extent} (ls : List (List ℕ)) → Long e → Long (each with_sample e ls)
 unfolding with_sample
 samples_long [] h = h
-samples_long (l ∷ ls) h = samples_long ls (place_long (point_of (read_place (fields l))) h)
+samples_long {e = e} (l ∷ ls) h = samples_long {e = with_place e (point_of (read_place (fields l)))} ls (place_long (point_of (read_place (fields l))) h)
 
 -- ---- how far a place is
 pub away_size : (most size n : ℕ) → away most size n ≤ 130000

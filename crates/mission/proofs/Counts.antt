@@ -48,6 +48,7 @@ module _ (w : ℕ) (inside : ℕ → Bool) where
     pub at : place number ≡ q
 
   of_list : (n : ℕ) {q : ℕ × ℕ} → Among q (listed n) → Numbered q n
+  of_list zero {q = q} a = elim a [ ]
   of_list (suc n) {q} a = by (inside n) refl a (of_list n)
     where
       later : Numbered q n → Numbered q (suc n)

@@ -74,9 +74,9 @@ module _ (out : List ℕ) (m : Buffers) (r : State) (input left : List ℕ) (e :
 
 -- `run` is lent the input, the two buffers and the output
 module _ (κs : _) (args : _) (r : _) (s : _) (e : run.Post κs args r s) where
-  pub hands_over_the_answers : r.more ≡ false → r.unread ≡ false → handed_all e ≡ output (args.1.0.now, args.1.1.0.now) (came_all e)
-  hands_over_the_answers = all_said args.1.1.1.0.now (args.1.0.now, args.1.1.0.now) r _ _ e
+  pub hands_over_the_answers : r.more ≡ false → r.unread ≡ false → handed_all e ≡ output (args.1.1.0.now, args.1.1.1.0.now) (came_all e)
+  hands_over_the_answers = all_said args.1.1.1.1.0.now (args.1.1.0.now, args.1.1.1.0.now) r _ _ e
 
   pub hands_over_no_other : (not r.more && not r.unread) ≡ false → (more : List ℕ)
-      → take (length (handed_all e)) (output (args.1.0.now, args.1.1.0.now) (came_all e ++ more)) ≡ handed_all e
-  hands_over_no_other = some_said args.1.1.1.0.now (args.1.0.now, args.1.1.0.now) r _ _ e
+      → take (length (handed_all e)) (output (args.1.1.0.now, args.1.1.1.0.now) (came_all e ++ more)) ≡ handed_all e
+  hands_over_no_other = some_said args.1.1.1.1.0.now (args.1.1.0.now, args.1.1.1.0.now) r _ _ e

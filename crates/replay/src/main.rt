@@ -66,7 +66,13 @@ fn last_line(
 }
 
 // Turn after turn, until the input ends.
-fn run(rt: &HostRuntime, input: &mut [u8], memory: &mut [u8], file: &mut [u8], out: &mut [u8]) -> State
+fn run(
+    rt: &HostRuntime,
+    input: &mut [u8],
+    memory: &mut [u8],
+    file: &mut [u8],
+    out: &mut [u8],
+) -> State
     requires { (length input.old ≡ 65536) × (length memory.old ≡ 65536) × (length file.old ≡ 65536) × (length out.old ≡ 65536) }
     ensures { Ended bytes after_lines after_last (first out.old (memory.old, file.old)) result input.new out.new }
 {

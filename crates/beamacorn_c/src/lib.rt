@@ -248,7 +248,9 @@ pub extern "C" fn beamacorn_draw_line(
 ) -> Drawn
     ensures { (result, buf.new) ≡ outcome_on width height depth order distance (line_drawing (x1, y1) (x2, y2) colour) buf.old }
 {
-    beamacorn::beamacorn_draw_line(buf, width, height, depth, order, distance, x1, y1, x2, y2, colour)
+    beamacorn::beamacorn_draw_line(
+        buf, width, height, depth, order, distance, x1, y1, x2, y2, colour,
+    )
 }
 
 // Draws the connected line from (x1, y1) to (x2, y2).
@@ -268,7 +270,9 @@ pub extern "C" fn beamacorn_draw_connected_line(
 ) -> Drawn
     ensures { (result, buf.new) ≡ outcome_on width height depth order distance (connected_drawing (x1, y1) (x2, y2) colour) buf.old }
 {
-    beamacorn::beamacorn_draw_connected_line(buf, width, height, depth, order, distance, x1, y1, x2, y2, colour)
+    beamacorn::beamacorn_draw_connected_line(
+        buf, width, height, depth, order, distance, x1, y1, x2, y2, colour,
+    )
 }
 
 // Draws the filled triangle.
@@ -290,7 +294,9 @@ pub extern "C" fn beamacorn_draw_triangle(
 ) -> Drawn
     ensures { (result, buf.new) ≡ outcome_on width height depth order distance (triangle_drawing (x1, y1) (x2, y2) (x3, y3) colour) buf.old }
 {
-    beamacorn::beamacorn_draw_triangle(buf, width, height, depth, order, distance, x1, y1, x2, y2, x3, y3, colour)
+    beamacorn::beamacorn_draw_triangle(
+        buf, width, height, depth, order, distance, x1, y1, x2, y2, x3, y3, colour,
+    )
 }
 
 // Draws the triangle's outline.
@@ -312,7 +318,9 @@ pub extern "C" fn beamacorn_draw_outline(
 ) -> Drawn
     ensures { (result, buf.new) ≡ outcome_on width height depth order distance (outline_drawing (x1, y1) (x2, y2) (x3, y3) colour) buf.old }
 {
-    beamacorn::beamacorn_draw_outline(buf, width, height, depth, order, distance, x1, y1, x2, y2, x3, y3, colour)
+    beamacorn::beamacorn_draw_outline(
+        buf, width, height, depth, order, distance, x1, y1, x2, y2, x3, y3, colour,
+    )
 }
 
 // Draws the filled circle.
@@ -331,7 +339,9 @@ pub extern "C" fn beamacorn_draw_circle(
 ) -> Drawn
     ensures { (result, buf.new) ≡ outcome_on width height depth order distance (circle_drawing (left, top) diameter colour) buf.old }
 {
-    beamacorn::beamacorn_draw_circle(buf, width, height, depth, order, distance, left, top, diameter, colour)
+    beamacorn::beamacorn_draw_circle(
+        buf, width, height, depth, order, distance, left, top, diameter, colour,
+    )
 }
 
 // How many pixels of a one-bit frame have colour 1.

@@ -2,7 +2,7 @@
 /*
  * Beamacorn: lines, triangles, circles, packed frames and image files of them, exact for every input. docs/RULES.md has the rules.
  *
- * Link libbeamacorn.a, which `rt staticlib beamacorn` proves and writes to target/staticlib. It needs nothing but the C library's memory functions,
+ * Link libbeamacorn.a, which `bindings/library` proves and writes to target/staticlib. It needs nothing but the C library's memory functions,
  * allocates nothing and keeps nothing between calls, so that any thread may call at any time; two calls at once must not lend the same buffer if one
  * of them draws or writes into it.
  *

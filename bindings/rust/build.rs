@@ -1,5 +1,5 @@
-//! Links the proved library, libbeamacorn.a: the file, or the one in the folder, that BEAMACORN names; else the one that this repository has for the machine that
-//! is compiled for; else the one that `bindings/install` has installed. An archive for another machine is not linked.
+//! Links the proved library, libbeamacorn.a: the file, or the one in the folder, that BEAMACORN names; else the one that this repository has; else the one that
+//! `bindings/install` has installed. An archive for another machine than the one that is compiled for is not linked.
 //! Where there is none, only the documentation can be made: anything else stops at the sentence that NO_ARCHIVE holds (src/lib.rs).
 
 use std::{
@@ -69,12 +69,11 @@ fn in_folder(path: PathBuf) -> PathBuf {
     }
 }
 
-/// What `rt staticlib` writes is for x86-64; `bindings/library` compiles it for others.
+/// What `bindings/library` leaves.
 fn in_repository() -> PathBuf {
-    let folder = if target() == "x86_64" { "staticlib" } else { "native" };
     let package = PathBuf::from(env::var_os("CARGO_MANIFEST_DIR").unwrap_or_default());
     let root = package.ancestors().nth(2).unwrap_or(&package);
-    root.join("target").join(folder).join(NAME)
+    root.join("target/staticlib").join(NAME)
 }
 
 /// What `bindings/install` has left, of this version, since another may have other functions. Where no pkg-config is at hand it is looked for in /usr/local.
@@ -109,7 +108,7 @@ fn for_this_machine(archive: &Path) -> Result<PathBuf, String> {
     let machine = MACHINES.iter().find(|(known, _)| *known == number).map_or("another machine", |(_, name)| name);
     if machine != target() {
         return Err(format!(
-            "{path} is for {machine}, and this build is for {}; bindings/library prints the path of one for the machine at hand",
+            "{path} is for {machine}, and this build is for {}; bindings/library prints the path of one for x86_64",
             target()
         ));
     }

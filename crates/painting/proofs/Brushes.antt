@@ -12,7 +12,7 @@ use Rattle.painting.specs.declared.Brush.{Brush}
 use Rattle.frames.specs.declared.Drawn.{Drawn}
 use Rattle.frames.specs.declared.Placed.{Placed}
 use Rattle.frames.specs.Answer.{was_inside}
-use Rattle.frames.specs.Description.{no_colour, described}
+use Rattle.frames.specs.Description.{no_colour}
 use Rattle.frames.specs.Drawing.{Drawing, pixel_drawing}
 use Rattle.frames.specs.Judged.{Judged}
 use Rattle.painting.specs.Brush.{Ready, brush_of, brushed}

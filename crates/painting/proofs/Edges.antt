@@ -16,7 +16,7 @@ use Rattle.layout.proofs.Spans.{columns}
 use Rattle.layout.proofs.Painted.{painted_swap, span_then}
 use Rattle.layout.proofs.Bytes.{Bytes, byte_at, head, tail, inner, full_one, groups_filled}
 use Rattle.frames.specs.declared.Frame.{Frame}
-use Rattle.frames.specs.Description.{arranged, raster, described}
+use Rattle.frames.specs.Description.{arranged, raster}
 use Rattle.packing.specs.Words.{bits_from, bits_to, merged_at}
 use Rattle.frames.specs.Judged.{Drawable}
 use Rattle.frames.proofs.Refusals.{spaced, sound}

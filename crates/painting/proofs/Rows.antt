@@ -23,7 +23,6 @@ use Rattle.painting.specs.Brush.{Ready, ground, brushed, on_top}
 use Rattle.windows.specs.Window.{in_window, held_by}
 use Rattle.frames.proofs.Refusals.{sound}
 use Rattle.windows.proofs.Windows.{window_in}
-use Rattle.frames.specs.Description.{described}
 
 -- the rectangle is asked once for both
 pub within_both : (p a b : Bool) → (p && a) || (p && b) ≡ p && (a || b)

@@ -2,7 +2,6 @@
 use mathlib.Core.Path.{◌≡◌, sym, ap, ◌∙◌}
 use mathlib.Core.Bool.{Bool, true, ◌||◌, or_assoc, or_comm}
 use lib.IntN.{ℤ}
-use Rattle.refusals.specs.First.{first}
 use Rattle.geometry.specs.declared.Point.{Point}
 use Rattle.geometry.proofs.Place.{before_trans}
 use Rattle.triangle.specs.Triangle.{on_edge}

@@ -5,7 +5,7 @@ use Rattle.layout.specs.Layout.{painted}
 use Rattle.layout.proofs.Placing.{Placing}
 use Rattle.layout.proofs.Spans.{columns}
 use Rattle.layout.proofs.Painted.{rows_start, rows_then, rows_end}
-use Rattle.frames.specs.Description.{raster, described}
+use Rattle.frames.specs.Description.{raster}
 use Rattle.frames.proofs.Refusals.{sound}
 use Rattle.painting.proofs.fill_each_row.Goals as goal
 use Rattle.painting.proofs.fill_each_row.Goals.{Start}

@@ -3,7 +3,7 @@ use mathlib.Core.Path.{sym}
 use native.Mathlib.Omega.{arith}
 use Rattle.layout.specs.Figure.{everywhere}
 use Rattle.layout.proofs.Painted.{painted_none}
-use Rattle.frames.specs.Description.{raster, described}
+use Rattle.frames.specs.Description.{raster}
 use Rattle.frames.proofs.Refusals.{sound}
 use Rattle.painting.proofs.fill_frame.Goals as goal
 

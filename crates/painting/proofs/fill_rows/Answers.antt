@@ -11,7 +11,6 @@ use Rattle.painting.specs.Brush.{Ready, brushed, on_top}
 use Rattle.painting.proofs.Rows.{brush_sound, few_pixels_lem, above, rows_start, rows_turn, rows_end, above_top, below_bottom}
 use Rattle.windows.proofs.Windows.{between_in}
 use Rattle.painting.proofs.Brushes.{ready_small}
-use Rattle.frames.specs.Description.{described}
 use Rattle.painting.proofs.fill_rows.Goals as goal
 use Rattle.painting.proofs.fill_rows.Goals.{In-loop-y, Start}
 

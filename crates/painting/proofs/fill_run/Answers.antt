@@ -13,7 +13,7 @@ use Rattle.layout.specs.Packed.{parts, full_byte}
 use Rattle.layout.proofs.Runs.{run_part}
 use Rattle.layout.proofs.Bytes.{Bytes, one_run}
 use Rattle.frames.specs.declared.Frame.{Frame}
-use Rattle.frames.specs.Description.{arranged, raster, size, described}
+use Rattle.frames.specs.Description.{arranged, raster, size}
 use Rattle.frames.specs.Judged.{Drawable}
 use Rattle.frames.proofs.Refusals.{spaced, one_pixel}
 use Rattle.painting.proofs.fill_run.Goals as goal

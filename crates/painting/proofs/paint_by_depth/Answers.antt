@@ -1,7 +1,6 @@
 -- `painting::paint_by_depth` tells depths 1, 2 and 4 apart; no other is below 8. Assumes nothing.
 use mathlib.Core.Path.{sym}
 use Rattle.packing.proofs.Masks.{else_four}
-use Rattle.frames.specs.Description.{described}
 use Rattle.painting.proofs.paint_by_depth.Goals as goal
 
 pub fields_at_depth-requires-2 : goal.fields_at_depth-requires-2

@@ -8,7 +8,6 @@ use Rattle.layout.specs.Packed.{parts}
 use Rattle.frames.specs.Judged.{Drawable}
 use Rattle.frames.proofs.Refusals.{end_room}
 use Rattle.painting.proofs.Edges.{pixels_are, pixels_apart}
-use Rattle.frames.specs.Description.{described}
 use Rattle.painting.proofs.paint_columns.Goals as goal
 use Rattle.painting.proofs.paint_columns.Goals.{After-byte_of-end, Start}
 

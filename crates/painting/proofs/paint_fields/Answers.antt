@@ -11,7 +11,7 @@ use Rattle.layout.specs.Packed.{per}
 use Rattle.layout.proofs.Places.{parts_pos}
 use Rattle.layout.proofs.Spans.{columns}
 use Rattle.packing.specs.Words.{merged_at}
-use Rattle.frames.specs.Description.{raster, described}
+use Rattle.frames.specs.Description.{raster}
 use Rattle.frames.specs.Judged.{Drawable}
 use Rattle.frames.proofs.Refusals.{pixel_room}
 use Rattle.painting.proofs.Edges.{bytes_to, head_after, in_order, head_is, tail_is, inner_is, whole_is, joined}

@@ -17,7 +17,6 @@ use Rattle.painting.specs.Brush.{ground, on_top}
 use Rattle.frames.proofs.Refusals.{sound}
 use Rattle.windows.proofs.Windows.{between_pos, in_between}
 use Rattle.windows.proofs.Clips.{row_off, span_left, span_gone}
-use Rattle.frames.specs.Description.{described}
 use Rattle.painting.proofs.paint_more.Goals as goal
 use Rattle.painting.proofs.paint_more.Goals.{After-clip-from, After-clip-past, After-is_between, Else-not-is_between, Start}
 

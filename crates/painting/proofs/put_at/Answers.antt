@@ -9,7 +9,7 @@ use Rattle.layout.specs.Digits.{replaced}
 use Rattle.layout.specs.Packed.{good_depth, field, parts, per, slot_of}
 use Rattle.layout.proofs.Places.{small, large, depth_pos}
 use Rattle.layout.proofs.Bytes.{pixel_set, pixel_stored}
-use Rattle.frames.specs.Description.{arranged, described}
+use Rattle.frames.specs.Description.{arranged}
 use Rattle.frames.specs.Judged.{Drawable}
 use Rattle.frames.proofs.Refusals.{spaced, pixel_room}
 use Rattle.painting.proofs.put_at.Goals as goal

@@ -3,7 +3,7 @@ use mathlib.Core.Path.{ap₂, ◌∙◌}
 use lib.IntN.{ℤ, nat_abs}
 use mir.Facts.{to_z-of_z}
 use Rattle.layout.specs.Layout.{put_pixel}
-use Rattle.frames.specs.Description.{raster, described}
+use Rattle.frames.specs.Description.{raster}
 use Rattle.frames.proofs.Refusals.{sound}
 use Rattle.windows.proofs.Windows.{point_put}
 use Rattle.painting.proofs.put_held.Goals as goal

@@ -4,7 +4,7 @@ use mir.Syntax.{w32}
 use mir.Val.{to_z, of_z}
 use borrow.Author.Tests.{not-true}
 use Rattle.whole.proofs.Machine.{field_back}
-use Rattle.frames.specs.Description.{raster, described}
+use Rattle.frames.specs.Description.{raster}
 use Rattle.windows.specs.Window.{in_window}
 use Rattle.frames.specs.Judged.{Described}
 use Rattle.frames.proofs.Refusals.{sound}

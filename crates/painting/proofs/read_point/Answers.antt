@@ -9,7 +9,7 @@ use Rattle.layout.specs.Digits.{digit}
 use Rattle.layout.specs.Packed.{good_depth, field, parts, per, slot_of}
 use Rattle.layout.proofs.Places.{small, large, depth_pos}
 use Rattle.layout.proofs.Bytes.{pixel_get, pixel_loaded}
-use Rattle.frames.specs.Description.{arranged, described}
+use Rattle.frames.specs.Description.{arranged}
 use Rattle.frames.specs.Judged.{Accepted}
 use Rattle.frames.proofs.Refusals.{spaced, pixel_room}
 use lib.Pow.{pow_pos}

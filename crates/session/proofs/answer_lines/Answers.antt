@@ -1,7 +1,6 @@
 -- `session::answer_lines` answers a line a turn; what is still to be handled is at each turn what was at the start. Assumes nothing.
 use mathlib.Core.Path.{◌≡◌, refl, sym, ap, ap₂, subst, ◌∙◌}
 use mathlib.Core.Bool.{true}
-use mathlib.Core.List.{List}
 use Prim.Native.Nat.{ℕ, ◌+◌, ◌≤◌, ◌<◌}
 use native.Mathlib.Omega.{arith}
 use lib.ListN.{length}
@@ -11,7 +10,6 @@ use Rattle.text.proofs.Parting.{part_end_within}
 use Rattle.session.proofs.Lent.{answer_lent}
 use Rattle.text.specs.Lines.{line_end, line_at, handled}
 use Rattle.text.proofs.Streaming.{handled_turn, handled_none, handled_full, line_is}
-use Rattle.session.proofs.Handling.{Handling}
 use Rattle.session.proofs.answer_lines.Goals as goal
 use Rattle.session.proofs.answer_lines.Goals.{At-loop-current, Else-end-input, Else-not-has_room}
 

@@ -10,7 +10,6 @@ use mir.Val.{to_z, of_z}
 use borrow.Author.Rules.{rules}
 use Rattle.whole.proofs.Machine.{Has, fits, back, same_bits, plus, times}
 use Rattle.geometry.specs.declared.Point.{Point}
-use Rattle.geometry.specs.Bound.{Bounded}
 use Rattle.geometry.proofs.Bound.{coord, coord_size}
 use Rattle.line.specs.Line.{toward, major, point_at}
 use Rattle.line.proofs.Lengths.{toward_size}

@@ -1,4 +1,4 @@
--- Each exported contract determines its answer and every byte: any two results that it allows of the same arguments are equal. `Post` is the
+-- Each contract of this crate, and so each exported one, determines its answer and every byte: any two results that it allows of the same arguments are equal. `Post` is the
 -- contract as the source states it; the buffer, which comes first, is at exit the first of s. Assumes nothing.
 use mathlib.Core.Path.{◌≡◌}
 use mathlib.Core.List.{List}

@@ -1,5 +1,5 @@
--- The position of every argument of the exported functions: what each promises, as its source states it, is said here of its arguments by their place and
--- not by their names; and that none of them asks anything of its arguments. Assumes nothing.
+-- The position of every argument of this crate's functions, and so of those that `beamacorn_c` exports (Same.antt there): what each promises, as its source states it, is said here of
+-- its arguments by their place and not by their names; and that none of them asks anything of its arguments. Assumes nothing.
 use mathlib.Core.Path.{◌≡◌}
 use mathlib.Core.Bool.{Bool}
 use mathlib.Core.List.{List}

@@ -1,5 +1,6 @@
--- Each exported function promises what the function of `beamacorn` that has its name promises, position by position: so what is proved of those, as what each position of a
--- call means and the runs of the crate `mission`, holds of what C and Rust call. `Post` is a contract as its source states it. Assumes nothing.
+-- Each exported function promises what the function of `beamacorn` that has its name promises, position by position, and asks what that asks, which is nothing: so what is proved of
+-- those, as what each position of a call means and the runs of the crate `mission`, holds of what C and Rust call. `Post` and `Pre` are a contract as its source states it. Assumes
+-- nothing.
 use mathlib.Core.Path.{◌≡◌, refl}
 use Rattle.beamacorn.proofs.beamacorn_line_length.Reads as line_length
 use Rattle.beamacorn_c.proofs.beamacorn_line_length.Reads as exported_line_length
@@ -50,6 +51,7 @@ use Rattle.beamacorn_c.proofs.beamacorn_write_image.Reads as exported_write_imag
 use Rattle.beamacorn.proofs.beamacorn_read_image.Reads as read_image
 use Rattle.beamacorn_c.proofs.beamacorn_read_image.Reads as exported_read_image
 
+-- ---- what is promised
 pub same_line_length : exported_line_length.Post ≡ line_length.Post
 same_line_length = refl
 
@@ -121,3 +123,76 @@ same_write_image = refl
 
 pub same_read_image : exported_read_image.Post ≡ read_image.Post
 same_read_image = refl
+
+-- ---- what is asked
+pub asks_line_length : exported_line_length.Pre ≡ line_length.Pre
+asks_line_length = refl
+
+pub asks_line_point : exported_line_point.Pre ≡ line_point.Pre
+asks_line_point = refl
+
+pub asks_line_has_point : exported_line_has_point.Pre ≡ line_has_point.Pre
+asks_line_has_point = refl
+
+pub asks_connected_length : exported_connected_length.Pre ≡ connected_length.Pre
+asks_connected_length = refl
+
+pub asks_connected_point : exported_connected_point.Pre ≡ connected_point.Pre
+asks_connected_point = refl
+
+pub asks_connected_has_point : exported_connected_has_point.Pre ≡ connected_has_point.Pre
+asks_connected_has_point = refl
+
+pub asks_triangle_contains : exported_triangle_contains.Pre ≡ triangle_contains.Pre
+asks_triangle_contains = refl
+
+pub asks_triangle_rows : exported_triangle_rows.Pre ≡ triangle_rows.Pre
+asks_triangle_rows = refl
+
+pub asks_triangle_row_span : exported_triangle_row_span.Pre ≡ triangle_row_span.Pre
+asks_triangle_row_span = refl
+
+pub asks_circle_contains : exported_circle_contains.Pre ≡ circle_contains.Pre
+asks_circle_contains = refl
+
+pub asks_circle_row_span : exported_circle_row_span.Pre ≡ circle_row_span.Pre
+asks_circle_row_span = refl
+
+pub asks_frame_size : exported_frame_size.Pre ≡ frame_size.Pre
+asks_frame_size = refl
+
+pub asks_set_pixel : exported_set_pixel.Pre ≡ set_pixel.Pre
+asks_set_pixel = refl
+
+pub asks_pixel : exported_pixel.Pre ≡ pixel.Pre
+asks_pixel = refl
+
+pub asks_fill : exported_fill.Pre ≡ fill.Pre
+asks_fill = refl
+
+pub asks_draw_line : exported_draw_line.Pre ≡ draw_line.Pre
+asks_draw_line = refl
+
+pub asks_draw_connected_line : exported_draw_connected_line.Pre ≡ draw_connected_line.Pre
+asks_draw_connected_line = refl
+
+pub asks_draw_triangle : exported_draw_triangle.Pre ≡ draw_triangle.Pre
+asks_draw_triangle = refl
+
+pub asks_draw_outline : exported_draw_outline.Pre ≡ draw_outline.Pre
+asks_draw_outline = refl
+
+pub asks_draw_circle : exported_draw_circle.Pre ≡ draw_circle.Pre
+asks_draw_circle = refl
+
+pub asks_lit : exported_lit.Pre ≡ lit.Pre
+asks_lit = refl
+
+pub asks_image_size : exported_image_size.Pre ≡ image_size.Pre
+asks_image_size = refl
+
+pub asks_write_image : exported_write_image.Pre ≡ write_image.Pre
+asks_write_image = refl
+
+pub asks_read_image : exported_read_image.Pre ≡ read_image.Pre
+asks_read_image = refl

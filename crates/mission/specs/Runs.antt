@@ -1,4 +1,4 @@
--- Calls as they are made: each by one of the library's functions or of those that it exports to C and Rust, whose contract is all that is known of it.
+-- Calls as they are made: each by one of the library's functions or of those of `beamacorn`, which `beamacorn_c` exports to C and Rust, whose contract is all that is known of it.
 use Rattle.std.specs.Prelude.{cond, List, [], ◌∷◌, ℕ}
 use Rattle.frames.specs.declared.Frame.{Frame}
 use Rattle.frames.specs.declared.Size.{Size}

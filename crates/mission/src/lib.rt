@@ -8,8 +8,9 @@
 //   Counts     how many pixels there are of a kind
 //   Calls      when a call is accepted, which colour it gives a pixel, and the last accepted call whose figure contains it
 //   Answers    what each operation answers and leaves; Before, the same before rows had a distance
-//   Arguments  the arguments of the exported functions by their place, and what it is that a contract promises
-//   Runs       calls as they are made, by the library's functions and the exported ones in any mix
+//   Arguments  the arguments of `beamacorn`'s functions by their place, and what it is that a contract promises
+//   Runs       calls as they are made, by the library's functions and those of `beamacorn` in any mix
+// What is said of `beamacorn`'s functions holds of the exported ones, whose contracts are theirs: beamacorn_c/proofs/Same.antt.
 // proofs/ has the theorems, each of the contracts of the compiled functions as their sources have them:
 //   Questions  what each question answers: demands 1 and 2
 //   Drawing    what each call answers and leaves: demands 1 and 2, and T-02

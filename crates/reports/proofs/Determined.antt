@@ -7,7 +7,7 @@ use denote.MutBor.{MutBor}
 use Rattle.whole.proofs.Determined.{One, OneText, same}
 use Rattle.reports.specs.declared.Part.{Part}
 use Rattle.reports.specs.declared.Tally.{Tally}
-use Rattle.reports.proofs.spans.rows_of.Reads as rows_of_lem
+use Rattle.reports.proofs.spans.rows_of.Reads as rows_of
 use Rattle.reports.proofs.spans.first_part.Reads as first_part
 use Rattle.reports.proofs.spans.next_part.Reads as next_part
 use Rattle.reports.proofs.minutes.inside_one.Reads as inside_one
@@ -17,7 +17,7 @@ use Rattle.reports.proofs.minutes.take_line.Reads as take_line
 use Rattle.reports.proofs.minutes.take_lines.Reads as take_lines
 use Rattle.reports.proofs.minutes.write_count.Reads as write_count
 
-pub rows_of_one : One rows_of_lem.Post
+pub rows_of_one : One rows_of.Post
 rows_of_one κs args r q s t = same
 
 pub inside_one_one : One inside_one.Post

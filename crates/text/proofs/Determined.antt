@@ -10,7 +10,7 @@ use Rattle.text.proofs.parts.part_end.Reads as part_end
 use Rattle.text.proofs.parts.first_vertices.Reads as first_vertices
 use Rattle.text.proofs.fields.next_u32.Reads as next_u32
 use Rattle.text.proofs.fields.next_i32.Reads as next_i32
-use Rattle.text.proofs.fields.no_vertices.Reads as no_vertices_lem
+use Rattle.text.proofs.fields.no_vertices.Reads as no_vertices
 use Rattle.text.proofs.fields.read_place.Reads as read_place
 use Rattle.text.proofs.fields.read_vertices.Reads as read_vertices
 use Rattle.text.proofs.write.digit_count.Reads as digit_count
@@ -55,7 +55,7 @@ next_u32_one κs args r q s t = same
 pub next_i32_one : One next_i32.Post
 next_i32_one κs args r q s t = same
 
-pub no_vertices_one : One no_vertices_lem.Post
+pub no_vertices_one : One no_vertices.Post
 no_vertices_one κs args r q s t = same
 
 pub read_place_one : One read_place.Post

@@ -1,4 +1,4 @@
--- The plain numbers of the exported functions: a description's order, and the answer that holds a point.
+-- The plain numbers of this crate's functions, which `beamacorn_c` exports: a description's order, and the answer that holds a point.
 use Rattle.std.specs.Prelude.{not, List, ℕ, eqb, length}
 use Rattle.refusals.specs.First.{first}
 use Rattle.geometry.specs.declared.Point.{Point}

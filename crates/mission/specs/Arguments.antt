@@ -1,4 +1,4 @@
--- The arguments of the exported functions, which are plain numbers, by their place: points and frames.
+-- The arguments of `beamacorn`'s functions, which `beamacorn_c` exports, plain numbers by their place: points and frames.
 use Rattle.std.specs.Prelude.{not, ℕ, eqb, ℤ}
 use Rattle.geometry.specs.declared.Point.{Point}
 use Rattle.frames.specs.declared.Frame.{Frame}

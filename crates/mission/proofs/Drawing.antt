@@ -1,5 +1,5 @@
 -- WHAT EACH CALL ANSWERS AND LEAVES, in the mission's words: "exactly the numbered refusal that document 01 fixes; a refused call returns zeros and changes no byte of the lent buffer", and
--- every "byte written is the one that 01's arithmetic fixes"; T-02's counts. Of every function that draws or reads, the exported ones too. Assumes nothing.
+-- every "byte written is the one that 01's arithmetic fixes"; T-02's counts. Of every function that draws or reads, those of `beamacorn` too. Assumes nothing.
 use mathlib.Core.Path.{◌≡◌, refl, sym, ap, subst, ◌∙◌}
 use mathlib.Core.Bool.{Bool, true, false, cond}
 use mathlib.Core.List.{List}

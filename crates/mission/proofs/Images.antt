@@ -1,4 +1,4 @@
--- IMAGE FILES: what is written is what T-01 says, and reads back (T-06); padding in a file and bytes behind it are ignored. Of the compiled functions, the exported ones too. Assumes nothing.
+-- IMAGE FILES: what is written is what T-01 says, and reads back (T-06); padding in a file and bytes behind it are ignored. Of the compiled functions, those of `beamacorn` too. Assumes nothing.
 use mathlib.Core.Path.{◌≡◌, refl, sym, ap, subst, ◌∙◌}
 use mathlib.Core.Bool.{true}
 use mathlib.Core.List.{List, [], ◌∷◌, ◌++◌, append_assoc}

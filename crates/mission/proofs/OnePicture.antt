@@ -1,4 +1,4 @@
--- DEMAND 3, in the mission's words: two zero-filled buffers of equal length under one description, and any two sequences of calls of the compiled functions, the exported ones and refused
+-- DEMAND 3, in the mission's words: two zero-filled buffers of equal length under one description, and any two sequences of calls of the compiled functions, those of `beamacorn` and refused
 -- calls among them. "The bytes afterwards are equal exactly if every pixel of the frame has the same colour in both". And what else is known of the bytes after a run. Assumes nothing.
 use mathlib.Core.Path.{◌≡◌, refl, sym, ap, subst, ◌∙◌}
 use mathlib.Core.List.{List, [], ◌∷◌}

@@ -1,5 +1,5 @@
 -- WHAT EACH QUESTION ANSWERS, in the mission's words: "exactly the numbered refusal that document 01 fixes", zeros with it, and "every point, row, containment answer .. is the one that
--- 01's arithmetic fixes". Each theorem is of two contracts, as their sources have them: the function's, and that of the exported one. Assumes nothing.
+-- 01's arithmetic fixes". Each theorem is of two contracts, as their sources have them: the function's, and that of the function of `beamacorn`, which is exported. Assumes nothing.
 use mathlib.Core.Path.{◌≡◌, refl, sym, ap, ap₂, subst, ◌∙◌}
 use mathlib.Core.Bool.{Bool, false}
 use mathlib.Core.List.{List, [], ◌∷◌}
@@ -135,7 +135,7 @@ module _ (s e : Point) where
   unfolding end_tests
   trace_has_is p h = decided (ends_asked s e [] refl) (trace_decides s e p) h
 
--- the exported functions answer a point by its coordinates
+-- the functions of `beamacorn` answer a point by its coordinates
 plain_is : {q : Step} {r : exported.Step} → r ≡ plain_step q → (claim : ℕ → Point → Type 0) → claim q.number q.point → claim r.number (r.x, r.y)
 plain_is h claim c = subst (λ (r : exported.Step). claim r.number (r.x, r.y)) (sym h) c
 

@@ -1,4 +1,4 @@
--- Rules by which `search (needs, sizes)` closes the needs of signed arithmetic by itself: `Sz k z` is |z| ≤ 2 ^ k, asked at a written-out k.
+-- Rules by which `search (rules, sizes)` closes the goals of signed arithmetic by itself: `Sz k z` is |z| ≤ 2 ^ k, asked at a written-out k.
 use mathlib.Core.Path.{◌≡◌, refl, sym, subst, ap, ap₂, ◌∙◌}
 use Prim.Native.Nat.{ℕ, zero, suc, ◌+◌, ◌*◌, ◌-◌, ◌/◌, ◌<◌, ◌≤◌, ◌^◌}
 use native.Mathlib.Nat.{le_trans, lt_trans, le_of_lt, mul-le-mul}

@@ -5,7 +5,7 @@ use mir.Syntax.{w32}
 use mir.Val.{SFits, to_z, of_z}
 use mir.Facts.{to_z-of_z}
 use Rattle.geometry.specs.declared.Point.{Point}
-use Rattle.line.specs.declared.Step as line
+use Rattle.line.specs.Answer as line
 use Rattle.beamacorn.specs.declared.Step.{Step}
 use Rattle.beamacorn.specs.Plain.{plain_step}
 

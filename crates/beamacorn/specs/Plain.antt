@@ -2,7 +2,7 @@
 use Rattle.std.specs.Prelude.{not, List, ℕ, eqb, length}
 use Rattle.refusals.specs.First.{first}
 use Rattle.geometry.specs.declared.Point.{Point}
-use Rattle.line.specs.declared.Step as line
+use Rattle.line.specs.Answer as line
 use Rattle.frames.specs.declared.Frame.{Frame}
 use Rattle.frames.specs.declared.Drawn.{Drawn}
 use Rattle.frames.specs.declared.Placed.{Placed}

@@ -2,6 +2,8 @@
 // bindings/c/beamacorn.h says what a caller needs to know.
 #![tactic(auto)]
 
+mod handed;
+
 ghost use Rattle.std.specs.Prelude.{◌≡◌};
 ghost use Rattle.refusals.specs.First.{first};
 ghost use Rattle.geometry.specs.Answer.{verdict, span};
@@ -25,6 +27,7 @@ ghost use Rattle.beamacorn.specs.Plain.{frame_of, plain_step, outcome_on, placed
 
 use frames::{Drawn, Frame};
 use geometry::Point;
+use handed::number;
 
 // A line's point at a step, or a connected line's at an index. With a refusal its number, and 0 and 0.
 #[repr(C)]
@@ -35,32 +38,20 @@ pub struct Step {
     pub y: i32,
 }
 
-// The point's coordinates beside its number.
-fn plain_step(answer: line::Step) -> Step
-    ensures { result ≡ plain_step answer }
-{
-    let point = answer.point;
-    Step {
-        number: answer.number,
-        x: point.0,
-        y: point.1,
-    }
-}
-
 // ---- questions
 
 // The number of points of the line from (x1, y1) to (x2, y2).
 pub fn beamacorn_line_length(x1: i32, y1: i32, x2: i32, y2: i32) -> line::Length
     ensures { result ≡ length_answer (first (end_tests (x1, y1) (x2, y2))) (points (x1, y1) (x2, y2)) }
 {
-    line::major_length(Point(x1, y1), Point(x2, y2))
+    line::major_length(Point(x1, y1), Point(x2, y2)).into()
 }
 
 // The point of the line at a step, the start being step 0.
 pub fn beamacorn_line_point(x1: i32, y1: i32, x2: i32, y2: i32, step: u32) -> Step
     ensures { result ≡ plain_step (step_answer (first (step_tests (x1, y1) (x2, y2) step)) (point_at (x1, y1) (x2, y2) step)) }
 {
-    plain_step(line::point(Point(x1, y1), Point(x2, y2), step))
+    line::point(Point(x1, y1), Point(x2, y2), step).into()
 }
 
 // Whether (x, y) is a point of the line.
@@ -74,21 +65,21 @@ pub fn beamacorn_line_has_point(
 ) -> geometry::Verdict
     ensures { result ≡ verdict (first (end_tests (x1, y1) (x2, y2))) (has_point (x1, y1) (x2, y2) (x, y)) }
 {
-    line::has_point(Point(x1, y1), Point(x2, y2), Point(x, y))
+    line::has_point(Point(x1, y1), Point(x2, y2), Point(x, y)).into()
 }
 
 // The number of points of the connected line from (x1, y1) to (x2, y2).
 pub fn beamacorn_connected_length(x1: i32, y1: i32, x2: i32, y2: i32) -> line::Length
     ensures { result ≡ length_answer (first (end_tests (x1, y1) (x2, y2))) (connected_points (x1, y1) (x2, y2)) }
 {
-    connected::length(Point(x1, y1), Point(x2, y2))
+    connected::length(Point(x1, y1), Point(x2, y2)).into()
 }
 
 // The point of the connected line at an index, the start having index 0.
 pub fn beamacorn_connected_point(x1: i32, y1: i32, x2: i32, y2: i32, index: u32) -> Step
     ensures { result ≡ plain_step (step_answer (first (index_tests (x1, y1) (x2, y2) index)) (connected_at (x1, y1) (x2, y2) index)) }
 {
-    plain_step(connected::point(Point(x1, y1), Point(x2, y2), index))
+    connected::point(Point(x1, y1), Point(x2, y2), index).into()
 }
 
 // Whether (x, y) is a point of the connected line.
@@ -102,7 +93,7 @@ pub fn beamacorn_connected_has_point(
 ) -> geometry::Verdict
     ensures { result ≡ verdict (first (end_tests (x1, y1) (x2, y2))) (has_connected (x1, y1) (x2, y2) (x, y)) }
 {
-    connected::has_point(Point(x1, y1), Point(x2, y2), Point(x, y))
+    connected::has_point(Point(x1, y1), Point(x2, y2), Point(x, y)).into()
 }
 
 // Whether the triangle contains (x, y).
@@ -118,7 +109,7 @@ pub fn beamacorn_triangle_contains(
 ) -> geometry::Verdict
     ensures { result ≡ verdict (first (vertex_tests (x1, y1) (x2, y2) (x3, y3))) (triangle.contained (x1, y1) (x2, y2) (x3, y3) (x, y)) }
 {
-    triangle::contains(Point(x1, y1), Point(x2, y2), Point(x3, y3), Point(x, y))
+    triangle::contains(Point(x1, y1), Point(x2, y2), Point(x3, y3), Point(x, y)).into()
 }
 
 // The triangle's first row, and how many it has.
@@ -132,7 +123,7 @@ pub fn beamacorn_triangle_rows(
 ) -> triangle::RowRange
     ensures { result ≡ rows_answer (first (vertex_tests (x1, y1) (x2, y2) (x3, y3))) (first_row (x1, y1) (x2, y2) (x3, y3)) (row_count (x1, y1) (x2, y2) (x3, y3)) }
 {
-    triangle::rows(Point(x1, y1), Point(x2, y2), Point(x3, y3))
+    triangle::rows(Point(x1, y1), Point(x2, y2), Point(x3, y3)).into()
 }
 
 // The columns of row y that the triangle contains.
@@ -147,7 +138,7 @@ pub fn beamacorn_triangle_row_span(
 ) -> geometry::Span
     ensures { result ≡ span (first (vertex_tests (x1, y1) (x2, y2) (x3, y3))) (row_span (x1, y1) (x2, y2) (x3, y3) y).0 (row_span (x1, y1) (x2, y2) (x3, y3) y).1 }
 {
-    triangle::row_span(Point(x1, y1), Point(x2, y2), Point(x3, y3), y)
+    triangle::row_span(Point(x1, y1), Point(x2, y2), Point(x3, y3), y).into()
 }
 
 // Whether the circle contains (x, y).
@@ -160,14 +151,14 @@ pub fn beamacorn_circle_contains(
 ) -> geometry::Verdict
     ensures { result ≡ verdict (first (circle_tests (left, top) diameter)) (circle.contained (left, top) diameter (x, y)) }
 {
-    circle::contains(Point(left, top), diameter, Point(x, y))
+    circle::contains(Point(left, top), diameter, Point(x, y)).into()
 }
 
 // The columns of row y that the circle contains.
 pub fn beamacorn_circle_row_span(left: i32, top: i32, diameter: u32, y: i32) -> geometry::Span
     ensures { result ≡ span (first (circle_tests (left, top) diameter)) (circle.span_start (left, top) diameter y) (circle.span_end (left, top) diameter y) }
 {
-    circle::row_span(Point(left, top), diameter, y)
+    circle::row_span(Point(left, top), diameter, y).into()
 }
 
 // ---- frames and drawing
@@ -183,7 +174,7 @@ fn frame(width: u32, height: u32, depth: u32, order: u32, distance: u32) -> Fram
 pub fn beamacorn_frame_size(width: u32, height: u32, depth: u32, distance: u32) -> frames::Size
     ensures { result ≡ sized (first (description_tests (frame_of width height depth 0 distance))) (size (frame_of width height depth 0 distance)) }
 {
-    framebuffer::buffer_size_bpp(frame(width, height, depth, 0, distance))
+    framebuffer::buffer_size_bpp(frame(width, height, depth, 0, distance)).into()
 }
 
 // The pixel at (x, y) gets the colour; outside the frame nothing changes, and the answer says so.
@@ -206,6 +197,7 @@ pub fn beamacorn_set_pixel(
         Point(x, y),
         colour,
     )
+    .into()
 }
 
 // The colour of the pixel at (x, y).
@@ -226,6 +218,7 @@ pub fn beamacorn_pixel(
         frame(width, height, depth, order, distance),
         Point(x, y),
     )
+    .into()
 }
 
 // Every pixel of the frame gets the colour.
@@ -240,7 +233,7 @@ pub fn beamacorn_fill(
 ) -> Drawn
     ensures { (result, buf.new) ≡ outcome_on width height depth order distance (fill_drawing colour) buf.old }
 {
-    framebuffer::fill(buf, frame(width, height, depth, order, distance), colour)
+    framebuffer::fill(buf, frame(width, height, depth, order, distance), colour).into()
 }
 
 // Draws the line from (x1, y1) to (x2, y2).
@@ -266,6 +259,7 @@ pub fn beamacorn_draw_line(
         Point(x2, y2),
         colour,
     )
+    .into()
 }
 
 // Draws the connected line from (x1, y1) to (x2, y2).
@@ -291,6 +285,7 @@ pub fn beamacorn_draw_connected_line(
         Point(x2, y2),
         colour,
     )
+    .into()
 }
 
 // Draws the filled triangle.
@@ -319,6 +314,7 @@ pub fn beamacorn_draw_triangle(
         Point(x3, y3),
         colour,
     )
+    .into()
 }
 
 // Draws the triangle's outline.
@@ -347,6 +343,7 @@ pub fn beamacorn_draw_outline(
         Point(x3, y3),
         colour,
     )
+    .into()
 }
 
 // Draws the filled circle.
@@ -371,6 +368,7 @@ pub fn beamacorn_draw_circle(
         diameter,
         colour,
     )
+    .into()
 }
 
 // How many pixels of a one-bit frame have colour 1.
@@ -384,7 +382,7 @@ pub fn beamacorn_lit(
 ) -> lights::Lights
     ensures { result ≡ lit_on width height depth order distance buf.now }
 {
-    lights::lit(buf, frame(width, height, depth, order, distance))
+    lights::lit(buf, frame(width, height, depth, order, distance)).into()
 }
 
 // ---- image files
@@ -393,7 +391,7 @@ pub fn beamacorn_lit(
 pub fn beamacorn_image_size(width: u32, height: u32, depth: u32, distance: u32) -> frames::Size
     ensures { result ≡ sized (first (image_size_tests (frame_of width height depth 0 distance))) (image_length (frame_of width height depth 0 distance)) }
 {
-    netpbm::image_size(frame(width, height, depth, 0, distance))
+    netpbm::image_size(frame(width, height, depth, 0, distance)).into()
 }
 
 // Writes the frame as an image file into the output, from its first byte on, and answers how many bytes that were.
@@ -408,7 +406,7 @@ pub fn beamacorn_write_image(
 ) -> frames::Size
     ensures { (result, out.new) ≡ written (frame_of width height depth order distance) buf.now out.old }
 {
-    netpbm::write_image(buf, frame(width, height, depth, order, distance), out)
+    netpbm::write_image(buf, frame(width, height, depth, order, distance), out).into()
 }
 
 // Reads an image file of the frame's size into the frame, and answers a number.
@@ -423,5 +421,5 @@ pub fn beamacorn_read_image(
 ) -> u32
     ensures { (result, buf.new) ≡ loaded (frame_of width height depth order distance) file.now buf.old }
 {
-    netpbm::read_image(buf, frame(width, height, depth, order, distance), file)
+    number(netpbm::read_image(buf, frame(width, height, depth, order, distance), file))
 }

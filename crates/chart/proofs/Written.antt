@@ -18,10 +18,10 @@ use Rattle.netpbm.proofs.Answers.{accepted_written}
 use Rattle.netpbm.proofs.Images.{file_length}
 use Rattle.text.specs.Show.{shown}
 use Rattle.streams.proofs.Refilling.{front}
-use Rattle.reports.specs.declared.Count.{Count}
-use Rattle.reports.specs.Minutes.{counting, minutes, count_line}
+use Rattle.reports.specs.Minutes.{Count, counting, minutes, count_line}
 use Rattle.charts.specs.Picture.{picture}
 use Rattle.charts.specs.Day.{leaves, day, charted}
+use Rattle.chart.specs.declared.Told.TheVariants.{Image, Line}
 use Rattle.chart.specs.Told.{Handed}
 
 -- ---- the file of the picture
@@ -64,7 +64,7 @@ module _ (s before out : List ℕ) {k : Count} {after : List ℕ} (e : ◌≡◌
   over b = cond (counting (minutes s)) (image_bytes picture (leaves picture (day s) b)) (count_line (minutes s))
 
   pub file_handed : {r : Size} {o : List ℕ} → counting k ≡ true → length after ≡ length before → ◌≡◌ {A = Size × List ℕ} (r, o) (written picture after out)
-      → Handed s (record { good = true; end = r.bytes }) o
+      → Handed s (Image r.bytes) o
   unfolding over
   file_handed {r} {o} c l w =
       let file = image_bytes picture (leaves picture (day s) before) in
@@ -80,7 +80,7 @@ module _ (s before out : List ℕ) {k : Count} {after : List ℕ} (e : ◌≡◌
       }
 
   pub line_handed : {n : ℕ} {o : List ℕ} → counting k ≡ false → n ≡ 0 + length (count_line k) → o ≡ sets out 0 (count_line k) → n ≤ 41
-      → Handed s (record { good = false; end = n }) o
+      → Handed s (Line n) o
   unfolding over
   line_handed {n} {o} c m w most =
       let file = image_bytes picture (leaves picture (day s) before) in

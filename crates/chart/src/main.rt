@@ -2,39 +2,32 @@
 // the definition `day` of the crate `charts`. Of an input that `minutes` does not count its line is written to standard error, and nothing to standard output.
 #![tactic(auto)]
 
-ghost use Rattle.std.specs.Prelude.{◌≡◌, ◌≤◌, length, replicate};
+ghost use Rattle.std.specs.Prelude.{◌≡◌, ◌≤◌, length, replicate, IfOk};
 ghost use Rattle.chart.specs.Told.{Handed};
 
-// How many bytes of the input there are, and whether a read failed.
+use frames::Size;
+use std::io;
+
 #[derive(Clone, Copy)]
-pub struct Input {
-    pub end: usize,
-    pub unread: bool,
+pub enum Told {
+    Image(usize),
+    Line(usize),
 }
 
-// What was put into the output: up to where, and whether it is an image file.
-#[derive(Clone, Copy)]
-pub struct Told {
-    pub good: bool,
-    pub end: usize,
-}
-
-// Reads until the input ends or there is no more room for it.
-fn read_all(rt: &HostRuntime, input: &mut [u8]) -> Input
-    ensures { result.end ≤ length input.old }
+// Reads until the input ends or there is no more room for it, and answers how many bytes there are.
+fn read_all(rt: &HostRuntime, input: &mut [u8]) -> io::Result<usize>
+    ensures { IfOk result (λ end. end ≤ length input.old) }
 {
     let mut end = 0;
+    // No `for`: how many reads it takes is not known before; each says how far the input is filled.
     while end < input.len() {
-        let came = console::read_more(rt, input, end);
-        if came.count == 0 {
-            return Input {
-                end,
-                unread: came.failed,
-            };
+        let came = console::read_more(&mut rt.stdin(), input, end)?;
+        if came == 0 {
+            break;
         }
-        end += came.count;
+        end += came;
     }
-    Input { end, unread: false }
+    Ok(end)
 }
 
 // Puts what is to be said of an input into the output.
@@ -43,16 +36,11 @@ fn tell(input: &[u8], pane: &mut [u8], out: &mut [u8]) -> Told
     ensures { Handed input.now result out.new }
 {
     let count = charts::draw_day(pane, input);
-    if reports::is_counting(count) {
-        let image = netpbm::write_image(pane, charts::frame(), out);
-        return Told {
-            good: true,
-            end: image.bytes as usize,
-        };
-    }
-    Told {
-        good: false,
-        end: reports::write_count(out, 0, count),
+    if count.is_ok() {
+        let image = Size::from(netpbm::write_image(pane, charts::frame(), out));
+        Told::Image(image.bytes as usize)
+    } else {
+        Told::Line(reports::write_count(out, 0, count))
     }
 }
 
@@ -60,23 +48,22 @@ fn tell(input: &[u8], pane: &mut [u8], out: &mut [u8]) -> Told
 fn say(rt: &HostRuntime, input: &[u8], out: &[u8], t: Told)
     requires { Handed input.now t out.now }
 {
-    let end = t.end;
-    if t.good {
-        console::write(rt, out, end);
-        return;
+    match t {
+        Told::Image(end) => {
+            // A write that failed is said already.
+            let _ = console::write(rt, out, end);
+        }
+        Told::Line(end) => console::complain(rt, &out[..end]),
     }
-    console::complain(rt, &out[..end]);
 }
 
 fn run(rt: &HostRuntime, input: &mut [u8], pane: &mut [u8], out: &mut [u8])
     requires { (pane.old ≡ replicate 691200 0) × (length out.old ≡ 691215) }
 {
-    let came = read_all(rt, input);
-    let end = came.end;
-    if came.unread {
+    let Ok(end) = read_all(rt, input) else {
         console::complain(rt, b"the standard input could not be read\n");
         return;
-    }
+    };
     if end > 1048576 {
         console::complain(rt, b"too long\n");
         return;

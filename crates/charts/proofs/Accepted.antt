@@ -5,10 +5,11 @@ use mathlib.Core.Bool.{Bool, true, false, cond}
 use mathlib.Core.List.{List, [], ◌∷◌, ◌++◌}
 use Prim.Native.Nat.{ℕ, ◌+◌, ◌-◌, ◌≤◌, suc}
 use native.Mathlib.Omega.{arith}
-use lib.Dec.{eqb, ltb}
+use lib.Dec.{ltb}
 use lib.IntN.{ℤ, pos, negsuc, neg_ℤ, nat_abs, ◌+ℤ◌, ◌-ℤ◌}
 use lib.Signed.{lt_z}
 use borrow.Author.Tests.{le-leb, le-ltb}
+use Rattle.std.specs.Prelude.{Option, Some, None}
 use Rattle.whole.proofs.Machine.{add_size}
 use Rattle.refusals.specs.First.{first}
 use Rattle.geometry.specs.declared.Point.{Point}
@@ -21,11 +22,10 @@ use Rattle.frames.specs.Description.{packed_distance, size, no_colour, descripti
 use Rattle.frames.specs.Drawing.{Drawing, call_tests}
 use Rattle.drawing.specs.Drawing.{circle_drawing}
 use Rattle.frames.proofs.Calls.{none_holds}
-use Rattle.text.specs.declared.Place.{Place}
-use Rattle.text.specs.Fields.{fields, lines, read_place}
+use Rattle.text.specs.Fields.{lines}
 use Rattle.readers.specs.declared.figures.Corners.{Corners}
-use Rattle.readers.specs.Figures.{point_of}
-use Rattle.reports.specs.Minutes.{wedge, behind_first, inside_one}
+use Rattle.readers.specs.Figures.{read_point}
+use Rattle.reports.specs.Minutes.{wedge, behind_first, is_inside}
 use Rattle.charts.specs.declared.Extent.{Extent}
 use Rattle.charts.specs.Scale.{extent}
 use Rattle.charts.specs.Picture.{picture, inside, outside, spot}
@@ -79,7 +79,7 @@ disc_within e p =
     let y : nat_abs ((spot e p).1 -ℤ pos 1) ≤ 130500 = omega (arith, add_size (spot e p).1 (neg_ℤ (pos 1)), n.1) in
     rw (near_coord (disc_corner e p).0 x, near_coord (disc_corner e p).1 y, near_edge (disc_corner e p).0 x, near_edge (disc_corner e p).1 y)
 
-either : (t : Bool) → no_colour picture (cond t outside inside) ≡ false
+either : (t : Bool) → no_colour picture (cond t inside outside) ≡ false
 either true = refl
 either false = refl
 
@@ -92,17 +92,18 @@ under_done e t =
     (spot_within e t.a) (spot_within e t.b) (spot_within e t.c)))
     (one refl (one refl (one refl (one refl (one refl (one refl none)))))))
 
-disc_done : (e : Extent) (t : Corners) (p : Place) → Done (disc e t p)
+disc_done : (e : Extent) (t : Corners) (p : Option Point) → Done (disc e t p)
 unfolding disc
-disc_done e t p = by (is_shown p) (point_of p)
+disc_done e t None = none
+disc_done e t (Some p) = by (is_shown p) p
   where
     by : (b : Bool) (q : Point) → Done (cond b (circle_drawing (disc_corner e q) 3 (disc_colour t q) ∷ []) [])
-    by true q = one (accepted (circle_drawing (disc_corner e q) 3 (disc_colour t q)) (either (eqb (inside_one t q) 0)) (disc_within e q)) none
+    by true q = one (accepted (circle_drawing (disc_corner e q) 3 (disc_colour t q)) (either (is_inside t q)) (disc_within e q)) none
     by false q = none
 
 discs_done : (e : Extent) (t : Corners) (ls : List (List ℕ)) → Done (discs e t ls)
 discs_done e t [] = none
-discs_done e t (l ∷ ls) = done_append (disc_done e t (read_place (fields l))) (discs_done e t ls)
+discs_done e t (l ∷ ls) = done_append (disc_done e t (read_point l)) (discs_done e t ls)
 
 pub none_refused : (s : List ℕ) → Done (day s)
 unfolding day

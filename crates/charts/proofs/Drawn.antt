@@ -7,11 +7,11 @@ use Rattle.frames.specs.declared.Frame.{Frame}
 use Rattle.frames.specs.declared.Drawn.{Drawn}
 use Rattle.frames.specs.Drawing.{Drawing, outcome}
 use Rattle.drawing.specs.Drawing.{circle_drawing}
-use Rattle.text.specs.declared.Place.{Place}
-use Rattle.text.specs.Fields.{fields, read_place}
+use Rattle.std.specs.Prelude.{Some, None}
+use Rattle.geometry.specs.declared.Point.{Point}
 use Rattle.text.specs.Lines.{each}
 use Rattle.readers.specs.declared.figures.Corners.{Corners}
-use Rattle.readers.specs.Figures.{point_of}
+use Rattle.readers.specs.Figures.{read_point}
 use Rattle.charts.specs.declared.Extent.{Extent}
 use Rattle.charts.specs.Day.{leaves, is_shown, disc_corner, disc_colour, disc, discs}
 
@@ -26,22 +26,26 @@ module _ (f : Frame) where
 
   -- a line's disc
   abbrev pub sampled : Extent → Corners → List ℕ → List ℕ → List ℕ
-  sampled e t b line = leaves f (disc e t (read_place (fields line))) b
+  sampled e t b line = leaves f (disc e t (read_point line)) b
 
   pub discs_each : (e : Extent) (t : Corners) (ls : List (List ℕ)) (b : List ℕ) → each (sampled e t) b ls ≡ leaves f (discs e t ls) b
   discs_each e t [] b = refl
   discs_each e t (l ∷ ls) b =
-      discs_each e t ls (sampled e t b l) ∙ sym (leaves_append (disc e t (read_place (fields l))) (discs e t ls) b)
+      discs_each e t ls (sampled e t b l) ∙ sym (leaves_append (disc e t (read_point l)) (discs e t ls) b)
 
-  -- a sample's disc, where it is on the picture and where not
-  module _ (e : Extent) (t : Corners) (p : Place) (b : List ℕ) where
-    pub shown : is_shown p ≡ true → (outcome f (circle_drawing (disc_corner e (point_of p)) 3 (disc_colour t (point_of p))) b).1 ≡ leaves f (disc e t p) b
+  -- a sample's disc, where it is on the picture and where not; and a line that is no sample has none
+  module _ (e : Extent) (t : Corners) (p : Point) (b : List ℕ) where
+    pub shown : is_shown p ≡ true → (outcome f (circle_drawing (disc_corner e p) 3 (disc_colour t p)) b).1 ≡ leaves f (disc e t (Some p)) b
     unfolding disc
-    shown h = sym (ap (λ (x : Bool). leaves f (cond x (circle_drawing (disc_corner e (point_of p)) 3 (disc_colour t (point_of p)) ∷ []) []) b) h)
+    shown h = sym (ap (λ (x : Bool). leaves f (cond x (circle_drawing (disc_corner e p) 3 (disc_colour t p) ∷ []) []) b) h)
 
-    pub hidden : is_shown p ≡ false → b ≡ leaves f (disc e t p) b
+    pub hidden : is_shown p ≡ false → b ≡ leaves f (disc e t (Some p)) b
     unfolding disc
-    hidden h = sym (ap (λ (x : Bool). leaves f (cond x (circle_drawing (disc_corner e (point_of p)) 3 (disc_colour t (point_of p)) ∷ []) []) b) h)
+    hidden h = sym (ap (λ (x : Bool). leaves f (cond x (circle_drawing (disc_corner e p) 3 (disc_colour t p) ∷ []) []) b) h)
+
+  pub no_sample : (e : Extent) (t : Corners) (b : List ℕ) → b ≡ leaves f (disc e t None) b
+  unfolding disc
+  no_sample e t b = refl
 
 -- ---- three tests, asked one after the other
 module _ (a b c : Bool) where

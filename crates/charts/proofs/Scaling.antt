@@ -8,10 +8,11 @@ use lib.Dec.{le→leb}
 use lib.IntN.{ℤ, pos, negsuc, neg_ℤ, nat_abs, ◌+ℤ◌, ◌-ℤ◌}
 use lib.Signed.{lt_z, ◌≤ℤ◌, ◌<ℤ◌}
 use borrow.Author.Tests.{ltb-true}
-use Rattle.text.specs.Fields.{fields, read_place}
 use Rattle.text.specs.Lines.{each}
 use Rattle.readers.specs.declared.figures.Corners.{Corners}
-use Rattle.readers.specs.Figures.{point_of}
+use Rattle.std.specs.Prelude.{Option, Some, None}
+use Rattle.std.specs.Option.{option_map_or}
+use Rattle.readers.specs.Figures.{read_point}
 use Rattle.whole.proofs.Machine.{neg_size, add_size}
 use Rattle.geometry.specs.declared.Point.{Point}
 use Rattle.charts.specs.declared.Extent.{Extent}
@@ -45,7 +46,11 @@ wedge_long t = place_long t.c (place_long t.b (place_long t.a (omega arith, omeg
 pub samples_long : {e : Extent} (ls : List (List ℕ)) → Long e → Long (each with_sample e ls)
 unfolding with_sample
 samples_long [] h = h
-samples_long {e = e} (l ∷ ls) h = samples_long {e = with_place e (point_of (read_place (fields l)))} ls (place_long (point_of (read_place (fields l))) h)
+samples_long {e = e} (l ∷ ls) h = samples_long {e = option_map_or (with_place e) (read_point l) e} ls (by (read_point l))
+  where
+    by : (p : Option Point) → Long (option_map_or (with_place e) p e)
+    by None = h
+    by (Some p) = place_long p h
 
 -- ---- how far a place is
 pub away_size : (most size n : ℕ) → away most size n ≤ 130000

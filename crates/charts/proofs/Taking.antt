@@ -1,35 +1,40 @@
--- Laws of a loop that takes an input line by line: what is still to be taken is at each turn what was at the start. Assumes nothing.
-use mathlib.Core.Path.{◌≡◌, sym, ap, ap₂, ◌∙◌}
+-- Laws of a line that is taken from what is left of an input. Assumes nothing.
+use mathlib.Core.Path.{◌≡◌, refl, sym, ap, ap₂, ◌∙◌}
+use mathlib.Core.Bool.{false, true≢false}
 use mathlib.Core.List.{List, [], ◌∷◌}
-use Prim.Native.Nat.{ℕ, ◌+◌, ◌-◌, ◌≤◌, ◌<◌}
+use Prim.Native.Nat.{ℕ, ◌+◌, ◌-◌, min}
 use native.Mathlib.Omega.{arith}
-use lib.ListN.{length, take, drop, length-drop, drop_of_length-le}
-use lib.Seq.{drop-drop}
+use lib.ListN.{length, take, drop}
+use lib.Seq.{drop-drop, take_all}
+use Rattle.std.specs.Prelude.{Option, Some, None, MatchOption, ◌==◌}
+use Rattle.std.specs.Borrow.{Bor}
 use Rattle.text.specs.Fields.{until, lines}
-use Rattle.text.specs.Lines.{line_end, line_at, first_line, each}
-use Rattle.text.proofs.Streaming.{first_line_lem, line_is}
+use Rattle.text.specs.Lines.{first_line}
+use Rattle.text.proofs.Streaming.{first_line_lem}
 
-lines_of : (t : List ℕ) → 0 < length t → lines t ≡ first_line t ∷ lines (drop (until 10 t + 1) t)
-lines_of [] h = absurd (omega arith)
-lines_of (b ∷ t) h = first_line_lem b t
+-- ---- the first line, and those behind it
+lines_of : (s : List ℕ) → (length s == 0) ≡ false → lines s ≡ first_line s ∷ lines (drop (until 10 s + 1) s)
+lines_of [] h = absurd (true≢false h)
+lines_of (b ∷ s) h = first_line_lem b s
 
--- the line at a place, and those behind it
-lines_at : (s : List ℕ) (at : ℕ) → at < length s → lines (drop at s) ≡ line_at s at ∷ lines (drop (line_end s at + 1) s)
-lines_at s at h =
-    lines_of (drop at s) (omega (arith, length-drop at s))
-    ∙ ap (λ (r : List ℕ). line_at s at ∷ lines r) (drop-drop (until 10 (drop at s) + 1) at s ∙ ap (λ (k : ℕ). drop k s) more)
+-- what is left behind the LF, if there is one
+behind_one : (r : List ℕ) (n : ℕ) → n ≡ min (length r) 1 → take (length r - n) (drop n r) ≡ drop 1 r
+behind_one [] n e = let z : n ≡ 0 = omega (arith, e) in rw z refl
+behind_one (b ∷ r) n e = let z : n ≡ 1 = omega (arith, e) in rw z (take_all (length (b ∷ r) - 1) r (omega arith))
+
+-- as the code lends them
+pub line_taken : (s line rest : List ℕ) (end n : ℕ) → (length s == 0) ≡ false → end ≡ until 10 s → line ≡ take end s → rest ≡ drop end s
+    → n ≡ min (length rest) 1 → lines s ≡ line ∷ lines (take (length rest - n) (drop n rest))
+line_taken s line rest end n h e f g m =
+    lines_of s h ∙ ap₂ (λ (l r : List ℕ). l ∷ lines r) (ap (λ (k : ℕ). take k s) (sym e) ∙ sym f) (sym behind)
   where
-    more : at + (until 10 (drop at s) + 1) ≡ at + until 10 (drop at s) + 1
-    more = omega arith
+    behind : take (length rest - n) (drop n rest) ≡ drop (until 10 s + 1) s
+    behind = behind_one rest n m ∙ ap (drop 1) g ∙ drop-drop 1 end s ∙ ap (λ (k : ℕ). drop (k + 1) s) e
 
-module _ {S : Type 0} (f : S → List ℕ → S) (s : List ℕ) (at : ℕ) where
-  -- a line is taken
-  pub taken : {st next : S} {end : ℕ} → at < length s → end ≡ line_end s at → next ≡ f st (take (end - at) (drop at s))
-      → each f next (lines (drop (end + 1) s)) ≡ each f st (lines (drop at s))
-  taken {st} {next} {end} h e q =
-      ap₂ (λ (x : S) (k : ℕ). each f x (lines (drop (k + 1) s))) (q ∙ ap (f st) (line_is s at end e)) e
-      ∙ sym (ap (each f st) (lines_at s at h))
-
-  -- no line is left
-  pub none_left : {st : S} → length s ≤ at → st ≡ each f st (lines (drop at s))
-  none_left {st} h = sym (ap (λ (r : List ℕ). each f st (lines r)) (drop_of_length-le s h))
+-- ---- once the first line is taken, if there is one, those behind it are left
+pub first_taken : (s t : List ℕ) (r : Option (Bor (List ℕ))) → MatchOption r ((lines s ≡ []) × (lines t ≡ [])) (λ (x : Bor (List ℕ)). lines s ≡ x.now ∷ lines t)
+    → lines t ≡ lines (drop (until 10 s + 1) s)
+first_taken [] t None h = h.1
+first_taken [] t (Some x) h = absurd (cc)
+first_taken (b ∷ s) t None h = let e = first_line_lem b s in absurd (cc)
+first_taken (b ∷ s) t (Some x) h = let e = first_line_lem b s in cc

@@ -1,17 +1,16 @@
 -- What is drawn of an input, as a list of calls: the ground, the wedge, the margins over what lies below 0, the axes, and a disc for each sample, in the order
 -- of the lines. Its colour is asked of the numbers as they came, and not of the picture.
-use Rattle.std.specs.Prelude.{Bool, cond, ◌&&◌, not, List, [], ◌∷◌, ◌++◌, ℕ, eqb, pos, ◌-ℤ◌}
+use Rattle.std.specs.Prelude.{Bool, cond, ◌&&◌, not, List, [], ◌∷◌, ◌++◌, ℕ, pos, ◌-ℤ◌, Option}
+use Rattle.std.specs.Option.{option_map_or}
 use Rattle.std.specs.Int.Signed.{lt_z}
 use Rattle.geometry.specs.declared.Point.{Point}
 use Rattle.frames.specs.declared.Frame.{Frame}
 use Rattle.frames.specs.Drawing.{Drawing, fill_drawing, outcome}
 use Rattle.drawing.specs.Drawing.{line_drawing, triangle_drawing, circle_drawing}
-use Rattle.text.specs.declared.Place.{Place}
-use Rattle.text.specs.Fields.{fields, lines, read_place}
+use Rattle.text.specs.Fields.{lines}
 use Rattle.readers.specs.declared.figures.Corners.{Corners}
-use Rattle.readers.specs.Figures.{point_of}
-use Rattle.reports.specs.declared.Count.{Count}
-use Rattle.reports.specs.Minutes.{wedge, behind_first, inside_one, counting, minutes}
+use Rattle.readers.specs.Figures.{read_point}
+use Rattle.reports.specs.Minutes.{Count, wedge, behind_first, is_inside, counting, minutes}
 use Rattle.charts.specs.declared.Extent.{Extent}
 use Rattle.charts.specs.Scale.{extent}
 use Rattle.charts.specs.Picture.{picture, ground, filling, ink, inside, outside, spot}
@@ -40,21 +39,24 @@ unfoldable pub under : Extent → Corners → List Drawing
 under e t = fill_drawing ground ∷ wedge_drawing e t ∷ (margins ++ axes)
 
 -- a sample: a disc of three pixels about its place, if that is on the picture
-abbrev pub is_shown : Place → Bool
-is_shown p = p.ok && (not (lt_z p.x (pos 0)) && not (lt_z p.y (pos 0)))
+abbrev pub is_shown : Point → Bool
+is_shown p = not (lt_z p.0 (pos 0)) && not (lt_z p.1 (pos 0))
 
 abbrev pub disc_corner : Extent → Point → Point
 disc_corner e p = ((spot e p).0 -ℤ pos 1, (spot e p).1 -ℤ pos 1)
 
 abbrev pub disc_colour : Corners → Point → ℕ
-disc_colour t p = cond (eqb (inside_one t p) 0) outside inside
+disc_colour t p = cond (is_inside t p) inside outside
 
-unfoldable pub disc : Extent → Corners → Place → List Drawing
-disc e t p = cond (is_shown p) (circle_drawing (disc_corner e (point_of p)) 3 (disc_colour t (point_of p)) ∷ []) []
+abbrev pub disc_at : Extent → Corners → Point → List Drawing
+disc_at e t p = cond (is_shown p) (circle_drawing (disc_corner e p) 3 (disc_colour t p) ∷ []) []
+
+unfoldable pub disc : Extent → Corners → Option Point → List Drawing
+disc e t p = option_map_or (disc_at e t) p []
 
 abbrev pub discs : Extent → Corners → List (List ℕ) → List Drawing
 discs e t [] = []
-discs e t (l ∷ ls) = disc e t (read_place (fields l)) ++ discs e t ls
+discs e t (l ∷ ls) = disc e t (read_point l) ++ discs e t ls
 
 -- ---- the day
 abbrev pub day_over : Extent → Corners → List ℕ → List Drawing

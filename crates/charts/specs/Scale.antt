@@ -1,11 +1,12 @@
 -- How far the axes of a chart reach, and where a number stands on a line of so many pixels.
 use Rattle.std.specs.Prelude.{cond, List, ℕ, ◌*◌, ◌/◌, min, ℤ, pos, neg_ℤ, nat_abs}
+use Rattle.std.specs.Option.{option_map_or}
 use Rattle.std.specs.Int.Signed.{lt_z}
 use Rattle.geometry.specs.declared.Point.{Point}
-use Rattle.text.specs.Fields.{fields, lines, read_place}
+use Rattle.text.specs.Fields.{lines}
 use Rattle.text.specs.Lines.{each}
 use Rattle.readers.specs.declared.figures.Corners.{Corners}
-use Rattle.readers.specs.Figures.{point_of}
+use Rattle.readers.specs.Figures.{read_point}
 use Rattle.reports.specs.Minutes.{wedge, behind_first}
 use Rattle.charts.specs.declared.Extent.{Extent}
 
@@ -23,7 +24,7 @@ unfoldable pub of_wedge : Corners → Extent
 of_wedge t = with_place (with_place (with_place least t.a) t.b) t.c
 
 unfoldable pub with_sample : Extent → List ℕ → Extent
-with_sample e line = with_place e (point_of (read_place (fields line)))
+with_sample e line = option_map_or (with_place e) (read_point line) e
 
 abbrev pub extent : List ℕ → Extent
 extent s = each with_sample (of_wedge (wedge s)) (lines (behind_first s))

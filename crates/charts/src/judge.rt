@@ -2,19 +2,16 @@
 ghost use Rattle.std.specs.Prelude.{◌≡◌};
 ghost use Rattle.reports.specs.Minutes.{minutes};
 
-use crate::lines::line_end;
-use reports::Count;
+use crate::lines::Lines;
+use reports::{Count, Tally};
 
 // Inside the library: the count of a whole input, as `minutes` has it.
 pub fn count(input: &[u8]) -> Count
     ensures { result ≡ minutes input.now }
 {
-    let mut tally = reports::no_lines();
-    let mut at = 0;
-    while at < input.len() {
-        let end = line_end(input, at);
-        tally = reports::take_line(tally, &input[at..end]);
-        at = end + 1;
+    let mut tally = Tally::Fresh;
+    for line in Lines(input) {
+        tally = tally.take_line(line);
     }
-    tally.count
+    tally.count()
 }

@@ -1,11 +1,25 @@
 // The lines of an input, one after the other.
-ghost use Rattle.std.specs.Prelude.{◌≡◌, ◌≤◌, ◌<◌, length};
-ghost use Rattle.text.specs.Lines.{line_end};
+ghost use Rattle.std.specs.Iterator.{YieldsFirstRef, item_count};
+ghost use Rattle.text.specs.Fields.{lines};
 
-// Inside the library: where the line that starts at `at` ends, at its LF or with the input.
-pub fn line_end(input: &[u8], at: usize) -> usize
-    requires { at < length input.now }
-    ensures { (result ≡ line_end input.now at) × (result ≤ length input.now) }
-{
-    text::part_end(input, at, b'\n')
+// Inside the library: what LF ends, of what is left of an input; a last line may lack it, and a last LF starts none.
+#[derive(Clone, Copy)]
+pub struct Lines<'a>(pub &'a [u8]);
+
+impl<'a> Iterator for Lines<'a> {
+    type Item = &'a [u8];
+
+    ghost next_gives = { YieldsFirstRef (λ s. lines s.0.now) };
+
+    ghost remaining = { item_count (λ s. lines s.0.now) };
+
+    fn next(&mut self) -> Option<&'a [u8]> {
+        if self.0.is_empty() {
+            return None;
+        }
+        let end = text::find(self.0, b'\n');
+        let (line, rest) = self.0.split_at(end);
+        self.0 = &rest[rest.len().min(1)..];
+        Some(line)
+    }
 }

@@ -20,10 +20,7 @@ fn away(n: u64, most: u32, size: u32) -> i32
     ensures { result ≡ pos (away most size n) }
 {
     let pixels = n * (size as u64) / (most as u64);
-    if pixels < 130000 {
-        return pixels as i32;
-    }
-    130000
+    pixels.min(130000) as i32
 }
 
 // The same of a number that may be negative.
@@ -31,10 +28,8 @@ fn scaled(x: i32, most: u32, size: u32) -> i32
     requires { (0 < most) × (size ≤ 640) }
     ensures { result ≡ scaled most size x }
 {
-    if x < 0 {
-        return -away(-(x as i64) as u64, most, size);
-    }
-    away(x as u64, most, size)
+    let pixels = away(x.unsigned_abs() as u64, most, size);
+    if x < 0 { -pixels } else { pixels }
 }
 
 // Inside the library: where a second and a load stand. Loads grow upwards.

@@ -1,22 +1,19 @@
 // How far the axes reach: the largest second and the largest load of the wedge and of the samples, at least 1.
-ghost use Rattle.std.specs.Prelude.{◌≡◌, drop};
+ghost use Rattle.std.specs.Prelude.{◌≡◌};
 ghost use Rattle.text.specs.Fields.{lines};
 ghost use Rattle.text.specs.Lines.{each};
 ghost use Rattle.charts.specs.Scale.{larger, with_place, of_wedge, with_sample};
 
 use crate::Extent;
-use crate::lines::line_end;
+use crate::lines::Lines;
 use geometry::Point;
-use readers::{Corners, point_of};
+use readers::{Corners, read_point};
 
 // The larger of two numbers, of which the first is not negative.
 fn larger(n: u32, x: i32) -> u32
     ensures { result ≡ larger n x }
 {
-    if (n as i64) < (x as i64) {
-        return x as u32;
-    }
-    n
+    (n as i64).max(x as i64) as u32
 }
 
 // With a place more.
@@ -39,23 +36,23 @@ pub fn of_wedge(t: Corners) -> Extent
     with_place(two, t.c)
 }
 
-// With a line more.
+// With a line more, if it is a sample.
 fn with_sample(e: Extent, line: &[u8]) -> Extent
     ensures { result ≡ with_sample e line.now }
 {
-    with_place(e, point_of(text::read_place(line)))
+    match read_point(line) {
+        Some(p) => with_place(e, p),
+        None => e,
+    }
 }
 
-// Inside the library: with the lines from a place on.
-pub fn with_samples(e: Extent, input: &[u8], from: usize) -> Extent
-    ensures { result ≡ each with_sample e (lines (drop from input.now)) }
+// Inside the library: with the lines that are left.
+pub fn with_samples(e: Extent, samples: Lines<'_>) -> Extent
+    ensures { result ≡ each with_sample e (lines samples.entry.0.now) }
 {
     let mut reach = e;
-    let mut at = from;
-    while at < input.len() {
-        let end = line_end(input, at);
-        reach = with_sample(reach, &input[at..end]);
-        at = end + 1;
+    for line in samples {
+        reach = with_sample(reach, line);
     }
     reach
 }

@@ -4,14 +4,16 @@
 
 mod root;
 
-ghost use Rattle.std.specs.Prelude.{◌≡◌, true, ◌≤◌, nat_abs, pos, ◌-ℤ◌};
+ghost use Rattle.std.specs.Prelude.{◌≡◌, true, ◌≤◌, nat_abs, pos, ◌-ℤ◌, OnOk};
 ghost use Rattle.refusals.specs.First.{first};
-ghost use Rattle.geometry.specs.Answer.{verdict, span};
+ghost use Rattle.refusals.specs.Refusal.{as_number};
+ghost use Rattle.geometry.specs.Answer.{verdict, as_verdict, span, as_span};
 ghost use Rattle.circle.specs.Circle.{centre, threshold_of, doubled, squared_distance, contained, box_row, in_box, lead_of, span_start, span_end};
 ghost use Rattle.circle.specs.Corners.{corners};
 ghost use Rattle.circle.specs.Refusal.{circle_tests, Fits};
 
-use geometry::{Doubled, Point, Span, Verdict};
+use geometry::{Columns, Doubled, Point};
+use refusals::Refusal;
 
 // The circle's centre, in half_pixel units since it lies between pixels where the diameter is even. For the diameter 0, which contains
 // nothing, it is 2l - 1, 2t - 1 by the rule, and 2l, 2t in the Rust.
@@ -38,26 +40,25 @@ fn threshold(diameter: u32) -> u64
     ensures { result ≡ threshold_of diameter }
 {
     let d = diameter as u64;
-    if d <= 4 {
-        return d * d - d / 2;
-    }
-    d * d
+    let square = d * d;
+    if d <= 4 { square - d / 2 } else { square }
 }
 
-// Inside the library: 0 for an accepted circle, else the number of its refusal, 5 before 6.
-pub fn refusal(topleft: Point, diameter: u32) -> u32
-    ensures { result ≡ first (circle_tests topleft diameter) }
+// Inside the library: whether a circle is accepted; it is refused where its top-left is out of bounds, and then where its box ends too far.
+pub fn accept(topleft: Point, diameter: u32) -> Result<(), Refusal>
+    ensures number { as_number result ≡ first (circle_tests topleft diameter) }
+    ensures accepted { OnOk result (Fits topleft diameter) }
 {
     if !geometry::in_bounds(topleft) {
-        return 5;
+        return Err(Refusal::OutOfBounds);
     }
     let left = topleft.0 as i64;
     let top = topleft.1 as i64;
     let side = diameter as i64;
     if (131072 < left + side) | (131072 < top + side) {
-        return 6;
+        return Err(Refusal::CircleTooFar);
     }
-    0
+    Ok(())
 }
 
 // Whether the pixel lies in the circle's box.
@@ -69,16 +70,7 @@ fn in_box(topleft: Point, diameter: u32, p: Point) -> bool
     let side = diameter as i64;
     let x = p.0 as i64;
     let y = p.1 as i64;
-    if x < left {
-        return false;
-    }
-    if left + side <= x {
-        return false;
-    }
-    if y < top {
-        return false;
-    }
-    y < top + side
+    (left..left + side).contains(&x) && (top..top + side).contains(&y)
 }
 
 // The squared distance of two places that are near enough for it to fit.
@@ -97,26 +89,16 @@ pub fn accepted_contains(topleft: Point, diameter: u32, p: Point) -> bool
     requires { Fits topleft diameter }
     ensures { result ≡ contained topleft diameter p }
 {
-    if !in_box(topleft, diameter, p) {
-        return false;
-    }
-    let place = place_2x(p);
-    let center = center_2x(topleft, diameter);
-    distance_squared(place, center) < threshold(diameter)
+    in_box(topleft, diameter, p)
+        && distance_squared(place_2x(p), center_2x(topleft, diameter)) < threshold(diameter)
 }
 
 // Whether the circle contains the pixel.
-pub fn contains(topleft: Point, diameter: u32, p: Point) -> Verdict
-    ensures { result ≡ verdict (first (circle_tests topleft diameter)) (contained topleft diameter p) }
+pub fn contains(topleft: Point, diameter: u32, p: Point) -> Result<bool, Refusal>
+    ensures { as_verdict result ≡ verdict (first (circle_tests topleft diameter)) (contained topleft diameter p) }
 {
-    let number = refusal(topleft, diameter);
-    if number != 0 {
-        return Verdict { number, yes: false };
-    }
-    Verdict {
-        number: 0,
-        yes: accepted_contains(topleft, diameter, p),
-    }
+    accept(topleft, diameter)?;
+    Ok(accepted_contains(topleft, diameter, p))
 }
 
 // Inside the library: whether an accepted circle contains the four corners of a rectangle of a frame, from column `left` and row `top` to one before `past` and `end`, and with them
@@ -136,16 +118,10 @@ pub fn accepted_covers(
     let upper = top as i32;
     let right = past as i32 - 1;
     let bottom = end as i32 - 1;
-    if !accepted_contains(topleft, diameter, Point(first, upper)) {
-        return false;
-    }
-    if !accepted_contains(topleft, diameter, Point(right, upper)) {
-        return false;
-    }
-    if !accepted_contains(topleft, diameter, Point(first, bottom)) {
-        return false;
-    }
-    accepted_contains(topleft, diameter, Point(right, bottom))
+    accepted_contains(topleft, diameter, Point(first, upper))
+        && accepted_contains(topleft, diameter, Point(right, upper))
+        && accepted_contains(topleft, diameter, Point(first, bottom))
+        && accepted_contains(topleft, diameter, Point(right, bottom))
 }
 
 // How many columns of the box come before the first contained one, on a row of the box. dy and dx count half pixels: a column is contained exactly
@@ -163,48 +139,33 @@ fn lead(topleft: Point, diameter: u32, y: i32) -> u32
     (diameter - dx as u32) / 2
 }
 
-// Inside the library: the span of a row of an accepted circle's box.
-pub fn box_row_span(topleft: Point, diameter: u32, y: i32) -> Span
+// Inside the library: the columns of a row of an accepted circle's box.
+pub fn box_row_span(topleft: Point, diameter: u32, y: i32) -> Columns
     requires { Fits topleft diameter × (box_row topleft diameter y ≡ true) }
-    ensures { result ≡ span 0 (span_start topleft diameter y) (span_end topleft diameter y) }
+    ensures { result ≡ (span_start topleft diameter y, span_end topleft diameter y) }
 {
     let left = topleft.0;
     let skipped = lead(topleft, diameter, y);
     let kept = diameter - skipped;
-    Span {
-        number: 0,
-        start: left + (skipped as i32),
-        end: left + (kept as i32),
-    }
+    Columns(left + (skipped as i32), left + (kept as i32))
 }
 
-// The span of any row of an accepted circle. A row is in the box exactly if its pixel in the box's first column is.
-fn accepted_row_span(topleft: Point, diameter: u32, y: i32) -> Span
+// The columns of any row of an accepted circle. A row is in the box exactly if its pixel in the box's first column is.
+fn accepted_row_span(topleft: Point, diameter: u32, y: i32) -> Columns
     requires { Fits topleft diameter }
-    ensures { result ≡ span 0 (span_start topleft diameter y) (span_end topleft diameter y) }
+    ensures { result ≡ (span_start topleft diameter y, span_end topleft diameter y) }
 {
     let left = topleft.0;
     if !in_box(topleft, diameter, Point(left, y)) {
-        return Span {
-            number: 0,
-            start: 0,
-            end: 0,
-        };
+        return Columns(0, 0);
     }
     box_row_span(topleft, diameter, y)
 }
 
 // The columns of row y that the circle contains.
-pub fn row_span(topleft: Point, diameter: u32, y: i32) -> Span
-    ensures { result ≡ span (first (circle_tests topleft diameter)) (span_start topleft diameter y) (span_end topleft diameter y) }
+pub fn row_span(topleft: Point, diameter: u32, y: i32) -> Result<Columns, Refusal>
+    ensures { as_span result ≡ span (first (circle_tests topleft diameter)) (span_start topleft diameter y) (span_end topleft diameter y) }
 {
-    let number = refusal(topleft, diameter);
-    if number != 0 {
-        return Span {
-            number,
-            start: 0,
-            end: 0,
-        };
-    }
-    accepted_row_span(topleft, diameter, y)
+    accept(topleft, diameter)?;
+    Ok(accepted_row_span(topleft, diameter, y))
 }

@@ -7,12 +7,12 @@ ghost use Rattle.circle.specs.Root.{Root};
 fn guess(n: u64) -> u64
     ensures { (n < (result + 1) * (result + 1)) × (result < 4294967296) }
 {
-    let half = (64 - u64::leading_zeros(n)) / 2;
+    let half = (64 - n.leading_zeros()) / 2;
     ((1u64 << half) + (n >> half)) / 2
 }
 
 // Inside the library: the largest r with r * r <= n. A step from a number whose square is above n gives a smaller one that is still at least the
-// root.
+// root. How many steps it takes is not known before, so that this is a `while`; std's `isqrt` takes 32, and a circle of d = 2,000 at depth 8 then 2.4 times the instructions.
 pub fn isqrt(n: u64) -> u64
     ensures { Root n result }
 {

@@ -3,9 +3,9 @@
 use mathlib.Core.Path.{◌≡◌, refl, sym, ap, ap₂, subst, ◌∙◌}
 use mathlib.Core.Bool.{Bool, true, false, cond, not, ◌&&◌}
 use mathlib.Core.Logic.{◌⊎◌, inl, inr, ⊎_elim}
-use Prim.Native.Nat.{ℕ, ◌+◌, ◌-◌, ◌≤◌, ◌<◌, max, min}
+use Prim.Native.Nat.{ℕ, ◌+◌, ◌-◌, ◌≤◌, ◌<◌}
 use native.Mathlib.Omega.{arith}
-use borrow.Author.Tests.{leb-true, leb-false, ltb-true, le-leb, lt-leb, lt-ltb, le-ltb}
+use borrow.Author.Tests.{le-leb, lt-leb, lt-ltb, le-ltb}
 use lib.Dec.{leb, ltb}
 use lib.IntN.{ℤ, pos, nat_abs, ◌+ℤ◌, ◌-ℤ◌, ◌*ℤ◌}
 use lib.Signed.{le_z, lt_z}
@@ -13,9 +13,9 @@ use mir.Syntax.{w32}
 use mir.Val.{to_z, of_z}
 use Rattle.whole.specs.Interval.{between}
 use Rattle.whole.proofs.Machine.{back}
-use Rattle.whole.proofs.Tests.{same_test, and_true, true_and, lt_or_ge}
+use Rattle.whole.proofs.Tests.{true_and, lt_or_ge}
 use Rattle.geometry.specs.declared.Point.{Point}
-use Rattle.geometry.specs.Bound.{Coord, Bounded}
+use Rattle.geometry.specs.Bound.{Coord}
 use Rattle.geometry.proofs.Bound.{coord}
 use Rattle.line.specs.Line.{toward, moves, wide, high, steep, major, minor, x_moves, y_moves, points, point_at}
 use Rattle.line.specs.Reach.{reach_from}
@@ -24,26 +24,16 @@ use Rattle.line.proofs.Moves.{moves_minor}
 use Rattle.line.proofs.Reach.{from_wide, from_exactly}
 use Rattle.connected.specs.Connected.{beside_both, index_of, last_index, connected_points, points_before, alike, extra_at, connected_at}
 use Rattle.connected.proofs.Indices.{Grows, View, normal, extra, view, index_more, grows_index, normal_at, extra_at_lem}
-use Rattle.windows.specs.declared.Steps.{Steps}
+use Rattle.std.specs.declared.ops.Range.{Range}
 use Rattle.windows.specs.declared.Window.{Window}
 use Rattle.windows.specs.Interval.{Held, on_from, come, stays}
-use Rattle.windows.specs.Window.{Small, in_window}
+use Rattle.windows.specs.Window.{in_window}
 use Rattle.windows.proofs.Interval.{is_step, held_exactly, one_interval, step_before, step_after}
 use Rattle.clips.specs.declared.Axes.{Axes}
 use Rattle.clips.specs.Steps.{axis_of, axis_from, axis_past, AxisSteps, AxesOf, LineSteps, Common, come_along, stays_along, InnerSteps}
 
--- ---- a coordinate as it is read
-pub coord_read : {z : ℤ} → Coord z → Coord (to_z w32 (of_z w32 z))
-coord_read h = subst Coord (sym (back (coord h)).is) h
-
--- what is asked along an axis, with coordinates as they are read
-pub axis_asked : (b : Bool) {q : Window} {s e : Point} → Small q → Bounded s × Bounded e
-    → (Coord (to_z w32 (of_z w32 (axis_of b s))) × Coord (to_z w32 (of_z w32 (axis_of b e)))) × (axis_from b q ≤ 2048) × (axis_past b q ≤ 2048)
-axis_asked true h p = ((coord_read p.0.y, coord_read p.1.y), omega (arith, h.2, h.3), h.3)
-axis_asked false h p = ((coord_read p.0.x, coord_read p.1.x), omega (arith, h.0, h.1), h.1)
-
--- and what is answered
-pub held_read : {a z : ℤ} {low high : ℕ} {t : Steps} → Coord a → Coord z
+-- ---- what is answered along an axis, with coordinates as they are read
+pub held_read : {a z : ℤ} {low high : ℕ} {t : Range ℕ} → Coord a → Coord z
     → (let a' = to_z w32 (of_z w32 a) in let z' = to_z w32 (of_z w32 z) in Held a' (le_z a' z') low high (nat_abs (z' -ℤ a') + 1) t)
     → Held a (le_z a z) low high (nat_abs (z -ℤ a) + 1) t
 held_read h g held = rw ((back (coord h)).is, (back (coord g)).is) at held
@@ -57,7 +47,7 @@ axes_of q s e b axis M n h g =
     record { length = M ∙ sym long; breadth = n ∙ sym short; along = rw (axis, long) h; across = rw (axis, short) g }
 
 -- ---- the steps along the major axis
-pub line_steps : (q : Window) (s e : Point) (b : Bool) → steep s e ≡ b → {t : Steps} → AxisSteps b q s e (cond b (high s e) (wide s e) + 1) t → LineSteps q s e t
+pub line_steps : (q : Window) (s e : Point) (b : Bool) → steep s e ≡ b → {t : Range ℕ} → AxisSteps b q s e (cond b (high s e) (wide s e) + 1) t → LineSteps q s e t
 line_steps q s e b axis h = record { held = rw (axis, major_by s e b axis) h }
 
 -- ---- along the major axis one step is one place
@@ -89,22 +79,22 @@ axis_out false q p h = ap (λ (x : Bool). x && between (pos q.top) (pos q.bottom
 major_out : (q : Window) (s e p : Point) → major_held q s e p ≡ false → in_window q p.0 p.1 ≡ false
 major_out q s e p = axis_out (steep s e) q p
 
-module _ {q : Window} {s e : Point} {t : Steps} (L : LineSteps q s e t) where
+module _ {q : Window} {s e : Point} {t : Range ℕ} (L : LineSteps q s e t) where
   exactly : (k : ℕ) → k < points s e → major_held q s e (point_at s e k) ≡ is_step t k
   exactly k few =
       ap (between (pos (axis_from (steep s e) q)) (pos (axis_past (steep s e) q))) (place_on s e (steep s e) refl k)
       ∙ sym (held_exactly (le_z (axis_of (steep s e) s) (axis_of (steep s e) e)) L.held k few)
 
   -- so no step before or after them leads into it
-  off_before : (k : ℕ) → k < points s e → k < t.from → major_held q s e (point_at s e k) ≡ false
+  off_before : (k : ℕ) → k < points s e → k < t.start → major_held q s e (point_at s e k) ≡ false
   off_before k few l = exactly k few ∙ step_before t k l
 
-  off_after : (k : ℕ) → k < points s e → t.past ≤ k → major_held q s e (point_at s e k) ≡ false
+  off_after : (k : ℕ) → k < points s e → t.end ≤ k → major_held q s e (point_at s e k) ≡ false
   off_after k few l = exactly k few ∙ step_after t k l
 
   -- and none at all, if they are none
-  off_none : t.past ≤ t.from → (k : ℕ) → k < points s e → major_held q s e (point_at s e k) ≡ false
-  off_none none k few = ⊎_elim (off_before k few) (λ l. off_after k few (omega arith)) (lt_or_ge k t.from)
+  off_none : t.end ≤ t.start → (k : ℕ) → k < points s e → major_held q s e (point_at s e k) ≡ false
+  off_none none k few = ⊎_elim (off_before k few) (λ l. off_after k few (omega arith)) (lt_or_ge k t.start)
 
 -- ---- a connected line. An extra point has the major coordinate of a normal one beside it
 module _ (q : Window) (s e : Point) where
@@ -128,69 +118,50 @@ module _ (q : Window) (s e : Point) where
       → in_window q (connected_at s e i).0 (connected_at s e i).1 ≡ false
   extra_outside {k = k} l g here h n = ap (λ (p : Point). in_window q p.0 p.1) (ap (connected_at s e) here ∙ extra_at_lem s e k l g) ∙ extra_out k h n
 
-module _ {q : Window} {s e : Point} {t : Steps} (L : LineSteps q s e t) where
+module _ {q : Window} {s e : Point} {t : Range ℕ} (L : LineSteps q s e t) where
   -- the points before the step before the first, and from the step after the last on, are outside
-  pub connected_before : (i : ℕ) → i ≤ last_index s e → t.from ≤ major s e → i < index_of s e (t.from - 1) → in_window q (connected_at s e i).0 (connected_at s e i).1 ≡ false
+  pub connected_before : (i : ℕ) → i ≤ last_index s e → t.start ≤ major s e → i < index_of s e (t.start - 1) → in_window q (connected_at s e i).0 (connected_at s e i).1 ≡ false
   connected_before i last few l = by (view s e i last)
     where
       -- a step of an index before it is before it
-      under : (k : ℕ) → index_of s e k ≤ i → k + 1 < t.from
-      under k h = ⊎_elim (λ b. omega arith) (λ b. absurd (omega (arith, index_more s e (t.from - 1) k b))) (lt_or_ge k (t.from - 1))
+      under : (k : ℕ) → index_of s e k ≤ i → k + 1 < t.start
+      under k h = ⊎_elim (λ b. omega arith) (λ b. absurd (omega (arith, index_more s e (t.start - 1) k b))) (lt_or_ge k (t.start - 1))
 
       by : View s e i → in_window q (connected_at s e i).0 (connected_at s e i).1 ≡ false
       by (normal k m here) = let u = under k (omega arith) in normal_outside q s e m here (off_before L k (omega arith) (omega arith))
       by (extra k m g here) =
           let u = under k (omega arith) in extra_outside q s e m g here (off_before L k (omega arith) (omega arith)) (off_before L (k + 1) (omega arith) (omega arith))
 
-  pub connected_after : (i : ℕ) → i ≤ last_index s e → points_before s e t.past ≤ i → in_window q (connected_at s e i).0 (connected_at s e i).1 ≡ false
-  connected_after i last h = by (lt_or_ge (major s e) t.past)
+  pub connected_after : (i : ℕ) → i ≤ last_index s e → points_before s e t.end ≤ i → in_window q (connected_at s e i).0 (connected_at s e i).1 ≡ false
+  connected_after i last h = by (lt_or_ge (major s e) t.end)
     where
       -- a step of an index from it on is not before it
-      over : index_of s e t.past ≤ i → (k : ℕ) → i < index_of s e (k + 1) → t.past ≤ k
-      over g k l = ⊎_elim (λ b. absurd (omega (arith, index_more s e (k + 1) t.past (omega arith)))) (λ b. b) (lt_or_ge k t.past)
+      over : index_of s e t.end ≤ i → (k : ℕ) → i < index_of s e (k + 1) → t.end ≤ k
+      over g k l = ⊎_elim (λ b. absurd (omega (arith, index_more s e (k + 1) t.end (omega arith)))) (λ b. b) (lt_or_ge k t.end)
 
-      within : index_of s e t.past ≤ i → View s e i → in_window q (connected_at s e i).0 (connected_at s e i).1 ≡ false
+      within : index_of s e t.end ≤ i → View s e i → in_window q (connected_at s e i).0 (connected_at s e i).1 ≡ false
       within f (normal k m here) =
           let u = over f k (omega (arith, index_more s e k (k + 1) (omega arith))) in normal_outside q s e m here (off_after L k (omega arith) u)
       within f (extra k m g here) =
           let u = over f k (omega (arith, grows_index s e k g)) in
           extra_outside q s e m g here (off_after L k (omega arith) u) (off_after L (k + 1) (omega arith) (omega arith))
 
-      before_is : (b : Bool) → ltb (major s e) t.past ≡ b → cond b (connected_points s e) (index_of s e t.past) ≤ i
-      before_is b z = subst (λ (b : Bool). cond b (connected_points s e) (index_of s e t.past) ≤ i) z h
+      before_is : (b : Bool) → ltb (major s e) t.end ≡ b → cond b (connected_points s e) (index_of s e t.end) ≤ i
+      before_is b z = subst (λ (b : Bool). cond b (connected_points s e) (index_of s e t.end) ≤ i) z h
 
-      by : (major s e < t.past) ⊎ (t.past ≤ major s e) → in_window q (connected_at s e i).0 (connected_at s e i).1 ≡ false
-      by (inl l) = absurd (let z = before_is true (lt-ltb (major s e) t.past l) in omega arith)
-      by (inr l) = within (before_is false (le-ltb (major s e) t.past l)) (view s e i last)
+      by : (major s e < t.end) ⊎ (t.end ≤ major s e) → in_window q (connected_at s e i).0 (connected_at s e i).1 ≡ false
+      by (inl l) = absurd (let z = before_is true (lt-ltb (major s e) t.end l) in omega arith)
+      by (inr l) = within (before_is false (le-ltb (major s e) t.end l)) (view s e i last)
 
   -- and all, if there is no step
-  pub connected_none : t.past ≤ t.from → (i : ℕ) → i ≤ last_index s e → in_window q (connected_at s e i).0 (connected_at s e i).1 ≡ false
+  pub connected_none : t.end ≤ t.start → (i : ℕ) → i ≤ last_index s e → in_window q (connected_at s e i).0 (connected_at s e i).1 ≡ false
   connected_none none i last = by (view s e i last)
     where
       by : View s e i → in_window q (connected_at s e i).0 (connected_at s e i).1 ≡ false
       by (normal k m here) = normal_outside q s e m here (off_none L none k (omega arith))
       by (extra k m g here) = extra_outside q s e m g here (off_none L none k (omega arith)) (off_none L none (k + 1) (omega arith))
 
--- ---- both axes: two intervals in one
-module _ (a b k : ℕ) where
-  larger_start : leb (max a b) k ≡ (leb a k && leb b k)
-  larger_start =
-      same_test _ _ (λ h. let m = leb-true (max a b) k h in true_and (le-leb a k (omega arith)) (le-leb b k (omega arith)))
-      (λ h. let p = and_true (leb a k) (leb b k) h in le-leb (max a b) k (omega (arith, leb-true a k p.0, leb-true b k p.1)))
-
-  smaller_end : ltb k (min a b) ≡ (ltb k a && ltb k b)
-  smaller_end =
-      same_test _ _ (λ h. let m = ltb-true k (min a b) h in true_and (lt-ltb k a (omega arith)) (lt-ltb k b (omega arith)))
-      (λ h. let p = and_true (ltb k a) (ltb k b) h in lt-ltb k (min a b) (omega (arith, ltb-true k a p.0, ltb-true k b p.1)))
-
--- what is not at or past one end is before it
-other_side : (p k v m : ℕ) → leb p k ≡ leb v m → ltb k p ≡ ltb m v
-other_side p k v m e = by (lt_or_ge k p)
-  where
-    by : (k < p) ⊎ (p ≤ k) → ltb k p ≡ ltb m v
-    by (inl l) = lt-ltb k p l ∙ sym (lt-ltb m v (leb-false v m (sym e ∙ lt-leb p k l)))
-    by (inr l) = le-ltb k p l ∙ sym (le-ltb m v (leb-true v m (sym e ∙ le-leb p k l)))
-
+-- ---- both axes: moves along the minor one, as steps
 -- a step of a line of lengths M and n from which on it has made v moves along the minor axis
 abbrev pub StepWith : ℕ → ℕ → ℕ → ℕ → Type 0
 StepWith M n v f = (f ≤ M + 1) × ((k : ℕ) → k ≤ M → leb f k ≡ leb v (moves M n k))
@@ -201,18 +172,6 @@ step_past M n v h = (omega arith, λ k l. lt-leb (M + 1) k (omega arith) ∙ sym
 
 pub step_first : (M n v : ℕ) → n ≤ M → v ≤ n → StepWith M n v (reach_from M n v)
 step_first M n v s r = (omega (arith, from_wide M n v s r), λ k l. from_exactly M n v k s r)
-
-pub common : (M n : ℕ) (u v : Steps) {f p : ℕ} {t : Steps} → u.from ≤ M + 1 → u.past ≤ M + 1 → StepWith M n v.from f → StepWith M n v.past p
-    → t.from ≡ max u.from f → t.past ≡ min u.past p → Common M n u v t
-common M n u v {f} {p} few most first last from past =
-    record {
-      first = omega (arith, first.0);
-      most = omega (arith, last.0);
-      begins = λ k l. ap (λ (x : ℕ). leb x k) from ∙ larger_start u.from f k ∙ ap (λ (t : Bool). leb u.from k && t) (first.1 k l);
-      ends =
-          λ k l. ap (λ (x : ℕ). ltb k x) past ∙ smaller_end u.past p k
-          ∙ ap (λ (t : Bool). ltb k u.past && t) (other_side p k v.past (moves M n k) (last.1 k l));
-    }
 
 -- ---- the moves along both axes, b being the major one
 both_swap : (s t : Bool) → (s && t) ≡ (t && s)
@@ -234,7 +193,7 @@ module _ {q : Window} {s e : Point} {r : Axes} (A : AxesOf q s e r) where
   abbrev b : Bool
   b = steep s e
 
-  pub inner_steps : {t : Steps} → Common r.major r.minor r.along r.across t → InnerSteps q s e t
+  pub inner_steps : {t : Range ℕ} → Common r.major r.minor r.along r.across t → InnerSteps q s e t
   inner_steps {t} common =
       record {
         first = omega (arith, both.first);
@@ -267,7 +226,7 @@ pairs true b true d = refl
 pairs true b false d = and_off b refl
 pairs false b c d = refl
 
-module _ {q : Window} {s e : Point} {t : Steps} (I : InnerSteps q s e t) where
+module _ {q : Window} {s e : Point} {t : Range ℕ} (I : InnerSteps q s e t) where
   inner_exactly : (k : ℕ) → k < points s e → in_window q (point_at s e k).0 (point_at s e k).1 ≡ is_step t k
   inner_exactly k few =
       let p = point_at s e k in
@@ -275,20 +234,20 @@ module _ {q : Window} {s e : Point} {t : Steps} (I : InnerSteps q s e t) where
       ∙ pairs (come_along false q s e p) (come_along true q s e p) (stays_along false q s e p) (stays_along true q s e p)
       ∙ ap₂ ◌&&◌ (come_stays (le_z s.0 e.0) q.left q.right p.0) (come_stays (le_z s.1 e.1) q.top q.bottom p.1))
 
-  pub inner_in : (k : ℕ) → t.from ≤ k → k < t.past → in_window q (point_at s e k).0 (point_at s e k).1 ≡ true
-  inner_in k a b = inner_exactly k (omega (arith, I.most)) ∙ true_and (le-leb t.from k a) (lt-ltb k t.past b)
+  pub inner_in : (k : ℕ) → t.start ≤ k → k < t.end → in_window q (point_at s e k).0 (point_at s e k).1 ≡ true
+  inner_in k a b = inner_exactly k (omega (arith, I.most)) ∙ true_and (le-leb t.start k a) (lt-ltb k t.end b)
 
-  pub out_before : (k : ℕ) → k < points s e → k < t.from → in_window q (point_at s e k).0 (point_at s e k).1 ≡ false
+  pub out_before : (k : ℕ) → k < points s e → k < t.start → in_window q (point_at s e k).0 (point_at s e k).1 ≡ false
   out_before k few l = inner_exactly k few ∙ step_before t k l
 
-  pub out_after : (k : ℕ) → k < points s e → t.past ≤ k → in_window q (point_at s e k).0 (point_at s e k).1 ≡ false
+  pub out_after : (k : ℕ) → k < points s e → t.end ≤ k → in_window q (point_at s e k).0 (point_at s e k).1 ≡ false
   out_after k few l = inner_exactly k few ∙ step_after t k l
 
   -- and none, if they are none
-  pub out_none : t.past ≤ t.from → (k : ℕ) → k < points s e → in_window q (point_at s e k).0 (point_at s e k).1 ≡ false
-  out_none none k few = ⊎_elim (out_before k few) (λ l. out_after k few (omega arith)) (lt_or_ge k t.from)
+  pub out_none : t.end ≤ t.start → (k : ℕ) → k < points s e → in_window q (point_at s e k).0 (point_at s e k).1 ≡ false
+  out_none none k few = ⊎_elim (out_before k few) (λ l. out_after k few (omega arith)) (lt_or_ge k t.start)
 
 -- there is one such answer
-pub inner_one : {q : Window} {s e : Point} {t u : Steps} → InnerSteps q s e t → InnerSteps q s e u → t ≡ u
+pub inner_one : {q : Window} {s e : Point} {t u : Range ℕ} → InnerSteps q s e t → InnerSteps q s e u → t ≡ u
 inner_one {t = t} {u} h g =
     one_interval h.first g.first h.most g.most (λ k few. h.begins k few ∙ sym (g.begins k few)) (λ k few. h.ends k few ∙ sym (g.ends k few))

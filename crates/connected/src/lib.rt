@@ -2,23 +2,24 @@
 // left. The walker, and the questions on a connected line. Its points depend on the end that it starts from.
 #![tactic(auto)]
 
-ghost use Rattle.std.specs.Prelude.{◌≡◌, ℕ, ◌+◌, ◌-◌, ◌≤◌, nat_abs, ◌-ℤ◌};
+ghost use Rattle.std.specs.Prelude.{◌≡◌, ℕ, ◌+◌, ◌-◌, ◌≤◌};
 ghost use Rattle.refusals.specs.First.{first};
 ghost use Rattle.geometry.specs.declared.Point.{Point as Place};
 ghost use Rattle.geometry.specs.Bound.{Bounded};
-ghost use Rattle.geometry.specs.Answer.{verdict};
+ghost use Rattle.geometry.specs.Answer.{verdict, as_verdict};
 ghost use Rattle.line.specs.Line.{major};
 ghost use Rattle.line.specs.Walk.{CourseOf, SomeCourse, is_due};
-ghost use Rattle.line.specs.Answer.{end_tests, length_answer, step_answer};
+ghost use Rattle.line.specs.Answer.{end_tests, length_answer, as_length, step_answer, as_step};
 ghost use Rattle.connected.specs.Connected.{index_of, last_index, connected_points, points_before, connected_at, has_connected};
 ghost use Rattle.connected.specs.Walk.{mirrored, MovesMade, NextAt, Connecting, HandedOut};
 ghost use Rattle.connected.specs.Answer.{index_tests};
 
-use geometry::{Point, Verdict};
-use line::{Course, Length, Step, Walker};
+use geometry::Point;
+use line::{Course, Walker};
+use refusals::Refusal;
 
 // A point, whether it is an extra one, and the walker at the next.
-#[derive(Clone, Copy)]
+#[derive(Debug, Clone, Copy, PartialEq, Eq, Hash)]
 pub struct SteppedAll {
     pub point: Point,
     pub extra: bool,
@@ -30,11 +31,11 @@ fn mirrors(c: Course) -> bool
     requires { SomeCourse c }
     ensures { (s e : Place) → CourseOf s e c → result ≡ mirrored s e }
 {
-    let x = c.xmajor;
-    if x != 0 {
-        return x == c.yminor;
+    if c.xmajor != 0 {
+        c.xmajor == c.yminor
+    } else {
+        c.ymajor == -c.xminor
     }
-    c.ymajor == -c.xminor
 }
 
 // Inside the library: the walker of an accepted connected line that hands out the normal point of a step next, without walking there.
@@ -81,9 +82,7 @@ pub fn last_index(start: Point, end: Point) -> u32
     requires { Bounded start × Bounded end }
     ensures { result ≡ last_index start end }
 {
-    let wide = line::distance(start.0, end.0) as u32;
-    let high = line::distance(start.1, end.1) as u32;
-    wide + high
+    end.0.abs_diff(start.0) + end.1.abs_diff(start.1)
 }
 
 // Inside the library: how many points of an accepted connected line come before the normal point of a step; all of them, for a step past the last.
@@ -92,9 +91,10 @@ pub fn points_before(start: Point, end: Point, step: u32) -> u32
     ensures { result ≡ points_before start end step }
 {
     if line::last_step(start, end) < step {
-        return last_index(start, end) + 1;
+        last_index(start, end) + 1
+    } else {
+        step + line::minor_moves(start, end, step)
     }
-    step + line::minor_moves(start, end, step)
 }
 
 // The minor ones of the i moves that come before the point of index i.
@@ -103,9 +103,10 @@ fn crossings(major: u64, minor: u64, i: u64) -> u64
     ensures { MovesMade major minor (i - result) result }
 {
     if major == 0 {
-        return 0;
+        0
+    } else {
+        (2 * minor * i + (major - 1)) / (2 * major + 2 * minor)
     }
-    (2 * minor * i + (major - 1)) / (2 * major + 2 * minor)
 }
 
 // Whether a minor move is due after k major and m minor moves.
@@ -135,51 +136,23 @@ fn point_at(start: Point, end: Point, i: u32) -> Point
 }
 
 // The number of points of a connected line.
-pub fn length(start: Point, end: Point) -> Length
-    ensures { result ≡ length_answer (first (end_tests start end)) (connected_points start end) }
+pub fn length(start: Point, end: Point) -> Result<u32, Refusal>
+    ensures { as_length result ≡ length_answer (first (end_tests start end)) (connected_points start end) }
 {
-    let number = line::refusal(start, end);
-    if number != 0 {
-        return Length { number, points: 0 };
-    }
-    Length {
-        number: 0,
-        points: last_index(start, end) + 1,
-    }
+    line::accept(start, end)?;
+    Ok(last_index(start, end) + 1)
 }
 
 // The point of a connected line at an index, the start having index 0.
-pub fn point(start: Point, end: Point, index: u32) -> Step
-    ensures { result ≡ step_answer (first (index_tests start end index)) (connected_at start end index) }
+#[tactic(auto, unfolding(line::specs::Answer::end_tests, crate::specs::Answer::index_tests))]
+pub fn point(start: Point, end: Point, index: u32) -> Result<Point, Refusal>
+    ensures { as_step result ≡ step_answer (first (index_tests start end index)) (connected_at start end index) }
 {
-    let number = line::refusal(start, end);
-    if number != 0 {
-        return Step {
-            number,
-            point: Point(0, 0),
-        };
-    }
+    line::accept(start, end)?;
     if last_index(start, end) < index {
-        return Step {
-            number: 7,
-            point: Point(0, 0),
-        };
+        return Err(Refusal::PastLastStep);
     }
-    Step {
-        number: 0,
-        point: point_at(start, end, index),
-    }
-}
-
-// How far b is from a.
-fn apart(a: i32, b: i32) -> u64
-    ensures { (result ≡ nat_abs (b -ℤ a)) × (result ≤ 4294967296) }
-{
-    let d = b as i64 - a as i64;
-    if d < 0 {
-        return -d as u64;
-    }
-    d as u64
+    Ok(point_at(start, end, index))
 }
 
 // Whether p is a point of an accepted connected line. A point's index is the sum of its moves along both axes, so that one index is asked.
@@ -187,23 +160,14 @@ fn meets(start: Point, end: Point, p: Point) -> bool
     requires { Bounded start × Bounded end }
     ensures { result ≡ has_connected start end p }
 {
-    let i = apart(start.0, p.0) + apart(start.1, p.1);
-    if (last_index(start, end) as u64) < i {
-        return false;
-    }
-    geometry::same_place(p, point_at(start, end, i as u32))
+    let i = p.0.abs_diff(start.0) as u64 + p.1.abs_diff(start.1) as u64;
+    i <= last_index(start, end) as u64 && p == point_at(start, end, i as u32)
 }
 
 // Whether p is a point of the connected line: any pixel may be asked.
-pub fn has_point(start: Point, end: Point, p: Point) -> Verdict
-    ensures { result ≡ verdict (first (end_tests start end)) (has_connected start end p) }
+pub fn has_point(start: Point, end: Point, p: Point) -> Result<bool, Refusal>
+    ensures { as_verdict result ≡ verdict (first (end_tests start end)) (has_connected start end p) }
 {
-    let number = line::refusal(start, end);
-    if number != 0 {
-        return Verdict { number, yes: false };
-    }
-    Verdict {
-        number: 0,
-        yes: meets(start, end, p),
-    }
+    line::accept(start, end)?;
+    Ok(meets(start, end, p))
 }

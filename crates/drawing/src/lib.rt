@@ -2,18 +2,22 @@
 // contains; its answer says how many these are. Calls on a frame that was judged already have `_on` in their name.
 #![tactic(auto)]
 
-ghost use Rattle.std.specs.Prelude.{◌≡◌, ◌-◌, length};
+ghost use Rattle.std.specs.Prelude.{◌≡◌, ◌-◌, length, OnOk};
+ghost use Rattle.refusals.specs.Refusal.{as_number};
+ghost use Rattle.geometry.specs.Bound.{Bounded};
 ghost use Rattle.line.specs.Answer.{end_tests};
 ghost use Rattle.triangle.specs.Answer.{vertex_tests};
-ghost use Rattle.circle.specs.Refusal.{circle_tests};
+ghost use Rattle.circle.specs.Refusal.{circle_tests, Fits};
+ghost use Rattle.frames.specs.Answer.{as_drawn};
 ghost use Rattle.frames.specs.Canvas.{number_on, on_canvas};
 ghost use Rattle.frames.specs.Drawing.{pixel_drawing, outcome};
 ghost use Rattle.frames.specs.Judged.{Judged, JudgedSome};
 ghost use Rattle.drawing.specs.Drawing.{figure_drawing, line_drawing, connected_drawing, outline_drawing, triangle_drawing, circle_drawing};
 
-use frames::{Canvas, Drawn, Frame};
+use frames::{Canvas, Frame};
 use geometry::Point;
 use painting::Brush;
+use refusals::Refusal;
 
 // A figure that a call may draw.
 #[derive(Clone, Copy)]
@@ -27,36 +31,40 @@ pub enum Figure {
     Circle(Point, u32),
 }
 
-// The number that drawing a line answers, connected or not.
-fn line_number(canvas: Canvas, start: Point, end: Point, colour: u32) -> u32
+// Whether a line may be drawn, connected or not.
+fn accept_line(canvas: Canvas, start: Point, end: Point, colour: u32) -> Result<(), Refusal>
     requires { JudgedSome canvas }
-    ensures { result ≡ number_on canvas colour (end_tests start end) }
+    ensures number { as_number result ≡ number_on canvas colour (end_tests start end) }
+    ensures accepted { OnOk result (Bounded start × Bounded end) }
 {
-    let number = frames::colour_refusal(canvas, colour);
-    if number != 0 {
-        return number;
-    }
-    line::refusal(start, end)
+    frames::accept_colour(canvas, colour)?;
+    line::accept(start, end)
 }
 
 // Inside the library: `draw_line` on a canvas.
-pub fn line_on(buf: &mut [u8], canvas: Canvas, start: Point, end: Point, colour: u32) -> Drawn
+pub fn line_on(
+    buf: &mut [u8],
+    canvas: Canvas,
+    start: Point,
+    end: Point,
+    colour: u32,
+) -> Result<u32, Refusal>
     requires { Judged canvas (length buf.old) }
-    ensures { (result, buf.new) ≡ on_canvas canvas (line_drawing start end colour) buf.old }
+    ensures { (as_drawn result, buf.new) ≡ on_canvas canvas (line_drawing start end colour) buf.old }
 {
-    let number = line_number(canvas, start, end, colour);
-    if number != 0 {
-        return Drawn { number, count: 0 };
-    }
-    Drawn {
-        number: 0,
-        count: tracing::draw_alone(buf, Brush::on(canvas, colour), start, end),
-    }
+    accept_line(canvas, start, end, colour)?;
+    Ok(tracing::draw_alone(buf, Brush::on(canvas, colour), start, end))
 }
 
 // Draws the line from start to end.
-pub fn draw_line(buf: &mut [u8], frame: Frame, start: Point, end: Point, colour: u32) -> Drawn
-    ensures { (result, buf.new) ≡ outcome frame (line_drawing start end colour) buf.old }
+pub fn draw_line(
+    buf: &mut [u8],
+    frame: Frame,
+    start: Point,
+    end: Point,
+    colour: u32,
+) -> Result<u32, Refusal>
+    ensures { (as_drawn result, buf.new) ≡ outcome frame (line_drawing start end colour) buf.old }
 {
     line_on(buf, frame.over(buf.len()), start, end, colour)
 }
@@ -68,18 +76,12 @@ pub fn connected_line_on(
     start: Point,
     end: Point,
     colour: u32,
-) -> Drawn
+) -> Result<u32, Refusal>
     requires { Judged canvas (length buf.old) }
-    ensures { (result, buf.new) ≡ on_canvas canvas (connected_drawing start end colour) buf.old }
+    ensures { (as_drawn result, buf.new) ≡ on_canvas canvas (connected_drawing start end colour) buf.old }
 {
-    let number = line_number(canvas, start, end, colour);
-    if number != 0 {
-        return Drawn { number, count: 0 };
-    }
-    Drawn {
-        number: 0,
-        count: tracing::draw_connected(buf, Brush::on(canvas, colour), start, end),
-    }
+    accept_line(canvas, start, end, colour)?;
+    Ok(tracing::draw_connected(buf, Brush::on(canvas, colour), start, end))
 }
 
 // Draws the connected line from start to end.
@@ -89,22 +91,26 @@ pub fn draw_connected_line(
     start: Point,
     end: Point,
     colour: u32,
-) -> Drawn
-    ensures { (result, buf.new) ≡ outcome frame (connected_drawing start end colour) buf.old }
+) -> Result<u32, Refusal>
+    ensures { (as_drawn result, buf.new) ≡ outcome frame (connected_drawing start end colour) buf.old }
 {
     connected_line_on(buf, frame.over(buf.len()), start, end, colour)
 }
 
-// The number that drawing a triangle or its outline answers.
-fn triangle_number(canvas: Canvas, v1: Point, v2: Point, v3: Point, colour: u32) -> u32
+// Whether a triangle or its outline may be drawn.
+fn accept_triangle(
+    canvas: Canvas,
+    v1: Point,
+    v2: Point,
+    v3: Point,
+    colour: u32,
+) -> Result<(), Refusal>
     requires { JudgedSome canvas }
-    ensures { result ≡ number_on canvas colour (vertex_tests v1 v2 v3) }
+    ensures number { as_number result ≡ number_on canvas colour (vertex_tests v1 v2 v3) }
+    ensures accepted { OnOk result (Bounded v1 × Bounded v2 × Bounded v3) }
 {
-    let number = frames::colour_refusal(canvas, colour);
-    if number != 0 {
-        return number;
-    }
-    triangle::refusal(v1, v2, v3)
+    frames::accept_colour(canvas, colour)?;
+    triangle::accept(v1, v2, v3)
 }
 
 // Inside the library: `draw_outline` on a canvas.
@@ -115,18 +121,12 @@ pub fn outline_on(
     v2: Point,
     v3: Point,
     colour: u32,
-) -> Drawn
+) -> Result<u32, Refusal>
     requires { Judged canvas (length buf.old) }
-    ensures { (result, buf.new) ≡ on_canvas canvas (outline_drawing v1 v2 v3 colour) buf.old }
+    ensures { (as_drawn result, buf.new) ≡ on_canvas canvas (outline_drawing v1 v2 v3 colour) buf.old }
 {
-    let number = triangle_number(canvas, v1, v2, v3, colour);
-    if number != 0 {
-        return Drawn { number, count: 0 };
-    }
-    Drawn {
-        number: 0,
-        count: tracing::draw_edges(buf, Brush::on(canvas, colour), v1, v2, v3),
-    }
+    accept_triangle(canvas, v1, v2, v3, colour)?;
+    Ok(tracing::draw_edges(buf, Brush::on(canvas, colour), v1, v2, v3))
 }
 
 // Draws the outline of a triangle: the edges that its fill uses, so that any order of the vertices draws the same, and no pixel but those that the filled
@@ -138,22 +138,20 @@ pub fn draw_outline(
     v2: Point,
     v3: Point,
     colour: u32,
-) -> Drawn
-    ensures { (result, buf.new) ≡ outcome frame (outline_drawing v1 v2 v3 colour) buf.old }
+) -> Result<u32, Refusal>
+    ensures { (as_drawn result, buf.new) ≡ outcome frame (outline_drawing v1 v2 v3 colour) buf.old }
 {
     outline_on(buf, frame.over(buf.len()), v1, v2, v3, colour)
 }
 
-// The number that drawing a circle answers.
-fn circle_number(canvas: Canvas, topleft: Point, diameter: u32, colour: u32) -> u32
+// Whether a circle may be drawn.
+fn accept_circle(canvas: Canvas, topleft: Point, diameter: u32, colour: u32) -> Result<(), Refusal>
     requires { JudgedSome canvas }
-    ensures { result ≡ number_on canvas colour (circle_tests topleft diameter) }
+    ensures number { as_number result ≡ number_on canvas colour (circle_tests topleft diameter) }
+    ensures accepted { OnOk result (Fits topleft diameter) }
 {
-    let number = frames::colour_refusal(canvas, colour);
-    if number != 0 {
-        return number;
-    }
-    circle::refusal(topleft, diameter)
+    frames::accept_colour(canvas, colour)?;
+    circle::accept(topleft, diameter)
 }
 
 // Inside the library: `draw_circle` on a canvas. A circle that contains the whole rectangle fills it.
@@ -163,14 +161,11 @@ pub fn circle_on(
     topleft: Point,
     diameter: u32,
     colour: u32,
-) -> Drawn
+) -> Result<u32, Refusal>
     requires { Judged canvas (length buf.old) }
-    ensures { (result, buf.new) ≡ on_canvas canvas (circle_drawing topleft diameter colour) buf.old }
+    ensures { (as_drawn result, buf.new) ≡ on_canvas canvas (circle_drawing topleft diameter colour) buf.old }
 {
-    let number = circle_number(canvas, topleft, diameter, colour);
-    if number != 0 {
-        return Drawn { number, count: 0 };
-    }
+    accept_circle(canvas, topleft, diameter, colour)?;
     let window = canvas.window;
     if !circle::accepted_covers(
         topleft,
@@ -180,10 +175,7 @@ pub fn circle_on(
         window.right,
         window.bottom,
     ) {
-        return Drawn {
-            number: 0,
-            count: filling::fill_circle(buf, Brush::on(canvas, colour), topleft, diameter),
-        };
+        return Ok(filling::fill_circle(buf, Brush::on(canvas, colour), topleft, diameter));
     }
     framebuffer::fill_on(buf, canvas, colour)
 }
@@ -195,8 +187,8 @@ pub fn draw_circle(
     topleft: Point,
     diameter: u32,
     colour: u32,
-) -> Drawn
-    ensures { (result, buf.new) ≡ outcome frame (circle_drawing topleft diameter colour) buf.old }
+) -> Result<u32, Refusal>
+    ensures { (as_drawn result, buf.new) ≡ outcome frame (circle_drawing topleft diameter colour) buf.old }
 {
     circle_on(buf, frame.over(buf.len()), topleft, diameter, colour)
 }
@@ -209,18 +201,12 @@ pub fn triangle_on(
     v2: Point,
     v3: Point,
     colour: u32,
-) -> Drawn
+) -> Result<u32, Refusal>
     requires { Judged canvas (length buf.old) }
-    ensures { (result, buf.new) ≡ on_canvas canvas (triangle_drawing v1 v2 v3 colour) buf.old }
+    ensures { (as_drawn result, buf.new) ≡ on_canvas canvas (triangle_drawing v1 v2 v3 colour) buf.old }
 {
-    let number = triangle_number(canvas, v1, v2, v3, colour);
-    if number != 0 {
-        return Drawn { number, count: 0 };
-    }
-    Drawn {
-        number: 0,
-        count: filling::fill_triangle(buf, Brush::on(canvas, colour), v1, v2, v3),
-    }
+    accept_triangle(canvas, v1, v2, v3, colour)?;
+    Ok(filling::fill_triangle(buf, Brush::on(canvas, colour), v1, v2, v3))
 }
 
 // Draws a filled triangle.
@@ -231,29 +217,31 @@ pub fn draw_triangle(
     v2: Point,
     v3: Point,
     colour: u32,
-) -> Drawn
-    ensures { (result, buf.new) ≡ outcome frame (triangle_drawing v1 v2 v3 colour) buf.old }
+) -> Result<u32, Refusal>
+    ensures { (as_drawn result, buf.new) ≡ outcome frame (triangle_drawing v1 v2 v3 colour) buf.old }
 {
     triangle_on(buf, frame.over(buf.len()), v1, v2, v3, colour)
 }
 
 // A pixel, which counts once or not.
-fn dot_on(buf: &mut [u8], canvas: Canvas, p: Point, colour: u32) -> Drawn
+fn dot_on(buf: &mut [u8], canvas: Canvas, p: Point, colour: u32) -> Result<u32, Refusal>
     requires { Judged canvas (length buf.old) }
-    ensures { (result, buf.new) ≡ on_canvas canvas (pixel_drawing p colour) buf.old }
+    ensures { (as_drawn result, buf.new) ≡ on_canvas canvas (pixel_drawing p colour) buf.old }
 {
-    let placed = framebuffer::set_pixel_on(buf, canvas, p, colour);
-    Drawn {
-        number: placed.number,
-        count: placed.inside as u32,
-    }
+    let inside = framebuffer::set_pixel_on(buf, canvas, p, colour)?;
+    Ok(inside as u32)
 }
 
 // Inside the library: the call that draws a figure, on a canvas. A new surface needs no other to draw on it; the calls above make theirs without the match, which costs more
 // than a short line (docs/BENCHMARKS.md).
-pub fn figure_on(buf: &mut [u8], canvas: Canvas, figure: Figure, colour: u32) -> Drawn
+pub fn figure_on(
+    buf: &mut [u8],
+    canvas: Canvas,
+    figure: Figure,
+    colour: u32,
+) -> Result<u32, Refusal>
     requires { Judged canvas (length buf.old) }
-    ensures { (result, buf.new) ≡ on_canvas canvas (figure_drawing figure colour) buf.old }
+    ensures { (as_drawn result, buf.new) ≡ on_canvas canvas (figure_drawing figure colour) buf.old }
 {
     match figure {
         Figure::Fill => framebuffer::fill_on(buf, canvas, colour),

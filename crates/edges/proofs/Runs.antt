@@ -15,6 +15,8 @@ use Rattle.line.specs.declared.Walker.{Walker}
 use Rattle.line.specs.Line.{major, point_at}
 use Rattle.line.specs.Walk.{WalkerAt}
 use Rattle.line.proofs.Points.{rows_down}
+use Rattle.edges.specs.declared.Side.{Side}
+use Rattle.edges.specs.declared.Met.{Met}
 use Rattle.edges.specs.declared.Run.{Run}
 use Rattle.edges.specs.Side.{WalkedTo, EdgeAt, Taken, Ran}
 
@@ -26,16 +28,16 @@ pub one_less : {s e : Point} {n k : ℕ} {w v : Walker} {left : ℕ} → WalkedT
 one_less h l g = record { at = g; sum = omega (arith, h.sum); few = h.few }
 
 -- ---- a run, some steps on: those from k to i - 1 have been handed out, all on row y, and the columns are widened by exactly those
-pub record Part (s e : Point) (n k : ℕ) (y : ℤ) (r q : Run) : Type 0 where
+pub record Part (s e : Point) (n k : ℕ) (y : ℤ) (m : Met) (q : Run) : Type 0 where
   pub i : ℕ
   pub from : k ≤ i
-  pub here : WalkedTo s e n i q.walker q.left
+  pub here : WalkedTo s e n i q.side.walker q.side.left
   pub row : (j : ℕ) → k ≤ j → j < i → y ≡ (point_at s e j).1
-  pub low : q.low ≤ℤ r.low
-  pub high : r.high ≤ℤ q.high
-  pub holds : (j : ℕ) → k ≤ j → j < i → (q.low ≤ℤ (point_at s e j).0) × ((point_at s e j).0 ≤ℤ q.high)
-  pub low_is : (q.low ≡ r.low) ⊎ ((j : ℕ) × (k ≤ j) × (j < i) × (q.low ≡ (point_at s e j).0))
-  pub high_is : (q.high ≡ r.high) ⊎ ((j : ℕ) × (k ≤ j) × (j < i) × (q.high ≡ (point_at s e j).0))
+  pub low : q.met.low ≤ℤ m.low
+  pub high : m.high ≤ℤ q.met.high
+  pub holds : (j : ℕ) → k ≤ j → j < i → (q.met.low ≤ℤ (point_at s e j).0) × ((point_at s e j).0 ≤ℤ q.met.high)
+  pub low_is : (q.met.low ≡ m.low) ⊎ ((j : ℕ) × (k ≤ j) × (j < i) × (q.met.low ≡ (point_at s e j).0))
+  pub high_is : (q.met.high ≡ m.high) ⊎ ((j : ℕ) × (k ≤ j) × (j < i) × (q.met.high ≡ (point_at s e j).0))
 
 -- a step of which holds what does of those before it and of i
 last_or : (i j : ℕ) → j < i + 1 → (j < i) ⊎ (i ≡ j)
@@ -45,27 +47,27 @@ last_or i j h = go (dec_lt j i)
     go (yes l) = inl l
     go (no l) = inr (omega arith)
 
-module _ {s e : Point} {n k : ℕ} {y : ℤ} {r : Run} where
-  pub part_start : WalkedTo s e n k r.walker r.left → Part s e n k y r r
+module _ {s e : Point} {n k : ℕ} {y : ℤ} {m : Met} where
+  pub part_start : {a : Side} → WalkedTo s e n k a.walker a.left → Part s e n k y m (record { side = a; met = m })
   part_start h =
       record {
         i = k;
         from = le_refl k;
         here = h;
         row = λ j a b. absurd (omega arith);
-        low = le_self r.low;
-        high = le_self r.high;
+        low = le_self m.low;
+        high = le_self m.high;
         holds = λ j a b. absurd (omega arith);
         low_is = inl refl;
         high_is = inl refl;
       }
 
-  pub part_more : {q t : Run} (p : Part s e n k y r q) → y ≡ (point_at s e p.i).1 → Taken s e n p.i q t → Part s e n k y r t
+  pub part_more : {q t : Run} (p : Part s e n k y m q) → y ≡ (point_at s e p.i).1 → Taken s e n p.i q.met t → Part s e n k y m t
   part_more {q} {t} p on g =
       let i = p.i in
       let l = p.from in
-      let a = extremes q.low (point_at s e i).0 in
-      let b = extremes q.high (point_at s e i).0 in
+      let a = extremes q.met.low (point_at s e i).0 in
+      let b = extremes q.met.high (point_at s e i).0 in
       let lower = le_trans (le_of g.low) a.from_first in
       let higher = le_trans b.to_first (le_of (sym g.high)) in
       record {
@@ -79,7 +81,7 @@ module _ {s e : Point} {n k : ℕ} {y : ℤ} {r : Run} where
             λ j m n.
             ⊎_elim (λ h. (le_trans lower (p.holds j m h).0, le_trans (p.holds j m h).1 higher))
             (λ h.
-            subst (λ (u : ℕ). (t.low ≤ℤ (point_at s e u).0) × ((point_at s e u).0 ≤ℤ t.high)) h
+            subst (λ (u : ℕ). (t.met.low ≤ℤ (point_at s e u).0) × ((point_at s e u).0 ≤ℤ t.met.high)) h
             (le_trans (le_of g.low) a.from_second, le_trans b.to_second (le_of (sym g.high))))
             (last_or i j n);
         low_is =
@@ -93,12 +95,12 @@ module _ {s e : Point} {n k : ℕ} {y : ℤ} {r : Run} where
       }
 
 -- ---- where the run stops, it has met all points of the row
-module _ {s e : Point} {n : ℕ} {y : ℤ} {r q : Run} (d : s.1 ≤ℤ e.1) (at : EdgeAt s e n y r.walker r.left) (p : Part s e n at.k y r q)
+module _ {s e : Point} {n : ℕ} {y : ℤ} {w : Walker} {l : ℕ} {m : Met} {q : Run} (d : s.1 ≤ℤ e.1) (at : EdgeAt s e n y w l) (p : Part s e n at.k y m q)
     (stop : p.i < n → ¬ (y ≡ (point_at s e p.i).1)) where
   past : (j : ℕ) → p.i ≤ j → j < n → y <ℤ (point_at s e j).1
   past j a b =
       let f = p.from in
-      let m = p.here.few in
+      let most = p.here.few in
       let i<n : p.i < n = omega arith in
       let hi : y <ℤ (point_at s e p.i).1 = lt_of (at.ahead p.i f i<n) (stop i<n) in
       nat_lt (omega (arith, lt_nat hi, le_nat (rows_down s e d p.i j a)))
@@ -117,7 +119,7 @@ module _ {s e : Point} {n : ℕ} {y : ℤ} {r q : Run} (d : s.1 ≤ℤ e.1) (at 
   few : (j : ℕ) → j < p.i → j < n
   few j h = omega (arith, p.here.sum)
 
-  pub part_end : Ran s e n y r q
+  pub part_end : Ran s e n y m q
   part_end =
       record {
         next = record {

@@ -5,6 +5,8 @@ use Rattle.geometry.specs.Extreme.{lesser, greater}
 use Rattle.line.specs.declared.Walker.{Walker}
 use Rattle.line.specs.Line.{points, point_at}
 use Rattle.line.specs.Walk.{WalkerAt}
+use Rattle.edges.specs.declared.Side.{Side}
+use Rattle.edges.specs.declared.Met.{Met}
 use Rattle.edges.specs.declared.Run.{Run}
 
 -- (x, y) is one of the first n points of the line
@@ -27,26 +29,26 @@ pub record EdgeAt (s e : Point) (n : ℕ) (y : ℤ) (w : Walker) (left : ℕ) : 
   pub done : (i : ℕ) → i < k → (point_at s e i).1 <ℤ y
   pub ahead : (i : ℕ) → k ≤ i → i < n → y ≤ℤ (point_at s e i).1
 
--- a run of some edge, whose count has room for the points that are left
-pub record Going (r : Run) : Type 0 where
+-- some edge, and a count that has room for the points that are left of it
+pub record Going (a : Side) (m : Met) : Type 0 where
   pub s : Point
   pub e : Point
   pub n : ℕ
   pub k : ℕ
-  pub here : WalkedTo s e n k r.walker r.left
-  pub room : r.count + r.left ≤ 4294967295
+  pub here : WalkedTo s e n k a.walker a.left
+  pub room : m.count + a.left ≤ 4294967295
 
--- q is r after one more point, that of step k
-pub record Taken (s e : Point) (n k : ℕ) (r q : Run) : Type 0 where
-  pub here : WalkedTo s e n (k + 1) q.walker q.left
-  pub low : q.low ≡ lesser r.low (point_at s e k).0
-  pub high : q.high ≡ greater r.high (point_at s e k).0
+-- q is what comes after m by one more point, that of step k
+pub record Taken (s e : Point) (n k : ℕ) (m : Met) (q : Run) : Type 0 where
+  pub here : WalkedTo s e n (k + 1) q.side.walker q.side.left
+  pub low : q.met.low ≡ lesser m.low (point_at s e k).0
+  pub high : q.met.high ≡ greater m.high (point_at s e k).0
 
--- q is r after the points of row y: its columns are widened by exactly those
-pub record Ran (s e : Point) (n : ℕ) (y : ℤ) (r q : Run) : Type 0 where
-  pub next : EdgeAt s e n (y +ℤ pos 1) q.walker q.left
-  pub low : q.low ≤ℤ r.low
-  pub high : r.high ≤ℤ q.high
-  pub holds : (c : ℤ) → OnEdge s e n c y → (q.low ≤ℤ c) × (c ≤ℤ q.high)
-  pub low_is : (q.low ≡ r.low) ⊎ OnEdge s e n q.low y
-  pub high_is : (q.high ≡ r.high) ⊎ OnEdge s e n q.high y
+-- q is what comes after m by the points of row y: the columns are widened by exactly those
+pub record Ran (s e : Point) (n : ℕ) (y : ℤ) (m : Met) (q : Run) : Type 0 where
+  pub next : EdgeAt s e n (y +ℤ pos 1) q.side.walker q.side.left
+  pub low : q.met.low ≤ℤ m.low
+  pub high : m.high ≤ℤ q.met.high
+  pub holds : (c : ℤ) → OnEdge s e n c y → (q.met.low ≤ℤ c) × (c ≤ℤ q.met.high)
+  pub low_is : (q.met.low ≡ m.low) ⊎ OnEdge s e n q.met.low y
+  pub high_is : (q.met.high ≡ m.high) ⊎ OnEdge s e n q.met.high y

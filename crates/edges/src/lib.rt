@@ -21,15 +21,19 @@ pub struct Side {
     pub left: u32,
 }
 
-// A run along an edge: its walker, the points that it has still to hand out, the columns met on the row, and the points handed out so far by
-// all walkers.
+// What a row has met so far: its first and last column, 131072 and -131073 where there is none; and the points handed out by all walkers, on this row and above.
 #[derive(Clone, Copy)]
-pub struct Run {
-    pub walker: line::Walker,
-    pub left: u32,
+pub struct Met {
     pub low: i32,
     pub high: i32,
     pub count: u32,
+}
+
+// An edge on a row, and what the row has met with it.
+#[derive(Clone, Copy)]
+pub struct Run {
+    pub side: Side,
+    pub met: Met,
 }
 
 // The walks along the three edges, and the points handed out so far.
@@ -49,78 +53,26 @@ pub struct Row {
     pub high: i32,
 }
 
-// One more point of the edge.
-fn one_more(r: Run) -> Run
-    requires { Going r × (0 < r.left) }
-    ensures { (result.left + 1 ≡ r.left) × (result.count ≡ r.count + 1) × ((s e : Place) (n k : ℕ) → WalkedTo s e n k r.walker r.left → Taken s e n k r result) }
-{
-    let w = r.walker;
-    let stepped = w.step();
-    let point = stepped.point;
-    let next = stepped.walker;
-    let low = geometry::lesser(r.low, point.0);
-    let high = geometry::greater(r.high, point.0);
-    Run {
-        walker: next,
-        left: r.left - 1,
-        low,
-        high,
-        count: r.count + 1,
-    }
-}
-
-// All points of the edge on row y, if its walker has come to that row.
-fn edge_run(r: Run, y: i32) -> Run
-    requires { Going r }
-    ensures { (result.count + result.left ≡ r.count + r.left) × ((s e : Place) (n : ℕ) → s.1 ≤ℤ e.1 → EdgeAt s e n y r.walker r.left → Ran s e n y r result) }
-{
-    let mut q = r;
-    while 0 < q.left {
-        let w = q.walker;
-        if w.y != y {
-            return q;
+impl Run {
+    // One more point of the edge.
+    fn one_more(self) -> Self
+        requires { Going self.side self.met × (0 < self.side.left) }
+        ensures { (result.side.left + 1 ≡ self.side.left) × (result.met.count ≡ self.met.count + 1)
+            × ((s e : Place) (n k : ℕ) → WalkedTo s e n k self.side.walker self.side.left → Taken s e n k self.met result) }
+    {
+        let stepped = self.side.walker.step();
+        let column = stepped.point.0;
+        Run {
+            side: Side {
+                walker: stepped.walker,
+                left: self.side.left - 1,
+            },
+            met: Met {
+                low: self.met.low.min(column),
+                high: self.met.high.max(column),
+                count: self.met.count + 1,
+            },
         }
-        q = one_more(q);
-    }
-    q
-}
-
-// A row's first run, along an edge.
-fn first_run(side: Side, count: u32) -> Run
-    ensures { (result.walker ≡ side.walker) × (result.left ≡ side.left) × (result.low ≡ pos 131072) × (result.high ≡ negsuc 131072) × (result.count ≡ count) }
-{
-    let w = side.walker;
-    Run {
-        walker: w,
-        left: side.left,
-        low: 131072,
-        high: -131073,
-        count,
-    }
-}
-
-// The row's next run, along another edge.
-fn next_run(r: Run, side: Side) -> Run
-    ensures { (result.walker ≡ side.walker) × (result.left ≡ side.left) × (result.low ≡ r.low) × (result.high ≡ r.high) × (result.count ≡ r.count) }
-{
-    let w = side.walker;
-    Run {
-        walker: w,
-        left: side.left,
-        low: r.low,
-        high: r.high,
-        count: r.count,
-    }
-}
-
-// The edge after a run.
-fn side_of(r: Run) -> Side
-    ensures { (result.walker ≡ r.walker) × (result.left ≡ r.left) }
-{
-    let w = r.walker;
-    Side {
-        walker: w,
-        left: r.left,
     }
 }
 
@@ -130,15 +82,30 @@ impl Side {
         requires { Bounded start × Bounded end }
         ensures { WalkerAt start end 0 result.walker × (result.left ≡ asked_points asked start end) }
     {
-        let w = line::Walker::new(start, end);
-        if !asked {
-            return Side { walker: w, left: 0 };
-        }
-        let last = line::last_step(start, end);
         Side {
-            walker: w,
-            left: last + 1,
+            walker: line::Walker::new(start, end),
+            left: if asked {
+                line::last_step(start, end) + 1
+            } else {
+                0
+            },
         }
+    }
+
+    // All points of the edge on row y, if its walker has come to that row.
+    fn on_row(self, met: Met, y: i32) -> Run
+        requires { Going self met }
+        ensures { (result.met.count + result.side.left ≡ met.count + self.left)
+            × ((s e : Place) (n : ℕ) → s.1 ≤ℤ e.1 → EdgeAt s e n y self.walker self.left → Ran s e n y met result) }
+    {
+        let mut run = Run { side: self, met };
+        for _ in 0..self.left {
+            if run.side.walker.y != y {
+                break;
+            }
+            run = run.one_more();
+        }
+        run
     }
 }
 
@@ -162,22 +129,23 @@ impl Walk {
         requires { Rowing self }
         ensures { (t : Triangle) (solid : Bool) → WalkAt t solid y self → Rowed t solid y result }
     {
-        let a = self.a;
-        let b = self.b;
-        let c = self.c;
-        let first = edge_run(first_run(a, self.count), y);
-        let second = edge_run(next_run(first, b), y);
-        let third = edge_run(next_run(second, c), y);
-        let next = Walk {
-            a: side_of(first),
-            b: side_of(second),
-            c: side_of(third),
-            count: third.count,
+        let none = Met {
+            low: 131072,
+            high: -131073,
+            count: self.count,
         };
+        let first = self.a.on_row(none, y);
+        let second = self.b.on_row(first.met, y);
+        let third = self.c.on_row(second.met, y);
         Row {
-            walk: next,
-            low: third.low,
-            high: third.high,
+            walk: Walk {
+                a: first.side,
+                b: second.side,
+                c: third.side,
+                count: third.met.count,
+            },
+            low: third.met.low,
+            high: third.met.high,
         }
     }
 }

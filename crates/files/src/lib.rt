@@ -5,48 +5,34 @@ ghost use Rattle.std.specs.Prelude.{◌≡◌, ◌≤◌, length};
 ghost use Rattle.files.specs.Files.{image_call, bytes_call, load_call, act};
 
 use frames::Frame;
-use protocol::{Reply, Value, put_hex};
-use readers::{ends_within, place_in};
+use protocol::{Reply, put_hex};
+use readers::{is_word, last_u32};
 use screens::{Screen, Turn, preset, respond};
 
-fn image(said: &[u8], at: usize, buf: &[u8], frame: Frame, file: &mut [u8]) -> Reply
+fn image(said: &[u8], at: usize, buf: &[u8], frame: Frame, file: &mut [u8]) -> Option<Reply>
     requires { length file.old ≡ 65536 }
     ensures { (result, file.new) ≡ image_call said.now at frame buf.now file.old }
 {
-    let room = text::next_u32(said, at);
-    if !ends_within(said, room.next, room.value, 65536) {
-        return Reply::Bad;
-    }
-    let end = room.value as usize;
-    let written = netpbm::write_image(buf, frame, &mut file[..end]);
-    Reply::One(written.number, Value::Natural(written.bytes))
+    let room = last_u32(said, at, 65536)?;
+    let end = room as usize;
+    Some(netpbm::write_image(buf, frame, &mut file[..end]).into())
 }
 
-fn bytes(said: &[u8], at: usize, file: &mut [u8]) -> Reply
+fn bytes(said: &[u8], at: usize, file: &mut [u8]) -> Option<Reply>
     ensures { (result, file.new) ≡ bytes_call said.now at file.old }
 {
-    let from = text::next_u32(said, at);
-    let start = from.next;
-    if start > said.len() {
-        return Reply::Bad;
-    }
-    if !put_hex(&said[start..], from.value as usize, file) {
-        return Reply::Bad;
-    }
-    Reply::Number(0)
+    let (from, at) = text::next_u32(said, at)?;
+    let digits = said.get(at..)?;
+    put_hex(digits, from as usize, file).then_some(Reply::Number(0))
 }
 
-fn load(said: &[u8], at: usize, buf: &mut [u8], frame: Frame, file: &[u8]) -> Reply
+fn load(said: &[u8], at: usize, buf: &mut [u8], frame: Frame, file: &[u8]) -> Option<Reply>
     requires { length file.now ≡ 65536 }
     ensures { (result, buf.new) ≡ load_call said.now at frame file.now buf.old }
 {
-    let length = text::next_u32(said, at);
-    if !ends_within(said, length.next, length.value, 65536) {
-        return Reply::Bad;
-    }
-    let end = length.value as usize;
-    let number = netpbm::read_image(buf, frame, &file[..end]);
-    Reply::Number(number)
+    let length = last_u32(said, at, 65536)?;
+    let end = length as usize;
+    Some(netpbm::read_image(buf, frame, &file[..end]).into())
 }
 
 // Inside the library: does what the line says that starts with the word, all but those that show bytes.
@@ -62,20 +48,20 @@ pub fn take_turn(
     ensures { (result, (memory.new, file.new)) ≡ act word.now said.now at screen (memory.old, file.old) }
 {
     let lent = screen.lent;
-    match place_in(b"image\twipe\tbytes\tload", word) {
-        0 => {
+    match word {
+        w if is_word(w, b"image") => {
             let reply = image(said, at, &memory[..lent], screen.frame, file);
             Turn { screen, reply }
         }
-        1 => {
+        w if is_word(w, b"wipe") => {
             let reply = preset(said, at, file);
             Turn { screen, reply }
         }
-        2 => {
+        w if is_word(w, b"bytes") => {
             let reply = bytes(said, at, file);
             Turn { screen, reply }
         }
-        3 => {
+        w if is_word(w, b"load") => {
             let reply = load(said, at, &mut memory[..lent], screen.frame, file);
             Turn { screen, reply }
         }

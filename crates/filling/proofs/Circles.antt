@@ -17,7 +17,7 @@ use Rattle.geometry.specs.declared.Point.{Point}
 use Rattle.circle.specs.Circle.{box_row, span_start, span_end}
 use Rattle.circle.proofs.Containment.{in_box_decides, outside}
 use Rattle.circle.proofs.Spans.{span_agrees}
-use Rattle.windows.specs.declared.Steps.{Steps}
+use Rattle.std.specs.declared.ops.Range.{Range}
 use Rattle.windows.specs.declared.Window.{Window}
 use Rattle.windows.specs.Interval.{Held}
 use Rattle.windows.specs.Window.{in_window, held_by}
@@ -64,7 +64,7 @@ row_of top d v = by (lt_z (pos v) top) lt_yes lt_no
         side j (forth top (pos v) ∙ ap (λ (z : ℤ). top +ℤ z) (size_pos (pos v -ℤ top) (le_sub top (pos v) (g refl)))) (lt_or_ge j d)
 
 -- ---- the rows of the box that the rectangle has
-module _ (q : Window) (c : Point) (d : ℕ) {t : Steps} (H : Held c.1 true q.top q.bottom d t) where
+module _ (q : Window) (c : Point) (d : ℕ) {t : Range ℕ} (H : Held c.1 true q.top q.bottom d t) where
   -- a row that is none of them is not in both the figure and the rectangle
   row_out : (u v : ℕ) → ((j : ℕ) → pos v ≡ c.1 +ℤ pos j → j < d → is_step t j ≡ false) → held_by q (circle_figure c d) (pos u) (pos v) ≡ false
   row_out u v none = by (row_of c.1 d v)
@@ -78,9 +78,9 @@ module _ (q : Window) (c : Point) (d : ℕ) {t : Steps} (H : Held c.1 true q.top
           ap (between (pos q.top) (pos q.bottom)) here ∙ sym (held_exactly true H j l) ∙ none j e l in
           ap (λ (p : Bool). p && circle_figure c d (pos u) (pos v)) (span_off (between (pos q.left) (pos q.right) (pos u)) _ row)
 
-  pub none_before : (u v : ℕ) → pos v <ℤ (c.1 +ℤ pos t.from) → held_by q (circle_figure c d) (pos u) (pos v) ≡ false
+  pub none_before : (u v : ℕ) → pos v <ℤ (c.1 +ℤ pos t.start) → held_by q (circle_figure c d) (pos u) (pos v) ≡ false
   none_before u v l =
-      row_out u v (λ j e h. step_before t j (omega (arith, lt_nat l, sum_nat (pos v) c.1 j e, sum_nat (c.1 +ℤ pos t.from) c.1 t.from refl)))
+      row_out u v (λ j e h. step_before t j (omega (arith, lt_nat l, sum_nat (pos v) c.1 j e, sum_nat (c.1 +ℤ pos t.start) c.1 t.start refl)))
 
-  pub none_after : (k : ℕ) → t.past ≤ k → (u v : ℕ) → (c.1 +ℤ pos k) ≤ℤ pos v → held_by q (circle_figure c d) (pos u) (pos v) ≡ false
+  pub none_after : (k : ℕ) → t.end ≤ k → (u v : ℕ) → (c.1 +ℤ pos k) ≤ℤ pos v → held_by q (circle_figure c d) (pos u) (pos v) ≡ false
   none_after k p u v l = row_out u v (λ j e h. step_after t j (omega (arith, le_nat l, sum_nat (pos v) c.1 j e, sum_nat (c.1 +ℤ pos k) c.1 k refl)))

@@ -1,17 +1,17 @@
 -- Laws of a triangle's fill: no row of the triangle lies above its first or below its last, a row that was walked has its columns, and the numbers of the
 -- loop over the rows fit. Assumes nothing.
-use mathlib.Core.Path.{◌≡◌, refl, sym, subst}
+use mathlib.Core.Path.{◌≡◌, sym, subst}
 use mathlib.Core.Bool.{Bool, false, not, ◌&&◌, not-not}
 use mathlib.Core.Logic.{⊎_elim}
-use Prim.Native.Nat.{ℕ, ◌+◌, ◌-◌, ◌≤◌, ◌<◌}
+use Prim.Native.Nat.{ℕ, ◌+◌, ◌≤◌, ◌<◌}
 use native.Mathlib.Omega.{arith}
 use lib.IntN.{ℤ, pos, negsuc, ◌+ℤ◌}
 use lib.Signed.{le_z, lt_z, ◌≤ℤ◌, ◌<ℤ◌, ≤ℤ_refl}
 use mir.Syntax.{w32}
 use mir.Val.{SFits}
 use Rattle.whole.proofs.Decides.{decides_one, decides_map, decides_between, decides_yes, decides_no}
-use Rattle.whole.proofs.Difference.{up, dn, as_mk, mks, le_nat, lt_nat, eq_nat, nat_le, sum_nat}
-use Rattle.whole.proofs.Machine.{mk_fits}
+use Rattle.whole.proofs.Difference.{up, dn, as_mk, mks, le_nat, lt_nat, eq_nat}
+use Rattle.whole.proofs.Machine.{fits_dn, mk_fits}
 use Rattle.whole.proofs.Order.{le_trans, le_lt_more, more_lt_le}
 use Rattle.geometry.specs.declared.Point.{Point}
 use Rattle.geometry.specs.Bound.{Coord, Bounded}
@@ -20,7 +20,6 @@ use Rattle.triangle.specs.Order.{sorted}
 use Rattle.triangle.proofs.Agree.{edge_point_rows}
 use Rattle.triangle.proofs.Enclosed.{InRow}
 use Rattle.triangle.proofs.Box.{box_left, box_right}
-use Rattle.triangle.proofs.Order.{sorted_all}
 use Rattle.triangle.proofs.Triangle.{p1, p2, p3, flat, upper, lower, contained_decides}
 use Rattle.edges.specs.declared.Row.{Row}
 use Rattle.edges.specs.Edges.{Rowed}
@@ -105,14 +104,6 @@ module _ (v1 v2 v3 : Point) where
         (λ o. let c = edge_coord r.high y (walked_edged r.high y o) in next_fits r.high (omega (arith, le_nat c.low)) (omega (arith, le_nat c.high)))
         done.high_is
 
-    pub row_fits : (y : ℤ) → (p1 v1 v2 v3).1 ≤ℤ y → y ≤ℤ (p3 v1 v2 v3).1 → SFits w32 (y +ℤ pos 1)
-    row_fits y h k =
-        let all = sorted_all Bounded v1 v2 v3 h1 h2 h3 in
-        next_fits y (omega (arith, le_nat h, le_nat all.first.y.low)) (omega (arith, le_nat k, le_nat all.third.y.high))
-
--- the loop ends: bottom + 1 - y falls
-pub nearer : (y bottom : ℤ) → y ≤ℤ bottom → (up bottom + dn (y +ℤ pos 1) + 1) - (up (y +ℤ pos 1) + dn bottom) < (up bottom + dn y + 1) - (up y + dn bottom)
-nearer y bottom h = omega (arith, le_nat h, sum_nat (y +ℤ pos 1) y 1 refl)
-
-pub still_below : {top y : ℤ} → top ≤ℤ y → top ≤ℤ (y +ℤ pos 1)
-still_below {top} {y} h = nat_le (omega (arith, le_nat h, sum_nat (y +ℤ pos 1) y 1 refl))
+-- a row above an accepted one has a next
+pub next_row : {y z : ℤ} → SFits w32 y → Coord z → y <ℤ z → SFits w32 (y +ℤ pos 1)
+next_row {y} f h l = rw (as_mk y) (simp mks (mk_fits w32 _ _ (omega (arith, lt_nat l, le_nat h.high)) (omega (arith, fits_dn w32 y f))))

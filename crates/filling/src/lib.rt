@@ -10,23 +10,25 @@ ghost use Rattle.filling.specs.Figure.{triangle_figure, circle_figure};
 
 use geometry::Point;
 use painting::Brush;
-use windows::Steps;
+use std::ops::Range;
 
 // The rows of an accepted circle that the rectangle has, as far as it holds them; and how many pixels these have. It reads nothing of the brush, so that the compiler
 // lays it out once and not at every row (docs/BENCHMARKS.md).
-fn fill_circle_rows(buf: &mut [u8], brush: Brush, topleft: Point, diameter: u32, rows: Steps) -> u32
+fn fill_circle_rows(
+    buf: &mut [u8],
+    brush: Brush,
+    topleft: Point,
+    diameter: u32,
+    rows: Range<u32>,
+) -> u32
     requires { Ready brush (length buf.old) × Fits topleft diameter × Held topleft.1 true brush.window.top brush.window.bottom diameter rows }
     ensures { (result, buf.new) ≡ brushed brush (circle_figure topleft diameter) buf.old }
 {
-    let top = topleft.1;
-    let past = rows.past;
-    let mut seen = 0u32;
-    let mut k = rows.from;
-    while k < past {
-        let y = top + (k as i32);
+    let mut seen = 0;
+    for k in rows {
+        let y = topleft.1 + k as i32;
         let row = circle::box_row_span(topleft, diameter, y);
-        seen = painting::paint_more(buf, brush, y, row.start, row.end, seen);
-        k += 1;
+        seen = painting::paint_more(buf, brush, y, row.0, row.1, seen);
     }
     seen
 }
@@ -48,18 +50,12 @@ pub fn fill_triangle(buf: &mut [u8], brush: Brush, v1: Point, v2: Point, v3: Poi
     ensures { (result, buf.new) ≡ brushed brush (triangle_figure v1 v2 v3) buf.old }
 {
     let t = triangle::sorted_yx(v1, v2, v3);
-    let top = t.p1;
-    let last = t.p3;
-    let bottom = last.1;
     let mut walk = edges::Walk::new(t, triangle::is_solid(v1, v2, v3));
-    let mut seen = 0u32;
-    let mut y = top.1;
-    while y <= bottom {
+    let mut seen = 0;
+    for y in t.p1.1..=t.p3.1 {
         let row = walk.row(y);
-        let end = row.high + 1;
-        seen = painting::paint_more(buf, brush, y, row.low, end, seen);
+        seen = painting::paint_more(buf, brush, y, row.low, row.high + 1, seen);
         walk = row.walk;
-        y += 1;
     }
     seen
 }

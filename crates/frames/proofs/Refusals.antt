@@ -1,5 +1,5 @@
 -- The tests of a frame: what it says that none of them holds, and what comes with it. Assumes nothing.
-use mathlib.Core.Path.{◌≡◌, refl, sym, ap, ◌∙◌}
+use mathlib.Core.Path.{◌≡◌, refl, sym, ap, subst, ◌∙◌}
 use mathlib.Core.Bool.{Bool, true, false, cond}
 use mathlib.Core.List.{[], ◌∷◌}
 use Prim.Native.Nat.{ℕ, zero, suc, ◌+◌, ◌*◌, ◌/◌, ◌%◌, ◌^◌, ◌≤◌, ◌<◌}
@@ -16,7 +16,7 @@ use Rattle.layout.proofs.Places.{Sound, placing, depth_le, pixel_in}
 use Rattle.frames.specs.declared.Canvas.{Canvas}
 use Rattle.frames.specs.declared.Frame.{Frame}
 use Rattle.frames.specs.Description.{at_depth, packed_distance, arranged, raster, size, no_distance, too_short, size_tests, description_tests, frame_tests}
-use Rattle.frames.specs.Judged.{Described, Accepted, over_bytes, Over}
+use Rattle.frames.specs.Judged.{Described, Accepted, OverBytes, Over}
 use Rattle.windows.specs.Window.{Within, Small}
 use Rattle.windows.specs.declared.Window.{Window}
 
@@ -30,8 +30,8 @@ unfolding description_tests frame_tests
 frame_numbered f len = refl
 
 -- ---- a frame that was judged over len bytes
-pub judged : (f : Frame) (len : ℕ) {c : Canvas} → c ≡ over_bytes f len → Over c len
-judged f len e = e ∙ ap (λ (g : Frame). over_bytes g len) (sym (ap (λ (c : Canvas). c.frame) e))
+pub judged : (f : Frame) (len : ℕ) {c : Canvas} → OverBytes c f len → Over c len
+judged f len {c} R = subst (λ (g : Frame). OverBytes c g len) (sym R.frame) R
 
 -- ---- at the depth that it has
 pub same_depth : (f : Frame) {d : ℕ} → d ≡ f.depth → at_depth d f ≡ f

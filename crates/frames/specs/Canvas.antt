@@ -2,6 +2,7 @@
 use Rattle.std.specs.Prelude.{Bool, not, ◌&&◌, List, [], ◌∷◌, ℕ, eqb, nat_abs}
 use Rattle.refusals.specs.First.{Tests, first}
 use Rattle.refusals.specs.Answer.{if_done}
+use Rattle.refusals.specs.Refusal.{as_number}
 use Rattle.geometry.specs.declared.Point.{Point}
 use Rattle.layout.specs.Layout.{Layout, shown}
 use Rattle.frames.specs.declared.Canvas.{Canvas}
@@ -23,7 +24,7 @@ behind n ts = if_done n (first ts) n
 
 -- of a call that draws: the canvas's, the colour's, and those of its own
 abbrev pub number_on : Canvas → ℕ → Tests → ℕ
-number_on c colour own = behind c.number ((4, no_colour c.frame colour) ∷ own)
+number_on c colour own = behind (as_number c.judged) ((4, no_colour c.frame colour) ∷ own)
 
 unfoldable pub on_canvas : Canvas → Drawing → List ℕ → Drawn × List ℕ
 on_canvas c d b = made_of (number_on c d.colour d.own) (keeps c) (held_by c.window d.figure) d.colour b
@@ -34,7 +35,7 @@ pixel_on c p colour b = (was_inside (number_on c colour []) (in_window c.window 
 
 -- of reading: 8 where the rectangle does not hold the pixel
 unfoldable pub read_on : Canvas → Point → List ℕ → Read
-read_on c p b = read (behind c.number ((8, not (in_window c.window p.0 p.1)) ∷ [])) (shown (keeps c) b (nat_abs p.0) (nat_abs p.1))
+read_on c p b = read (behind (as_number c.judged) ((8, not (in_window c.window p.0 p.1)) ∷ [])) (shown (keeps c) b (nat_abs p.0) (nat_abs p.1))
 
 -- whether the rectangle is that of the whole frame
 abbrev pub has_all : Canvas → Bool

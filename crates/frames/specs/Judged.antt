@@ -2,6 +2,7 @@
 use Rattle.std.specs.Prelude.{◌≡◌, true, ℕ, ◌^◌, ◌≤◌, ◌<◌}
 use Rattle.layout.specs.Packed.{good_depth, row_bytes}
 use Rattle.refusals.specs.First.{first}
+use Rattle.refusals.specs.Refusal.{as_number}
 use Rattle.frames.specs.declared.Frame.{Frame}
 use Rattle.frames.specs.declared.Canvas.{Canvas}
 use Rattle.frames.specs.Description.{size, frame_tests, whole_window}
@@ -25,18 +26,19 @@ pub record Drawable (f : Frame) (len colour : ℕ) : Type 0 where
   pub accepted : Accepted f len
   pub below : colour < 2 ^ f.depth
 
--- the whole frame with its number over len bytes
-abbrev pub over_bytes : Frame → ℕ → Canvas
-over_bytes f len = record { frame = f; window = whole_window f; number = first (frame_tests f len) }
+-- a canvas is the whole of a frame, judged over len bytes
+pub record OverBytes (c : Canvas) (f : Frame) (len : ℕ) : Type 0 where
+  pub frame : c.frame ≡ f
+  pub window : c.window ≡ whole_window f
+  pub number : as_number c.judged ≡ first (frame_tests f len)
 
--- a canvas is that over a buffer of len bytes
 abbrev pub Over : Canvas → ℕ → Type 0
-Over c len = c ≡ over_bytes c.frame len
+Over c len = OverBytes c c.frame len
 
 -- a canvas that was judged over a buffer of len bytes: where its number is 0 the frame is accepted, and the rectangle lies within it; over some buffer
 pub record Judged (c : Canvas) (len : ℕ) : Type 0 where
-  pub accepted : c.number ≡ 0 → Accepted c.frame len
-  pub within : c.number ≡ 0 → Within c.window c.frame.width c.frame.height
+  pub accepted : as_number c.judged ≡ 0 → Accepted c.frame len
+  pub within : as_number c.judged ≡ 0 → Within c.window c.frame.width c.frame.height
 
 abbrev pub JudgedSome : Canvas → Type 0
-JudgedSome c = c.number ≡ 0 → Described c.frame
+JudgedSome c = as_number c.judged ≡ 0 → Described c.frame

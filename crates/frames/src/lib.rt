@@ -1,13 +1,16 @@
 // A frame as its owner describes it, the tests that refuse it, and a frame judged over a buffer: a canvas. Nothing here reaches a byte.
 #![tactic(auto)]
 
-ghost use Rattle.std.specs.Prelude.{◌≡◌, true, [], ◌+◌, ◌*◌, ◌/◌, ◌≤◌, ◌<◌};
+ghost use Rattle.std.specs.Prelude.{◌≡◌, true, [], ◌+◌, ◌*◌, ◌/◌, ◌≤◌, ◌<◌, OnOk};
 ghost use Rattle.refusals.specs.First.{first};
+ghost use Rattle.refusals.specs.Refusal.{as_number};
 ghost use Rattle.layout.specs.Packed.{good_depth};
 ghost use Rattle.frames.specs.Description.{whole_window, described, at_depth, packed_distance, packed, no_distance, size, size_tests, description_tests, frame_tests};
-ghost use Rattle.frames.specs.Judged.{Described, over_bytes, JudgedSome};
+ghost use Rattle.frames.specs.Judged.{Described, Accepted, OverBytes, JudgedSome};
+ghost use Rattle.frames.specs.Answer.{as_size, as_drawn, as_placed, as_read};
 ghost use Rattle.frames.specs.Canvas.{number_on};
 
+use refusals::Refusal;
 use windows::Window;
 
 // A frame as its owner describes it; `distance` is the number of bytes from a row to the next. It is made by Frame::new and Frame::packed and by nothing
@@ -21,15 +24,17 @@ pub struct Frame {
     pub distance: u32,
 }
 
-// Inside the library: a frame and a rectangle of it that calls stay within, with their number over a buffer, or 0. Calls on one of them and one buffer need not judge it each.
+// Inside the library: a frame and a rectangle of it that calls stay within, with what was judged of it over a buffer. Calls on one of them and one buffer need not judge it each.
 #[derive(Clone, Copy)]
 pub struct Canvas {
     pub frame: Frame,
     pub window: Window,
-    pub number: u32,
+    pub judged: Result<(), Refusal>,
 }
 
-// The bytes that a frame takes; with a refusal its number and 0.
+// ---- answers, as C is handed them: with a refusal its number, and 0 or no
+
+// The bytes that a frame takes.
 #[repr(C)]
 #[derive(Clone, Copy)]
 pub struct Size {
@@ -37,7 +42,21 @@ pub struct Size {
     pub bytes: u32,
 }
 
-// How many pixels of the frame the figure of a drawing call contains; with a refusal its number and 0.
+impl From<Result<u32, Refusal>> for Size {
+    ghost from_gives = { λ answer s. s ≡ as_size answer };
+
+    fn from(answer: Result<u32, Refusal>) -> Self {
+        match answer {
+            Ok(bytes) => Size { number: 0, bytes },
+            Err(refusal) => Size {
+                number: refusal.number(),
+                bytes: 0,
+            },
+        }
+    }
+}
+
+// How many pixels of the frame the figure of a drawing call contains.
 #[repr(C)]
 #[derive(Clone, Copy)]
 pub struct Drawn {
@@ -45,7 +64,21 @@ pub struct Drawn {
     pub count: u32,
 }
 
-// Whether a pixel that was set is inside the frame; with a refusal its number and no.
+impl From<Result<u32, Refusal>> for Drawn {
+    ghost from_gives = { λ answer d. d ≡ as_drawn answer };
+
+    fn from(answer: Result<u32, Refusal>) -> Self {
+        match answer {
+            Ok(count) => Drawn { number: 0, count },
+            Err(refusal) => Drawn {
+                number: refusal.number(),
+                count: 0,
+            },
+        }
+    }
+}
+
+// Whether a pixel that was set is inside the frame.
 #[repr(C)]
 #[derive(Clone, Copy)]
 pub struct Placed {
@@ -53,13 +86,43 @@ pub struct Placed {
     pub inside: bool,
 }
 
-// The colour of a pixel; with a refusal its number and 0.
+impl From<Result<bool, Refusal>> for Placed {
+    ghost from_gives = { λ answer p. p ≡ as_placed answer };
+
+    fn from(answer: Result<bool, Refusal>) -> Self {
+        match answer {
+            Ok(inside) => Placed { number: 0, inside },
+            Err(refusal) => Placed {
+                number: refusal.number(),
+                inside: false,
+            },
+        }
+    }
+}
+
+// The colour of a pixel.
 #[repr(C)]
 #[derive(Clone, Copy)]
 pub struct Read {
     pub number: u32,
     pub colour: u32,
 }
+
+impl From<Result<u32, Refusal>> for Read {
+    ghost from_gives = { λ answer r. r ≡ as_read answer };
+
+    fn from(answer: Result<u32, Refusal>) -> Self {
+        match answer {
+            Ok(colour) => Read { number: 0, colour },
+            Err(refusal) => Read {
+                number: refusal.number(),
+                colour: 0,
+            },
+        }
+    }
+}
+
+// ---- frames
 
 // The bytes that a row takes, or 0 where they pass 32 bits.
 fn packed_distance(width: u32, depth: u32) -> u32
@@ -133,34 +196,30 @@ fn has_no_distance(frame: Frame) -> bool
     (frame.distance < (frame.width * frame.depth + 7) / 8) | (16384 < frame.distance)
 }
 
-// The refusal of a frame's depth or size, 1 or 2, or 0.
-fn size_refusal(frame: Frame) -> u32
-    ensures { result ≡ first (size_tests frame) }
+// Whether a frame's depth is one of the seven, and then whether its size is small enough.
+fn accept_size(frame: Frame) -> Result<(), Refusal>
+    ensures { as_number result ≡ first (size_tests frame) }
 {
     if !depth_ok(frame.depth) {
-        return 1;
+        return Err(Refusal::BadDepth);
     }
-    if 2048 < frame.width {
-        return 2;
+    if (2048 < frame.width) | (2048 < frame.height) {
+        return Err(Refusal::TooLarge);
     }
-    if 2048 < frame.height {
-        return 2;
-    }
-    0
+    Ok(())
 }
 
-// Inside the library: the refusal of a description, 1, 2 or 14, or 0.
-pub fn description_refusal(frame: Frame) -> u32
-    ensures { result ≡ first (description_tests frame) }
+// Inside the library: whether a description is accepted.
+#[tactic(auto, unfolding(crate::specs::Description::description_tests))]
+pub fn accept_description(frame: Frame) -> Result<(), Refusal>
+    ensures number { as_number result ≡ first (description_tests frame) }
+    ensures accepted { OnOk result (Described frame) }
 {
-    let number = size_refusal(frame);
-    if number != 0 {
-        return number;
-    }
+    accept_size(frame)?;
     if has_no_distance(frame) {
-        return 14;
+        return Err(Refusal::BadDistance);
     }
-    0
+    Ok(())
 }
 
 // Inside the library: the bytes that a described frame takes.
@@ -171,47 +230,43 @@ pub fn frame_bytes(frame: Frame) -> u32
     frame.distance * frame.height
 }
 
-// Inside the library: the refusal of a frame over a buffer of `len` bytes, 1, 2, 14 or 3, or 0.
-pub fn frame_refusal(frame: Frame, len: usize) -> u32
-    ensures { result ≡ first (frame_tests frame len) }
+// Inside the library: whether a frame is accepted over a buffer of `len` bytes.
+#[tactic(auto, unfolding(crate::specs::Description::description_tests, crate::specs::Description::frame_tests))]
+pub fn accept_frame(frame: Frame, len: usize) -> Result<(), Refusal>
+    ensures number { as_number result ≡ first (frame_tests frame len) }
+    ensures accepted { OnOk result (Accepted frame len) }
 {
-    let number = description_refusal(frame);
-    if number != 0 {
-        return number;
-    }
+    accept_description(frame)?;
     if len < frame_bytes(frame) as usize {
-        return 3;
+        return Err(Refusal::ShortBuffer);
     }
-    0
+    Ok(())
 }
 
 impl Frame {
     // Inside the library: the whole frame, judged over a buffer of `len` bytes.
     pub fn over(self, len: usize) -> Canvas
-        ensures { result ≡ over_bytes self len }
+        ensures { OverBytes result self len }
     {
-        let number = frame_refusal(self, len);
         let window = self.window();
+        let judged = accept_frame(self, len);
         Canvas {
             frame: self,
             window,
-            number,
+            judged,
         }
     }
 }
 
-// Inside the library: the number of a canvas, or 4, of a call that draws in a colour on it, or 0. Its own tests come after.
-pub fn colour_refusal(canvas: Canvas, colour: u32) -> u32
+// Inside the library: whether a call may draw in a colour on a canvas. Its own tests come after.
+pub fn accept_colour(canvas: Canvas, colour: u32) -> Result<(), Refusal>
     requires { JudgedSome canvas }
-    ensures { result ≡ number_on canvas colour [] }
+    ensures { as_number result ≡ number_on canvas colour [] }
 {
-    let number = canvas.number;
-    if number != 0 {
-        return number;
-    }
+    canvas.judged?;
     let frame = canvas.frame;
     if 1u64 << frame.depth <= colour as u64 {
-        return 4;
+        return Err(Refusal::BadColour);
     }
-    0
+    Ok(())
 }

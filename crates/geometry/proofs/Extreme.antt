@@ -1,12 +1,10 @@
--- The lesser and the greater of two numbers are the two in order; and the test that finds them, as code makes it. Assumes nothing.
-use mathlib.Core.Path.{◌≡◌, refl, sym, ap, ◌∙◌}
+-- The lesser and the greater of two numbers are the two in order. Assumes nothing.
+use mathlib.Core.Path.{◌≡◌, refl}
 use mathlib.Core.Bool.{Bool, true, false, cond}
 use mathlib.Core.Logic.{◌⊎◌, inl, inr}
 use lib.IntN.{ℤ}
 use lib.Signed.{le_z, ◌≤ℤ◌, ◌<ℤ◌}
-use mir.Syntax.{Width}
-use mir.Val.{SFits, to_z, of_z}
-use Rattle.whole.proofs.Machine.{le_yes, le_no, le_test}
+use Rattle.whole.proofs.Machine.{le_yes, le_no}
 use Rattle.whole.proofs.Order.{le_self, lt_le}
 use Rattle.geometry.specs.Extreme.{lesser, greater}
 
@@ -25,7 +23,3 @@ extremes a b = by (le_z a b) le_yes le_no
     by : (t : Bool) → (t ≡ true → a ≤ℤ b) → (t ≡ false → b <ℤ a) → Extremes a b (cond t a b) (cond t b a)
     by true f g = record { from_first = le_self a; from_second = f refl; to_first = f refl; to_second = le_self b; low_is = inl refl; high_is = inr refl }
     by false f g = record { from_first = lt_le (g refl); from_second = le_self b; to_first = le_self a; to_second = lt_le (g refl); low_is = inr refl; high_is = inl refl }
-
--- what is chosen by the test of two numbers as they are read
-pub chosen : (x y : ℤ) {w : Width} {a b : ℤ} {t : Bool} → SFits w a → SFits w b → le_z (to_z w (of_z w a)) (to_z w (of_z w b)) ≡ t → cond t x y ≡ cond (le_z a b) x y
-chosen x y f g e = ap (λ (u : Bool). cond u x y) (sym e ∙ le_test f g)

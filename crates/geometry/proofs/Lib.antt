@@ -1,3 +1,4 @@
 pub mod Place
 pub mod Extreme
 pub mod Bound
+pub mod Answer

@@ -1,16 +1,18 @@
 -- Laws of places: when two are the same, moved too, and their order by y, then x. Assumes nothing.
 use mathlib.Core.Path.{◌≡◌, refl, sym, ap, ◌∙◌}
-use mathlib.Core.Bool.{Bool, true, false, cond}
+use mathlib.Core.Bool.{Bool, true, false, cond, ◌&&◌}
 use mathlib.Core.Logic.{◌⊎◌, inl, inr, ⊎_elim}
 use native.Mathlib.Omega.{arith}
 use lib.Signed.{◌≤ℤ◌, ◌<ℤ◌, le_z, lt_z, ≤ℤ_refl}
+use Rattle.std.specs.Ordering.{as_partial_cmp, int_eq, partial_le}
+use Rattle.std.proofs.lemmas.Grind.{common_steps}
 use Rattle.whole.specs.Equal.{eq_z}
 use Rattle.whole.proofs.Decides.{Decides, decides_map, decides_one, decides_and, decides_eq, decides_le, decides_lt}
 use Rattle.whole.proofs.Difference.{le_nat, lt_nat, eq_nat, nat_le, nat_lt}
 use Rattle.whole.proofs.Machine.{lt_no, le_no}
 use Rattle.whole.proofs.Order.{le_antisym, lt_le, lt_unless, move_eq}
 use Rattle.geometry.specs.declared.Point.{Point}
-use Rattle.geometry.specs.Place.{same_place, before, moved}
+use Rattle.geometry.specs.Place.{same_place, before, by_row, moved}
 
 pub same_decides : (p q : Point) → Decides (same_place p q) (p ≡ q)
 same_decides p q =
@@ -71,3 +73,11 @@ before_no a b = by (eq_z a.1 b.1) (decides_eq a.1 b.1)
     by : (t : Bool) → Decides t (a.1 ≡ b.1) → cond t (le_z a.0 b.0) (lt_z a.1 b.1) ≡ false → Before b a
     by true d h = inr (sym (d.yes refl), lt_le (le_no h))
     by false d h = inl (lt_unless (λ k. d.no refl (le_antisym k (lt_no h))))
+
+-- ---- as std compares places
+pub in_order_is : (a b : Point) → partial_le (as_partial_cmp by_row) a b ≡ before a b
+unfolding before
+in_order_is a b = grind (arith, common_steps)
+
+pub equal_is : (p q : Point) → (int_eq p.0 q.0 && int_eq p.1 q.1) ≡ same_place p q
+equal_is p q = grind (arith, common_steps)

@@ -1,6 +1,8 @@
 -- Places of pixels: whether two are the same, their order by y, then x, a place moved by another, and twice the area between three.
 use Rattle.std.specs.Prelude.{Bool, cond, ◌&&◌, ℤ, ◌+ℤ◌, ◌-ℤ◌, ◌*ℤ◌}
 use Rattle.std.specs.Int.Signed.{le_z, lt_z}
+use Rattle.std.specs.declared.cmp.Ordering.{Ordering}
+use Rattle.std.specs.Ordering.{int_cmp, on, then_cmp}
 use Rattle.whole.specs.Equal.{eq_z}
 use Rattle.geometry.specs.declared.Point.{Point}
 
@@ -10,6 +12,10 @@ same_place p q = eq_z p.0 q.0 && eq_z p.1 q.1
 -- p stands before q, or they are the same place
 unfoldable pub before : Point → Point → Bool
 before p q = cond (eq_z p.1 q.1) (le_z p.0 q.0) (lt_z p.1 q.1)
+
+-- the same order, as std compares
+abbrev pub by_row : Point → Point → Ordering
+by_row = then_cmp (on (λ (p : Point). p.1) int_cmp) (on (λ (p : Point). p.0) int_cmp)
 
 -- p, moved by v
 abbrev pub moved : Point → Point → Point

@@ -3,19 +3,55 @@
 #![tactic(auto)]
 
 ghost use Rattle.std.specs.Prelude.{◌≡◌};
-ghost use Rattle.geometry.specs.Place.{same_place, before};
-ghost use Rattle.geometry.specs.Extreme.{lesser, greater};
+ghost use Rattle.std.specs.Cmp.{partial_order_from_own_ties};
+ghost use Rattle.std.specs.Cmp.Rules.{comparing};
+ghost use Rattle.std.specs.Ordering.{as_partial_cmp};
+ghost use Rattle.std.proofs.Common.{rules};
+ghost use Rattle.geometry.specs.Place.{by_row};
 ghost use Rattle.geometry.specs.Bound.{is_coord, in_bounds};
+ghost use Rattle.geometry.specs.Answer.{as_verdict, as_span};
+
+use refusals::Refusal;
+use std::cmp::Ordering;
 
 // A pixel's place: its column and its row.
-#[derive(Clone, Copy)]
+#[derive(Debug, Clone, Copy, PartialEq, Eq, Hash)]
 pub struct Point(pub i32, pub i32);
 
+// Places are ordered by y, then x.
+impl Ord for Point {
+    ghost cmp = { by_row };
+
+    ghost total = { Prim.search (comparing, rules) };
+
+    ghost matches_partial_cmp = { Prim.search (comparing, rules) };
+
+    ghost matches_eq = { Prim.search (comparing, rules) };
+
+    fn cmp(&self, other: &Point) -> Ordering {
+        self.1.cmp(&other.1).then(self.0.cmp(&other.0))
+    }
+}
+
+impl PartialOrd for Point {
+    ghost partial_cmp = { as_partial_cmp by_row };
+
+    ghost laws = { partial_order_from_own_ties (Prim.search (comparing, rules)) (Prim.search (comparing, rules)) };
+
+    fn partial_cmp(&self, other: &Point) -> Option<Ordering> {
+        Some(self.cmp(other))
+    }
+}
+
 // A place in half_pixel (doubled) units, in which a circle's centre is a whole place too.
-#[derive(Clone, Copy)]
+#[derive(Debug, Clone, Copy, PartialEq, Eq, Hash)]
 pub struct Doubled(pub i64, pub i64);
 
-// A yes or no. The number is 0, or that of the refusal, and then the answer is no.
+// A span of columns: the first, and one past the last; empty if they are the same.
+#[derive(Debug, Clone, Copy, PartialEq, Eq, Hash)]
+pub struct Columns(pub i32, pub i32);
+
+// A yes or no, as C is handed it. The number is 0, or that of the refusal, and then the answer is no.
 #[repr(C)]
 #[derive(Clone, Copy)]
 pub struct Verdict {
@@ -23,7 +59,21 @@ pub struct Verdict {
     pub yes: bool,
 }
 
-// A row's columns, from the first to one past the last; 0 to 0 where there are none. With a refusal its number and 0 to 0.
+impl From<Result<bool, Refusal>> for Verdict {
+    ghost from_gives = { λ answer v. v ≡ as_verdict answer };
+
+    fn from(answer: Result<bool, Refusal>) -> Self {
+        match answer {
+            Ok(yes) => Verdict { number: 0, yes },
+            Err(refusal) => Verdict {
+                number: refusal.number(),
+                yes: false,
+            },
+        }
+    }
+}
+
+// A row's columns, as C is handed them: from the first to one past the last; 0 to 0 where there are none. With a refusal its number and 0 to 0.
 #[repr(C)]
 #[derive(Clone, Copy)]
 pub struct Span {
@@ -32,55 +82,35 @@ pub struct Span {
     pub end: i32,
 }
 
+impl From<Result<Columns, Refusal>> for Span {
+    ghost from_gives = { λ answer s. s ≡ as_span answer };
+
+    fn from(answer: Result<Columns, Refusal>) -> Self {
+        match answer {
+            Ok(columns) => Span {
+                number: 0,
+                start: columns.0,
+                end: columns.1,
+            },
+            Err(refusal) => Span {
+                number: refusal.number(),
+                start: 0,
+                end: 0,
+            },
+        }
+    }
+}
+
 // Whether a vertex, a line end or a circle's top-left may have the coordinate.
 fn is_coord(x: i32) -> bool
     ensures { result ≡ is_coord x }
 {
-    -131072 <= x && x <= 131071
+    (-131072..=131071).contains(&x)
 }
 
 // Inside the library: whether a vertex, a line end or a circle's top-left may stand here. Where it may not, whoever asks refuses with 5.
 pub fn in_bounds(p: Point) -> bool
     ensures { result ≡ in_bounds p }
 {
-    let x = p.0;
-    let y = p.1;
-    is_coord(x) && is_coord(y)
-}
-
-// Inside the library: whether two places are the same.
-pub fn same_place(p: Point, q: Point) -> bool
-    ensures { result ≡ same_place p q }
-{
-    p.0 == q.0 && p.1 == q.1
-}
-
-// Inside the library: whether a stands before b by y, then x, or in the same place.
-pub fn in_order(a: Point, b: Point) -> bool
-    ensures { result ≡ before a b }
-{
-    if a.1 == b.1 {
-        return a.0 <= b.0;
-    }
-    a.1 < b.1
-}
-
-// Inside the library: the lesser of two columns.
-pub fn lesser(a: i32, b: i32) -> i32
-    ensures { result ≡ lesser a b }
-{
-    if a <= b {
-        return a;
-    }
-    b
-}
-
-// Inside the library: the greater of two columns.
-pub fn greater(a: i32, b: i32) -> i32
-    ensures { result ≡ greater a b }
-{
-    if a <= b {
-        return b;
-    }
-    a
+    is_coord(p.0) && is_coord(p.1)
 }

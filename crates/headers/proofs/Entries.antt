@@ -10,8 +10,11 @@ use lib.Seq.{drop-drop, drop-append_seam, take-append_seam}
 use borrow.Author.Tests.{lt-ltb, ltb-true, le-leb, leb-true, ne_eqb, eqb-true}
 use Rattle.whole.proofs.Tests.{and_true, true_and}
 use Rattle.text.specs.Digits.{is_digit, all_digits, with_digit, value_from, digits_value}
-use Rattle.text.specs.Read.{unsigned, read_digits}
-use Rattle.headers.specs.Header.{is_space, space_is, leading, past, found, number_from, field_from, header_field, as255, maximum_at}
+use Rattle.std.specs.Bool.{then_some}
+use Rattle.std.specs.Prelude.{Option, Some, None, unwrap_or, option_map, option_and_then}
+use Rattle.std.specs.Option.{is_some}
+use Rattle.text.specs.Read.{is_number, read_digits}
+use Rattle.headers.specs.Header.{is_space, space_is, leading, past, number_from, field_from, header_field, behind255, maximum_at}
 use Rattle.headers.specs.Grammar.{every, Entry, Ending}
 use Rattle.headers.proofs.Parsing.{past_from, field_read}
 
@@ -85,9 +88,13 @@ value_most (suc n) m v (b ∷ x) l d h =
     let k : b ≤ 57 = leb-true b 57 (and_true (leb 48 b) (leb b 57) p.0).1 in
     value_most n (m * 10 + 9) (with_digit v b) x (omega arith) p.1 (omega arith)
 
-digits_read : (x : List ℕ) → 1 ≤ length x → length x ≤ 4 → all_digits x ≡ true → read_digits 4 9999 x ≡ unsigned true (digits_value x)
+digits_read : (x : List ℕ) → 1 ≤ length x → length x ≤ 4 → all_digits x ≡ true → read_digits 4 9999 x ≡ Some (digits_value x)
 unfolding read_digits
 digits_read x h l d = rw (le-leb 1 (length x) h, le-leb (length x) 4 l, d, le-leb (digits_value x) 9999 (value_most 4 0 0 x l d (omega arith)))
+
+number_is : (t : Bool) (v : ℕ) → is_some (then_some t v) ≡ true → (t ≡ true) × (unwrap_or (then_some t v) 0 ≡ v)
+number_is true v e = (refl, refl)
+number_is false v e = absurd (false≢true e)
 
 -- ---- a part of a file, from one place to another, with a space behind it
 pub record Stands (P : List ℕ → Type 0) (s : List ℕ) (at n : ℕ) : Type 0 where
@@ -141,19 +148,19 @@ module _ {v : ℕ} {s : List ℕ} {at n : ℕ} (S : Stands (Entry v) s at n) whe
   room : end < length s
   room = omega (arith, length-drop at s, simp length-append at (ap length whole), opens_some S.rest S.ended, parted)
 
-  number : unsigned true v ≡ read_digits 4 9999 (take (end - start) (drop start s))
+  number : Some v ≡ read_digits 4 9999 (take (end - start) (drop start s))
   number =
       let k : end - start ≡ length word = omega arith in
       sym (ap₂ (λ (k : ℕ) (l : List ℕ). read_digits 4 9999 (take k l)) k behind ∙ ap (read_digits 4 9999) (take-append_seam word S.rest)
-      ∙ digits_read word S.is.some S.is.four S.is.decimal ∙ ap (unsigned true) S.is.value)
+      ∙ digits_read word S.is.some S.is.four S.is.decimal ∙ ap Some S.is.value)
 
   place : end ≡ n
   place = omega (arith, S.place, simp length-append at (ap length S.is.bytes))
 
-  pub stands_found : header_field s at ≡ found true v n
+  pub stands_found : header_field s at ≡ Some (v, n)
   stands_found =
-      sym (field_read s at start end starts ends (true_and (lt-ltb at start parted) (lt-ltb end (length s) room)) (unsigned true v) number true refl)
-      ∙ ap (found true v) place
+      sym (field_read s at start end starts ends (true_and (lt-ltb at start parted) (lt-ltb end (length s) room)) (Some v) number)
+      ∙ ap (λ (n : ℕ). Some (v, n)) place
 
 -- ---- and what is found stands there
 module _ (s : List ℕ) (at : ℕ) where
@@ -170,7 +177,7 @@ module _ (s : List ℕ) (at : ℕ) where
   abbrev figures : List ℕ
   figures = take (to - from) (drop from s)
 
-  module _ (h : at < from) (l : to < length s) (y : (read_digits 4 9999 figures).ok ≡ true) where
+  module _ (h : at < from) (l : to < length s) (y : is_some (read_digits 4 9999 figures) ≡ true) where
     below : from ≤ to
     below = past_from false s from
 
@@ -202,10 +209,11 @@ module _ (s : List ℕ) (at : ℕ) where
     together =
         sym (append_assoc blanks figures (drop to s) ∙ ap (λ (r : List ℕ). blanks ++ r) (onward from to below) ∙ onward at from (omega arith))
 
-    stands : Stands (Entry (read_digits 4 9999 figures).value) s at to
+    stands : Stands (Entry (unwrap_or (read_digits 4 9999 figures) 0)) s at to
     unfolding read_digits
     stands =
-        let p = and_true (leb 1 (length figures)) _ y in
+        let i = number_is (is_number 4 9999 figures) (digits_value figures) y in
+        let p = and_true (leb 1 (length figures)) _ i.0 in
         let q = and_true (leb (length figures) 4) _ p.1 in
         let r = and_true (all_digits figures) _ q.1 in
         record {
@@ -222,45 +230,55 @@ module _ (s : List ℕ) (at : ℕ) where
                 some = leb-true 1 (length figures) p.0;
                 four = leb-true (length figures) 4 q.0;
                 decimal = r.0;
-                value = sym (ap (λ (t : Bool). cond t (digits_value figures) 0) y);
+                value = sym i.1;
               };
           ended = stopped;
           place = omega (arith, length-append blanks figures, gap_length, word_length, below);
         }
 
-  pub found_stands : (header_field s at).ok ≡ true → Stands (Entry (header_field s at).value) s at (header_field s at).next
+  pub found_stands : {v n : ℕ} → header_field s at ≡ Some (v, n) → Stands (Entry v) s at n
   unfolding header_field field_from number_from
-  found_stands h = go ((ltb at from && ltb to (length s)) && (read_digits 4 9999 figures).ok) refl h
+  found_stands {v} {n} h = go (ltb at from && ltb to (length s)) refl h
     where
-      go : (t : Bool) → ((ltb at from && ltb to (length s)) && (read_digits 4 9999 figures).ok) ≡ t → (found t (read_digits 4 9999 figures).value to).ok ≡ true
-          → Stands (Entry (found t (read_digits 4 9999 figures).value to).value) s at (found t (read_digits 4 9999 figures).value to).next
+      number : at < from → to < length s → (r : Option ℕ) → read_digits 4 9999 figures ≡ r → option_map {U = ℕ × ℕ} (λ v. (v, to)) r ≡ Some (v, n) → Stands (Entry v) s at n
+      number a b None e h = absurd (false≢true (ap is_some h))
+      number a b (Some u) e h =
+          let p : (u, to) ≡ (v, n) = ap (λ (o : Option (ℕ × ℕ)). unwrap_or o (0, 0)) h in
+          subst (λ (p : ℕ × ℕ). Stands (Entry p.0) s at p.1) p
+          (subst (λ (r : Option ℕ). Stands (Entry (unwrap_or r 0)) s at to) e (stands a b (ap is_some e)))
+
+      go : (t : Bool) → (ltb at from && ltb to (length s)) ≡ t → cond t (option_map {U = ℕ × ℕ} (λ v. (v, to)) (read_digits 4 9999 figures)) None ≡ Some (v, n)
+          → Stands (Entry v) s at n
       go true e h =
-          let p = and_true (ltb at from && ltb to (length s)) _ e in
-          let q = and_true (ltb at from) (ltb to (length s)) p.0 in
-          stands (ltb-true at from q.0) (ltb-true to (length s) q.1) p.1
-      go false e h = absurd (false≢true h)
+          let q = and_true (ltb at from) (ltb to (length s)) e in
+          number (ltb-true at from q.0) (ltb-true to (length s) q.1) (read_digits 4 9999 figures) refl h
+      go false e h = absurd (false≢true (ap is_some h))
 
 -- ---- the maximum
 module _ (d : ℕ) (s : List ℕ) (at : ℕ) where
-  pub ending_found : {n : ℕ} → Stands (Ending (eqb d 1)) s at n → maximum_at d s at ≡ found true 255 n
+  pub ending_found : {n : ℕ} → Stands (Ending (eqb d 1)) s at n → maximum_at d s at ≡ Some n
   unfolding maximum_at
   ending_found {n} S = go (eqb d 1) S
     where
-      go : (t : Bool) → Stands (Ending t) s at n → cond t (found true 255 at) (as255 (header_field s at)) ≡ found true 255 n
-      go true S = ap (found true 255) (sym (S.place ∙ omega (arith, ap length S.is)))
-      go false S = ap as255 (stands_found S)
+      go : (t : Bool) → Stands (Ending t) s at n → cond t (Some at) (option_and_then behind255 (header_field s at)) ≡ Some n
+      go true S = ap Some (sym (S.place ∙ omega (arith, ap length S.is)))
+      go false S = ap (option_and_then behind255) (stands_found S)
 
-  pub found_ending : opens (drop at s) ≡ true → (maximum_at d s at).ok ≡ true → Stands (Ending (eqb d 1)) s at (maximum_at d s at).next
+  pub found_ending : opens (drop at s) ≡ true → {n : ℕ} → maximum_at d s at ≡ Some n → Stands (Ending (eqb d 1)) s at n
   unfolding maximum_at
-  found_ending o h = go (eqb d 1) h
+  found_ending o {n} h = go (eqb d 1) h
     where
-      go : (t : Bool) → (cond t (found true 255 at) (as255 (header_field s at))).ok ≡ true → Stands (Ending t) s at (cond t (found true 255 at) (as255 (header_field s at))).next
-      go true h = record { part = []; rest = drop at s; text = refl; is = refl; ended = o; place = omega arith }
-      go false h = field ((header_field s at).ok && eqb (header_field s at).value 255) refl h
-        where
-          field : (t : Bool) → ((header_field s at).ok && eqb (header_field s at).value 255) ≡ t → (cond t (header_field s at) (found false 0 0)).ok ≡ true
-              → Stands (Entry 255) s at (cond t (header_field s at) (found false 0 0)).next
-          field true e h =
-              let p = and_true (header_field s at).ok (eqb (header_field s at).value 255) e in
-              subst (λ (v : ℕ). Stands (Entry v) s at (header_field s at).next) (eqb-true (header_field s at).value 255 p.1) (found_stands s at p.0)
-          field false e h = absurd (false≢true h)
+      by : (m : ℕ × ℕ) → header_field s at ≡ Some m → (t : Bool) → eqb m.0 255 ≡ t → then_some t m.1 ≡ Some n → Stands (Entry 255) s at n
+      by m e true t h =
+          subst (λ (n : ℕ). Stands (Entry 255) s at n) (ap (λ (o : Option ℕ). unwrap_or o 0) h)
+          (subst (λ (v : ℕ). Stands (Entry v) s at m.1) (eqb-true m.0 255 t) (found_stands s at e))
+      by m e false t h = absurd (false≢true (ap is_some h))
+
+      field : (r : Option (ℕ × ℕ)) → header_field s at ≡ r → option_and_then behind255 r ≡ Some n → Stands (Entry 255) s at n
+      field None e h = absurd (false≢true (ap is_some h))
+      field (Some m) e h = by m e (eqb m.0 255) refl h
+
+      go : (t : Bool) → cond t (Some at) (option_and_then behind255 (header_field s at)) ≡ Some n → Stands (Ending t) s at n
+      go true h =
+          record { part = []; rest = drop at s; text = refl; is = refl; ended = o; place = omega (arith, ap (λ (o : Option ℕ). unwrap_or o 0) h) }
+      go false h = field (header_field s at) refl h

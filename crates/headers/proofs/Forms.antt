@@ -1,6 +1,6 @@
 -- A header is read exactly if the file is well formed; what is written is; bytes behind it change nothing. Assumes nothing.
 use mathlib.Core.Path.{◌≡◌, refl, sym, ap, ap₂, subst, ◌∙◌}
-use mathlib.Core.Bool.{Bool, true, false, cond, ◌&&◌, false≢true}
+use mathlib.Core.Bool.{Bool, true, false, cond, false≢true}
 use mathlib.Core.List.{List, [], ◌∷◌, ◌++◌, append_assoc}
 use mathlib.Core.Logic.{◌↔◌}
 use Prim.Native.Nat.{ℕ, suc, ◌+◌, ◌≤◌}
@@ -9,11 +9,12 @@ use lib.Dec.{eqb, ltb}
 use lib.ListN.{length, drop, get_or, length-append}
 use borrow.Author.Tests.{lt-ltb, eq-eqb, eqb-true}
 use Rattle.whole.proofs.Tests.{and_true, true_and}
+use Rattle.std.specs.Prelude.{Option, Some, None, unwrap_or, option_map, option_and_then}
+use Rattle.std.specs.Option.{is_some}
 use Rattle.text.specs.Show.{shown}
 use Rattle.text.proofs.Showing.{shown_digits, shown_value, shown_some, shown_most}
-use Rattle.headers.specs.declared.Field.{Field}
 use Rattle.headers.specs.declared.Header.{Header}
-use Rattle.headers.specs.Header.{kind, largest, header_bytes, is_space, found, header_field, has_magic, maximum_at, headed, header_of}
+use Rattle.headers.specs.Header.{kind, largest, header_bytes, is_space, header_field, has_magic, maximum_at, headed, header_of, header_said}
 use Rattle.headers.specs.Grammar.{every, Entry, Ending, WellFormed}
 use Rattle.headers.proofs.Parsing.{header_read}
 use Rattle.headers.proofs.Entries.{opens, Stands, stands_then, stands_found, found_stands, ending_found, found_ending}
@@ -33,11 +34,10 @@ ending_opens false b u E o = entry_opens u E
 has_magic_lem : (d : ℕ) (s u : List ℕ) → s ≡ 80 ∷ kind d ∷ u → has_magic d s ≡ true
 has_magic_lem d s u e = ap (has_magic d) e ∙ true_and (lt-ltb 1 (suc (suc (length u))) (omega arith)) (eq-eqb (kind d) (kind d) refl)
 
-formed_read : {d : ℕ} {s : List ℕ} {w h n : ℕ} → WellFormed d s w h n → header_of d s ≡ headed true w h n
+formed_read : {d : ℕ} {s : List ℕ} {w h n : ℕ} → WellFormed d s w h n → header_of d s ≡ Some (headed w h n)
 formed_read {d} {s} {w} {h} {n} W =
-    sym (header_read d s true (found true w one) (found true h two) (found true 255 three) (sym (has_magic_lem d s _ W.file)) (sym (stands_found width))
-    (sym (stands_found height)) (sym (ending_found d s two ending)) true refl)
-    ∙ ap (headed true w h) (sym W.start)
+    header_read d s (w, one) (h, two) three (has_magic_lem d s _ W.file) (stands_found width) (stands_found height) (ending_found d s two ending)
+    ∙ ap (λ (n : ℕ). Some (headed w h n)) (sym W.start)
   where
     one : ℕ
     one = 2 + length W.width
@@ -88,32 +88,32 @@ first_space : (u : List ℕ) → opens u ≡ true → (u ≡ get_or u 0 0 ∷ dr
 first_space [] o = absurd (false≢true o)
 first_space (b ∷ u) o = (refl, o)
 
-read_formed : (d : ℕ) (s : List ℕ) → (header_of d s).ok ≡ true → WellFormed d s (header_of d s).width (header_of d s).height (header_of d s).start
+-- what is made of a value was made of one
+chained : {T U : Type 0} (f : T → Option U) (o : Option T) {y : U} → option_and_then f o ≡ Some y → (x : T) × ((o ≡ Some x) × (f x ≡ Some y))
+chained f None h = absurd (false≢true (ap is_some h))
+chained f (Some x) h = (x, (refl, h))
+
+mapped : {T U : Type 0} (f : T → U) (o : Option T) {y : U} → option_map f o ≡ Some y → (x : T) × ((o ≡ Some x) × (f x ≡ y))
+mapped f None h = absurd (false≢true (ap is_some h))
+mapped {T} {U} f (Some x) {y} h = (x, (refl, ap (λ (o : Option U). unwrap_or o y) h))
+
+read_formed : (d : ℕ) (s : List ℕ) {H : Header} → header_of d s ≡ Some H → WellFormed d s H.width H.height H.start
 unfolding header_of
-read_formed d s h = go (has_magic d s && (width.ok && (height.ok && last.ok))) refl h
+read_formed d s {H} h = go (has_magic d s) refl h
   where
-    width : Field
-    width = header_field s 2
-
-    height : Field
-    height = header_field s width.next
-
-    last : Field
-    last = maximum_at d s height.next
-
-    parts : has_magic d s ≡ true → Stands (Entry width.value) s 2 width.next → Stands (Entry height.value) s width.next height.next
-        → Stands (Ending (eqb d 1)) s height.next last.next → WellFormed d s width.value height.value (last.next + 1)
-    parts k W H E =
+    parts : (w h : ℕ × ℕ) (last : ℕ) → has_magic d s ≡ true → Stands (Entry w.0) s 2 w.1 → Stands (Entry h.0) s w.1 h.1
+        → Stands (Ending (eqb d 1)) s h.1 last → WellFormed d s w.0 h.0 (last + 1)
+    parts w h last k W H E =
         let f = first_space E.rest E.ended in
         let e : H.rest ≡ E.part ++ (get_or E.rest 0 0 ∷ drop 1 E.rest) = sym (stands_then H) ∙ E.text ∙ ap (λ (l : List ℕ). E.part ++ l) f.0 in
-        let h : W.rest ≡ H.part ++ (E.part ++ (get_or E.rest 0 0 ∷ drop 1 E.rest)) = sym (stands_then W) ∙ H.text ∙ ap (λ (l : List ℕ). H.part ++ l) e in
+        let r : W.rest ≡ H.part ++ (E.part ++ (get_or E.rest 0 0 ∷ drop 1 E.rest)) = sym (stands_then W) ∙ H.text ∙ ap (λ (l : List ℕ). H.part ++ l) e in
         record {
           width = W.part;
           height = H.part;
           ending = E.part;
           last = get_or E.rest 0 0;
           rest = drop 1 E.rest;
-          file = magic_first d s k ∙ ap (λ (l : List ℕ). 80 ∷ kind d ∷ l) (W.text ∙ ap (λ (l : List ℕ). W.part ++ l) h);
+          file = magic_first d s k ∙ ap (λ (l : List ℕ). 80 ∷ kind d ∷ l) (W.text ∙ ap (λ (l : List ℕ). W.part ++ l) r);
           wide = W.is;
           high = H.is;
           limited = E.is;
@@ -121,43 +121,55 @@ read_formed d s h = go (has_magic d s && (width.ok && (height.ok && last.ok))) r
           start = omega (arith, W.place, H.place, E.place);
         }
 
-    go : (t : Bool) → (has_magic d s && (width.ok && (height.ok && last.ok))) ≡ t → (headed t width.value height.value (last.next + 1)).ok ≡ true
-        → (let H = headed t width.value height.value (last.next + 1) in WellFormed d s H.width H.height H.start)
-    go true e h =
-        let p = and_true (has_magic d s) _ e in
-        let q = and_true width.ok _ p.1 in
-        let r = and_true height.ok last.ok q.1 in
-        let H = found_stands s width.next r.0 in
-        parts p.0 (found_stands s 2 q.0) H (found_ending d s height.next (ap opens (stands_then H) ∙ H.ended) r.1)
-    go false e h = absurd (false≢true h)
+    fields : Option Header
+    fields =
+        option_and_then (λ w. option_and_then (λ h. option_map (λ last. headed w.0 h.0 (last + 1)) (maximum_at d s h.1)) (header_field s w.1)) (header_field s 2)
+
+    go : (t : Bool) → has_magic d s ≡ t → cond t fields None ≡ Some H → WellFormed d s H.width H.height H.start
+    go true k r =
+        let w = chained _ (header_field s 2) r in
+        let h = chained _ (header_field s w.0.1) w.1.1 in
+        let m = mapped (λ (last : ℕ). headed w.0.0 h.0.0 (last + 1)) (maximum_at d s h.0.1) h.1.1 in
+        let S = found_stands s w.0.1 h.1.0 in
+        subst (λ (H : Header). WellFormed d s H.width H.height H.start) m.1.1
+        (parts w.0 h.0 m.0 k (found_stands s 2 w.1.0) S (found_ending d s h.0.1 (ap opens (stands_then S) ∙ S.ended) m.1.0))
+    go false k r = absurd (false≢true (ap is_some r))
 
 -- 02's grammar and the places that are read say the same
-pub header_is : (d : ℕ) (s : List ℕ) (w h n : ℕ) → (header_of d s ≡ headed true w h n) ↔ WellFormed d s w h n
-header_is d s w h n = (λ e. subst (λ (H : Header). WellFormed d s H.width H.height H.start) e (read_formed d s (ap (λ (H : Header). H.ok) e)), formed_read)
+pub header_is : (d : ℕ) (s : List ℕ) (w h n : ℕ) → (header_of d s ≡ Some (headed w h n)) ↔ WellFormed d s w h n
+header_is d s w h n = (read_formed d s, formed_read)
 
--- so a file says one thing only
+-- a file with a header says something
+pub header_found : (d : ℕ) (s : List ℕ) → is_some (header_of d s) ≡ true → header_of d s ≡ Some (header_said d s)
+header_found d s = by (header_of d s)
+  where
+    by : (o : Option Header) → is_some o ≡ true → o ≡ Some (unwrap_or o (headed 0 0 0))
+    by None h = absurd (false≢true h)
+    by (Some H) h = refl
+
+pub said_header : (d : ℕ) (s : List ℕ) {H : Header} → header_of d s ≡ Some H → header_said d s ≡ H
+said_header d s e = ap (λ (o : Option Header). unwrap_or o (headed 0 0 0)) e
+
+-- and one thing only
 pub one_header : {d : ℕ} {s : List ℕ} {w h n w' h' n' : ℕ} → WellFormed d s w h n → WellFormed d s w' h' n' → (w ≡ w') × (h ≡ h') × (n ≡ n')
-one_header W X =
-    let e = sym (formed_read W) ∙ formed_read X in
+one_header {d} {s} W X =
+    let e = sym (said_header d s (formed_read W)) ∙ said_header d s (formed_read X) in
     (ap (λ (H : Header). H.width) e, ap (λ (H : Header). H.height) e, ap (λ (H : Header). H.start) e)
 
 -- ---- the pixels start within the file, or with its end
-pub header_ends : (d : ℕ) (s : List ℕ) → (header_of d s).ok ≡ true → (header_of d s).start ≤ length s
+pub header_ends : (d : ℕ) (s : List ℕ) {H : Header} → header_of d s ≡ Some H → H.start ≤ length s
 header_ends d s h =
     let W = read_formed d s h in
     omega (arith, W.start, simp length-append at (ap length W.file))
 
 -- ---- bytes behind a file that has a header change nothing
-headed_is : (d : ℕ) (s : List ℕ) → (header_of d s).ok ≡ true → header_of d s ≡ headed true (header_of d s).width (header_of d s).height (header_of d s).start
-headed_is d s h = λ i. record { ok = h i; width = (header_of d s).width; height = (header_of d s).height; start = (header_of d s).start }
-
-pub header_grows : (d : ℕ) (s : List ℕ) → (header_of d s).ok ≡ true → (rest : List ℕ) → header_of d (s ++ rest) ≡ header_of d s
-header_grows d s h rest = formed_read longer ∙ sym (headed_is d s h)
+pub header_grows : (d : ℕ) (s : List ℕ) {H : Header} → header_of d s ≡ Some H → (rest : List ℕ) → header_of d (s ++ rest) ≡ Some H
+header_grows d s {H} h rest = formed_read longer
   where
-    W : WellFormed d s (header_of d s).width (header_of d s).height (header_of d s).start
+    W : WellFormed d s H.width H.height H.start
     W = read_formed d s h
 
-    longer : WellFormed d (s ++ rest) (header_of d s).width (header_of d s).height (header_of d s).start
+    longer : WellFormed d (s ++ rest) H.width H.height H.start
     longer =
         record {
           width = W.width;
@@ -232,5 +244,5 @@ written_formed d w h a b rest =
       start = simp length-append (omega (arith, between_length (eqb d 1)));
     }
 
-pub written_header : (d w h : ℕ) → w ≤ 9999 → h ≤ 9999 → (rest : List ℕ) → header_of d (header_bytes d w h ++ rest) ≡ headed true w h (length (header_bytes d w h))
+pub written_header : (d w h : ℕ) → w ≤ 9999 → h ≤ 9999 → (rest : List ℕ) → header_of d (header_bytes d w h ++ rest) ≡ Some (headed w h (length (header_bytes d w h)))
 written_header d w h a b rest = formed_read (written_formed d w h a b rest)

@@ -1,6 +1,5 @@
 pub mod Ones
 pub mod Rows
-pub mod Answers
 pub mod Refusals
 pub mod Pictures
 pub mod Known

@@ -3,16 +3,21 @@ use mathlib.Core.Path.{◌≡◌, refl, sym, ap, ap₂, subst, ◌∙◌}
 use mathlib.Core.Bool.{Bool, true}
 use mathlib.Core.List.{List, [], ◌∷◌}
 use Prim.Native.Nat.{ℕ, zero, suc, ◌+◌, ◌-◌, ◌*◌, ◌/◌, ◌%◌, ◌^◌, ◌≤◌, ◌<◌}
-use native.Mathlib.Nat.{pow-suc, mod-eq_of_lt, div-lt_iff_lt-mul, zero-lt-suc}
+use native.Mathlib.Nat.{le_refl, pow-suc, mod-eq_of_lt, div-lt_iff_lt-mul, zero-lt-suc}
 use native.Mathlib.Omega.{arith}
+use native.Mathlib.Numerals.{add-one}
 use lib.Bits.{bit_and, and_le_l, and_mask}
 use lib.Count.{ones, ones_in, ones_step}
 use lib.Dec.{eqb}
-use lib.ListN.{get_or}
+use lib.ListN.{length, get_or, take}
+use Rattle.std.specs.List.{sum_by}
+use Rattle.std.proofs.lemmas.List.Sums.{sum_by_more}
+use Rattle.std.proofs.Math.Seq.{take-length}
 use borrow.Author.Tests.{eqb-true}
 use Rattle.whole.proofs.Tests.{passes, passes_at}
 use Rattle.layout.specs.Digits.{digit}
 use Rattle.layout.specs.Packed.{field, per, slot_of}
+use Rattle.layout.proofs.Bytes.{Bytes}
 use Rattle.layout.proofs.Counts.{many_cong, many_le, many_then}
 use Rattle.packing.specs.Words.{bits_from}
 use Rattle.lights.specs.Bits.{bit_at, lit_bits}
@@ -61,7 +66,7 @@ bits_more i t b h = many_then (i * 8) t (bit_at b) ∙ ap (λ (n : ℕ). lit_bit
         ap₂ (λ (m n : ℕ). eqb (digit 2 (7 - m) (get_or b n 0)) 1) m d ∙ ap (λ (n : ℕ). eqb (digit 2 (7 - p % 8) (get_or (get_or b i 0 ∷ []) n 0)) 1) z
 
 module _ (b : List ℕ) (i : ℕ) (h : get_or b i 0 < 256) where
-  pub byte_more : lit_bits (i * 8) b + ones (get_or b i 0) ≡ lit_bits ((i + 1) * 8) b
+  byte_more : lit_bits (i * 8) b + ones (get_or b i 0) ≡ lit_bits ((i + 1) * 8) b
   byte_more =
       let n : i * 8 + 8 ≡ (i + 1) * 8 = omega arith in
       ap (λ (n : ℕ). lit_bits (i * 8) b + n) (whole_ones (get_or b i 0) h) ∙ sym (bits_more i 8 b (omega arith)) ∙ ap (λ (n : ℕ). lit_bits n b) n
@@ -72,15 +77,20 @@ module _ (b : List ℕ) (i : ℕ) (h : get_or b i 0 < 256) where
       ∙ sym (bits_more i t b (omega arith))
 
 -- none at first, and never more than there are
-pub bits_none : (b : List ℕ) → lit_bits 0 b ≡ 0
+bits_none : (b : List ℕ) → lit_bits 0 b ≡ 0
 unfolding lit_bits
 bits_none b = refl
 
-pub bits_few : (n : ℕ) (b : List ℕ) {r : ℕ} → r ≡ lit_bits n b → r ≤ n
+bits_few : (n : ℕ) (b : List ℕ) {r : ℕ} → r ≡ lit_bits n b → r ≤ n
 unfolding lit_bits
 bits_few n b e = subst (λ (k : ℕ). k ≤ n) (sym e) (many_le n (bit_at b))
 
--- among k bits behind m too
-pub more_few : (m k : ℕ) (b : List ℕ) → lit_bits (m + k) b ≤ lit_bits m b + k
-unfolding lit_bits
-more_few m k b = omega (arith, many_then m k (bit_at b), many_le k (λ p. bit_at b (m + p)))
+-- the ones of the first n bytes, and of all
+pub ones_lit : (b : List ℕ) → Bytes b → (n : ℕ) → n ≤ length b → sum_by ones (take n b) ≡ lit_bits (n * 8) b
+ones_lit b v zero l = sym (bits_none b)
+ones_lit b v (suc n) l =
+    let more = rw add-one at (sum_by_more ones b n 0 (omega arith)) in
+    omega (arith, more, ones_lit b v n (omega arith), rw add-one at (byte_more b n (v n)))
+
+pub ones_few : (b : List ℕ) → Bytes b → sum_by ones b ≤ length b * 8
+ones_few b v = bits_few (length b * 8) b (sym (ap (sum_by ones) (take-length b)) ∙ ones_lit b v (length b) (le_refl (length b)))

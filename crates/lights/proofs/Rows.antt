@@ -37,9 +37,9 @@ module _ (f : Frame) (b : List ℕ) (A : Accepted f (length b)) (one : f.depth �
   row_bits = let e : (f.width * f.depth + 7) / 8 ≡ (f.width * 1 + 7) / 8 = ap (λ (d : ℕ). (f.width * d + 7) / 8) one in omega (arith, A.described.apart)
 
   -- a row ends within the buffer
-  pub row_ends : (y : ℕ) {at : ℕ} → y < f.height → at ≡ y * f.distance → at + f.distance ≤ length b
+  pub row_ends : (y : ℕ) → y < f.height → y * f.distance + f.distance ≤ length b
   unfolding size
-  row_ends y l e =
+  row_ends y l =
       let m : (y + 1) * f.distance ≤ f.height * f.distance = mul-le-mul_right f.distance (omega arith) in
       let r = A.room in
       omega arith
@@ -71,15 +71,15 @@ module _ (f : Frame) (b : List ℕ) (A : Accepted f (length b)) (one : f.depth �
       ∙ ap (λ (n : ℕ). eqb (digit 2 (7 - x % 8) n) 1) (sym (get_or-drop at b (x / 8) 0))
 
   -- row y, which is lent with all that follows it, behind the rows above it
-  pub row_more : (y : ℕ) {sum k at : ℕ} → sum ≡ lit_up_to f (y * f.width) b → at ≡ y * f.distance
-      → k ≡ lit_bits f.width (take (length b - at) (drop at b)) → sum + k ≡ lit_up_to f ((y + 1) * f.width) b
+  pub row_more : (y : ℕ) {sum k : ℕ} → sum ≡ lit_up_to f (y * f.width) b
+      → k ≡ lit_bits f.width (take (length b - y * f.distance) (drop (y * f.distance) b)) → sum + k ≡ lit_up_to f ((y + 1) * f.width) b
   unfolding lit_bits
-  row_more y {at = at} a e c =
+  row_more y a c =
       let w = f.width in
+      let at = y * f.distance in
       let n : y * w + w ≡ (y + 1) * w = omega arith in
       ap₂ (λ (i j : ℕ). i + j) a
       (c ∙ ap (lit_bits w) (take_all (length b - at) (drop at b) (le_of_eq (length-drop at b)))
-      ∙ ap (λ (i : ℕ). lit_bits w (drop i b)) e
       ∙ many_cong w _ _ (λ x l. sym (ap₂ (λ (i j : ℕ). eqb (get_pixel (raster f) i j b) 1) (digits_mod y l) (digits_div y l) ∙ bit_is x y)))
       ∙ sym (many_then (y * w) w (is_lit f b))
       ∙ ap (λ (i : ℕ). lit_up_to f i b) n

@@ -1,7 +1,9 @@
 -- 02, T-02: when the lit pixels of a frame are counted, and what the count answers.
-use Rattle.std.specs.Prelude.{Bool, not, [], ◌∷◌, ◌++◌, ℕ, eqb}
+use Rattle.std.specs.Prelude.{Bool, not, [], ◌∷◌, ◌++◌, ℕ, eqb, Result, Ok, Err}
 use Rattle.refusals.specs.Answer.{if_done}
 use Rattle.refusals.specs.First.{Tests}
+use Rattle.refusals.specs.Refusal.{number}
+use Rattle.refusals.specs.declared.Refusal.{Refusal}
 use Rattle.frames.specs.declared.Frame.{Frame}
 use Rattle.frames.specs.Description.{frame_tests}
 use Rattle.lights.specs.declared.Lights.{Lights}
@@ -17,3 +19,8 @@ lit_tests f len = frame_tests f len ++ ((10, not_one_bit f) ∷ [])
 -- the answer by its number
 abbrev pub lights : ℕ → ℕ → Lights
 lights n k = record { number = n; count = if_done n k 0 }
+
+-- what the library answers, by its number
+abbrev pub as_lights : Result ℕ Refusal → Lights
+as_lights (Ok k) = record { number = 0; count = k }
+as_lights (Err r) = record { number = number r; count = 0 }

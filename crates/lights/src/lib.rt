@@ -1,17 +1,18 @@
 // The lit pixels of a one-bit frame, by the processor's count of ones on each byte.
 #![tactic(auto)]
 
-ghost use Rattle.std.specs.Prelude.{◌≡◌, ◌+◌, ◌*◌, ◌≤◌, min, length};
+ghost use Rattle.std.specs.Prelude.{◌≡◌, ◌*◌, ◌≤◌, length, sum_by, count_ones};
 ghost use Rattle.refusals.specs.First.{first};
 ghost use Rattle.layout.specs.Count.{lit_in};
 ghost use Rattle.frames.specs.Description.{raster};
 ghost use Rattle.frames.specs.Judged.{Accepted};
-ghost use Rattle.lights.specs.Answer.{lit_tests, lights};
+ghost use Rattle.lights.specs.Answer.{lit_tests, lights, as_lights};
 ghost use Rattle.lights.specs.Bits.{lit_bits};
 
 use frames::Frame;
+use refusals::Refusal;
 
-// How many pixels of a one-bit frame have the colour 1; with a refusal its number and 0.
+// How many pixels of a one-bit frame have the colour 1, as C is handed it; with a refusal its number and 0.
 #[repr(C)]
 #[derive(Clone, Copy)]
 pub struct Lights {
@@ -19,33 +20,41 @@ pub struct Lights {
     pub count: u32,
 }
 
-// The ones of the bytes from `from` to one before `past`. Blocks are so small that 16 bits hold their number: the compiler counts twice as many bytes at once as
-// it does for a sum of 32 bits.
-fn ones_of(bytes: &[u8], from: usize, past: usize) -> u16
-    requires { (from ≤ past) × (past ≤ from + 4096) × (past ≤ length bytes.now) }
-    ensures { lit_bits (from * 8) bytes.now + result ≡ lit_bits (past * 8) bytes.now }
-{
-    let mut sum = 0u16;
-    let mut i = from;
-    while i < past {
-        sum += u8::count_ones(bytes[i]) as u16;
-        i += 1;
+impl From<Result<u32, Refusal>> for Lights {
+    ghost from_gives = { λ answer l. l ≡ as_lights answer };
+
+    fn from(answer: Result<u32, Refusal>) -> Self {
+        match answer {
+            Ok(count) => Lights { number: 0, count },
+            Err(refusal) => Lights {
+                number: refusal.number(),
+                count: 0,
+            },
+        }
     }
-    sum
+}
+
+// The ones of a block's bytes. A block is so small that 16 bits hold their number: the compiler counts twice as many bytes at once as it does for a sum of 32 bits.
+fn ones_of(block: &[u8]) -> u16
+    requires { length block.now ≤ 4096 }
+    ensures { result ≡ sum_by count_ones block.now }
+{
+    block.iter().map(|b| b.count_ones() as u16).sum()
 }
 
 // The ones among the first n bits of a row: whole bytes, and of the byte behind them what its mask leaves.
-fn lit_row(bytes: &[u8], n: u32) -> u32
-    requires { (n ≤ 2048) × (n ≤ length bytes.now * 8) }
-    ensures { result ≡ lit_bits n bytes.now }
+fn lit_row(row: &[u8], n: u32) -> u32
+    requires { (n ≤ 2048) × (n ≤ length row.now * 8) }
+    ensures { result ≡ lit_bits n row.now }
 {
     let whole = (n / 8) as usize;
     let rest = n % 8;
-    let sum = ones_of(bytes, 0, whole) as u32;
+    let sum = ones_of(&row[..whole]) as u32;
     if rest == 0 {
-        return sum;
+        sum
+    } else {
+        sum + (row[whole] & !packing::bits_from(1, rest)).count_ones()
     }
-    sum + u8::count_ones(bytes[whole] & !packing::bits_from(1, rest))
 }
 
 // The lit pixels of an accepted frame, row by row.
@@ -53,39 +62,22 @@ fn lit_rows(buf: &[u8], frame: Frame) -> u32
     requires { Accepted frame (length buf.now) × (frame.depth ≡ 1) }
     ensures { result ≡ lit_in (raster frame) buf.now }
 {
-    let height = frame.height;
-    let distance = frame.distance as usize;
-    let mut sum = 0u32;
-    let mut at = 0usize;
-    let mut y = 0u32;
-    while y < height {
+    let mut sum = 0;
+    for y in 0..frame.height {
+        let at = (y * frame.distance) as usize;
         sum += lit_row(&buf[at..], frame.width);
-        at += distance;
-        y += 1;
     }
     sum
 }
 
-// Where a block that begins at i ends, of n bytes.
-fn block_end(i: usize, n: usize) -> usize
-    requires { i ≤ 524288 }
-    ensures { result ≡ min (i + 4096) n }
+// The ones of the bytes, block by block.
+fn lit_run(bytes: &[u8]) -> u32
+    requires { length bytes.now ≤ 524288 }
+    ensures { result ≡ sum_by count_ones bytes.now }
 {
-    let end = i + 4096;
-    if end < n { end } else { n }
-}
-
-// The ones of the first n bytes, block by block.
-fn lit_run(bytes: &[u8], n: usize) -> u32
-    requires { (n ≤ 524288) × (n ≤ length bytes.now) }
-    ensures { result ≡ lit_bits (n * 8) bytes.now }
-{
-    let mut sum = 0u32;
-    let mut i = 0usize;
-    while i < n {
-        let past = block_end(i, n);
-        sum += ones_of(bytes, i, past) as u32;
-        i = past;
+    let mut sum = 0;
+    for block in bytes.chunks(4096) {
+        sum += ones_of(block) as u32;
     }
     sum
 }
@@ -96,27 +88,21 @@ fn lit_frame(buf: &[u8], frame: Frame) -> u32
     ensures { result ≡ lit_in (raster frame) buf.now }
 {
     if frame.distance * 8 == frame.width {
-        return lit_run(buf, (frame.distance * frame.height) as usize);
+        let size = (frame.distance * frame.height) as usize;
+        lit_run(&buf[..size])
+    } else {
+        lit_rows(buf, frame)
     }
-    lit_rows(buf, frame)
 }
 
 // How many pixels of a one-bit frame are lit. Padding, and what follows the frame, are not counted.
-pub fn lit(buf: &[u8], frame: Frame) -> Lights
-    ensures { result ≡ lights (first (lit_tests frame (length buf.now))) (lit_in (raster frame) buf.now) }
+#[tactic(auto, unfolding(frames::specs::Description::description_tests, frames::specs::Description::frame_tests, crate::specs::Answer::lit_tests))]
+pub fn lit(buf: &[u8], frame: Frame) -> Result<u32, Refusal>
+    ensures { as_lights result ≡ lights (first (lit_tests frame (length buf.now))) (lit_in (raster frame) buf.now) }
 {
-    let number = frames::frame_refusal(frame, buf.len());
-    if number != 0 {
-        return Lights { number, count: 0 };
-    }
+    frames::accept_frame(frame, buf.len())?;
     if frame.depth != 1 {
-        return Lights {
-            number: 10,
-            count: 0,
-        };
+        return Err(Refusal::UnfitFrame);
     }
-    Lights {
-        number: 0,
-        count: lit_frame(buf, frame),
-    }
+    Ok(lit_frame(buf, frame))
 }

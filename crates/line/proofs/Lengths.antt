@@ -9,7 +9,7 @@ use lib.Signed.{le_z}
 use mir.Syntax.{w32}
 use mir.Val.{to_z, of_z}
 use Rattle.whole.proofs.Difference.{as_mk, mks, le_nat}
-use Rattle.whole.proofs.Machine.{Has, add_size, neg_size, mk_size, at₂}
+use Rattle.whole.proofs.Machine.{add_size, neg_size, mk_size, at₂}
 use Rattle.geometry.specs.declared.Point.{Point}
 use Rattle.geometry.specs.Bound.{Coord, Bounded}
 use Rattle.geometry.proofs.Bound.{coord_size, coord_fits}
@@ -57,16 +57,14 @@ pub high_size : {s e : Point} → Bounded s → Bounded e → high s e ≤ 26214
 unfolding high
 high_size hs he = apart_size hs.y he.y
 
--- a distance that was worked out from coordinates as they are read
-pub wide_of : {s e : Point} {r : ℤ} → Bounded s → Bounded e → r ≡ pos (nat_abs (to_z w32 (of_z w32 e.0) -ℤ to_z w32 (of_z w32 s.0))) → Has w32 r (pos (wide s e)) 262144
+-- a difference that was worked out from coordinates as they are read
+pub wide_of : {s e : Point} {r : ℕ} → Bounded s → Bounded e → r ≡ nat_abs (to_z w32 (of_z w32 e.0) -ℤ to_z w32 (of_z w32 s.0)) → r ≡ wide s e
 unfolding wide
-wide_of {r = r} hs he h =
-    record { is = at₂ (coord_fits hs.x) (coord_fits he.x) (λ (a b : ℤ). r ≡ pos (nat_abs (b -ℤ a))) h; size = wide_size hs he; room = omega arith }
+wide_of {r = r} hs he h = at₂ (coord_fits hs.x) (coord_fits he.x) (λ (a b : ℤ). r ≡ nat_abs (b -ℤ a)) h
 
-pub high_of : {s e : Point} {r : ℤ} → Bounded s → Bounded e → r ≡ pos (nat_abs (to_z w32 (of_z w32 e.1) -ℤ to_z w32 (of_z w32 s.1))) → Has w32 r (pos (high s e)) 262144
+pub high_of : {s e : Point} {r : ℕ} → Bounded s → Bounded e → r ≡ nat_abs (to_z w32 (of_z w32 e.1) -ℤ to_z w32 (of_z w32 s.1)) → r ≡ high s e
 unfolding high
-high_of {r = r} hs he h =
-    record { is = at₂ (coord_fits hs.y) (coord_fits he.y) (λ (a b : ℤ). r ≡ pos (nat_abs (b -ℤ a))) h; size = high_size hs he; room = omega arith }
+high_of {r = r} hs he h = at₂ (coord_fits hs.y) (coord_fits he.y) (λ (a b : ℤ). r ≡ nat_abs (b -ℤ a)) h
 
 pub major_size : {s e : Point} → Bounded s → Bounded e → major s e ≤ 262144
 unfolding major

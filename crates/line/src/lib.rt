@@ -1,20 +1,22 @@
 // Lines: the walker over a line's points, and the questions on a line. A line's points depend on the end that it starts from.
 #![tactic(auto)]
 
-ghost use Rattle.std.specs.Prelude.{◌≡◌, true, ℕ, ◌+◌, ◌*◌, ◌≤◌, ◌<◌, eqb, pos, nat_abs, ◌+ℤ◌, ◌-ℤ◌, ◌*ℤ◌};
+ghost use Rattle.std.specs.Prelude.{◌≡◌, true, ℕ, ◌+◌, ◌*◌, ◌≤◌, ◌<◌, eqb, pos, ◌+ℤ◌, ◌-ℤ◌, ◌*ℤ◌, OnOk};
 ghost use Rattle.refusals.specs.First.{first};
+ghost use Rattle.refusals.specs.Refusal.{as_number};
 ghost use Rattle.geometry.specs.declared.Point.{Point as Place};
-ghost use Rattle.geometry.specs.Bound.{Coord, Bounded};
-ghost use Rattle.geometry.specs.Answer.{verdict};
+ghost use Rattle.geometry.specs.Bound.{Bounded};
+ghost use Rattle.geometry.specs.Answer.{verdict, as_verdict};
 ghost use Rattle.line.specs.Line.{toward, moves, major, minor, points, point_at, on_line, has_point};
 ghost use Rattle.line.specs.Reach.{reach, reach_from};
 ghost use Rattle.line.specs.Walk.{CourseOf, SomeCourse, Reachable, Near, standing, is_due, Stands, Moving, Walking, WalkerAt};
-ghost use Rattle.line.specs.Answer.{end_tests, step_tests, length_answer, step_answer};
+ghost use Rattle.line.specs.Answer.{end_tests, step_tests, length_answer, as_length, step_answer, as_step};
 
-use geometry::{Point, Verdict};
+use geometry::Point;
+use refusals::Refusal;
 
 // The parameters of a line: the error that a minor move needs, its change with a major and with a minor move, and the moves.
-#[derive(Clone, Copy)]
+#[derive(Debug, Clone, Copy, PartialEq, Eq, Hash)]
 pub struct Course {
     pub threshold: i32,
     pub up: i32,
@@ -26,7 +28,7 @@ pub struct Course {
 }
 
 // A walk along a line, at the point that it hands out next.
-#[derive(Clone, Copy)]
+#[derive(Debug, Clone, Copy, PartialEq, Eq, Hash)]
 pub struct Walker {
     pub x: i32,
     pub y: i32,
@@ -35,13 +37,13 @@ pub struct Walker {
 }
 
 // A point, and the walker at the next.
-#[derive(Clone, Copy)]
+#[derive(Debug, Clone, Copy, PartialEq, Eq, Hash)]
 pub struct Stepped {
     pub point: Point,
     pub walker: Walker,
 }
 
-// How many points a line has.
+// How many points a line has, as C is handed it; with a refusal its number and 0.
 #[repr(C)]
 #[derive(Clone, Copy)]
 pub struct Length {
@@ -49,33 +51,25 @@ pub struct Length {
     pub points: u32,
 }
 
-// A line's point at a step.
-#[derive(Clone, Copy)]
-pub struct Step {
-    pub number: u32,
-    pub point: Point,
-}
+impl From<Result<u32, Refusal>> for Length {
+    ghost from_gives = { λ answer l. l ≡ as_length answer };
 
-// Inside the library: how far b is from a.
-pub fn distance(a: i32, b: i32) -> i32
-    requires { Coord a × Coord b }
-    ensures { result ≡ pos (nat_abs (b -ℤ a)) }
-{
-    let d = b - a;
-    if d < 0 {
-        return -d;
+    fn from(answer: Result<u32, Refusal>) -> Self {
+        match answer {
+            Ok(points) => Length { number: 0, points },
+            Err(refusal) => Length {
+                number: refusal.number(),
+                points: 0,
+            },
+        }
     }
-    d
 }
 
-// Inside the library: one place from a towards b.
+// Inside the library: one place from a towards b. The signum of the difference would be 0 where they are the same.
 pub fn direction(a: i32, b: i32) -> i32
     ensures { result ≡ toward a b }
 {
-    if a <= b {
-        return 1;
-    }
-    -1
+    if a <= b { 1 } else { -1 }
 }
 
 // Inside the library: the parameters of the accepted line from start to end.
@@ -83,33 +77,30 @@ pub fn course_of(start: Point, end: Point) -> Course
     requires { Bounded start × Bounded end }
     ensures { CourseOf start end result }
 {
-    let x0 = start.0;
-    let y0 = start.1;
-    let x1 = end.0;
-    let y1 = end.1;
-    let a = distance(x0, x1);
-    let b = distance(y0, y1);
-    let dx = direction(x0, x1);
-    let dy = direction(y0, y1);
-    if a <= b {
-        return Course {
-            threshold: b,
-            up: 2 * a,
-            down: 2 * b,
+    let wide = end.0.abs_diff(start.0) as i32;
+    let high = end.1.abs_diff(start.1) as i32;
+    let dx = direction(start.0, end.0);
+    let dy = direction(start.1, end.1);
+    if wide <= high {
+        Course {
+            threshold: high,
+            up: 2 * wide,
+            down: 2 * high,
             xmajor: 0,
             ymajor: dy,
             xminor: dx,
             yminor: 0,
-        };
-    }
-    Course {
-        threshold: a,
-        up: 2 * b,
-        down: 2 * a,
-        xmajor: dx,
-        ymajor: 0,
-        xminor: 0,
-        yminor: dy,
+        }
+    } else {
+        Course {
+            threshold: wide,
+            up: 2 * high,
+            down: 2 * wide,
+            xmajor: dx,
+            ymajor: 0,
+            xminor: 0,
+            yminor: dy,
+        }
     }
 }
 
@@ -222,10 +213,11 @@ pub fn moves_at(major: u32, up: u32, k: u32) -> u32
     ensures { (minor : ℕ) → up ≡ 2 * minor → result ≡ moves major minor k }
 {
     if major == 0 {
-        return 0;
+        0
+    } else {
+        let whole = up as u64 * k as u64 + (major as u64 - 1);
+        (whole / (2 * major as u64)) as u32
     }
-    let whole = up as u64 * k as u64 + (major as u64 - 1);
-    (whole / (2 * major as u64)) as u32
 }
 
 // Inside the library: the moves along the minor axis at step k of an accepted line.
@@ -251,9 +243,10 @@ pub fn first_with(major: u32, minor: u32, moved: u32) -> u32
     ensures { result ≡ reach_from major minor moved }
 {
     if moved == 0 {
-        return 0;
+        0
+    } else {
+        (reach_of(major, minor, moved - 1) + 1) as u32
     }
-    (reach_of(major, minor, moved - 1) + 1) as u32
 }
 
 // The coordinate that is so many major and minor moves from a, each move being -1, 0 or 1.
@@ -293,14 +286,17 @@ fn point_at(start: Point, end: Point, step: u32) -> Point
     Point(w.x, w.y)
 }
 
-// Inside the library: 5 where a line end is out of bounds, else 0.
-pub fn refusal(start: Point, end: Point) -> u32
-    ensures { result ≡ first (end_tests start end) }
+// Inside the library: whether a line is accepted; it is refused where an end is out of bounds.
+#[tactic(auto, unfolding(crate::specs::Answer::end_tests))]
+pub fn accept(start: Point, end: Point) -> Result<(), Refusal>
+    ensures number { as_number result ≡ first (end_tests start end) }
+    ensures accepted { OnOk result (Bounded start × Bounded end) }
 {
-    if !(geometry::in_bounds(start) & geometry::in_bounds(end)) {
-        return 5;
+    if geometry::in_bounds(start) & geometry::in_bounds(end) {
+        Ok(())
+    } else {
+        Err(Refusal::OutOfBounds)
     }
-    0
 }
 
 // Inside the library: the last step of an accepted line.
@@ -313,40 +309,23 @@ pub fn last_step(start: Point, end: Point) -> u32
 }
 
 // The number of points of a line.
-pub fn major_length(start: Point, end: Point) -> Length
-    ensures { result ≡ length_answer (first (end_tests start end)) (points start end) }
+pub fn major_length(start: Point, end: Point) -> Result<u32, Refusal>
+    ensures { as_length result ≡ length_answer (first (end_tests start end)) (points start end) }
 {
-    let number = refusal(start, end);
-    if number != 0 {
-        return Length { number, points: 0 };
-    }
-    Length {
-        number: 0,
-        points: last_step(start, end) + 1,
-    }
+    accept(start, end)?;
+    Ok(last_step(start, end) + 1)
 }
 
 // The point of a line at a step, the start being step 0.
-pub fn point(start: Point, end: Point, step: u32) -> Step
-    ensures { result ≡ step_answer (first (step_tests start end step)) (point_at start end step) }
+#[tactic(auto, unfolding(crate::specs::Answer::end_tests, crate::specs::Answer::step_tests))]
+pub fn point(start: Point, end: Point, step: u32) -> Result<Point, Refusal>
+    ensures { as_step result ≡ step_answer (first (step_tests start end step)) (point_at start end step) }
 {
-    let number = refusal(start, end);
-    if number != 0 {
-        return Step {
-            number,
-            point: Point(0, 0),
-        };
-    }
+    accept(start, end)?;
     if last_step(start, end) < step {
-        return Step {
-            number: 7,
-            point: Point(0, 0),
-        };
+        return Err(Refusal::PastLastStep);
     }
-    Step {
-        number: 0,
-        point: point_at(start, end, step),
-    }
+    Ok(point_at(start, end, step))
 }
 
 // How many places p is from a, counted towards b: below 0 on the other side. Each way has a difference of its own: one that serves both is kept in
@@ -355,9 +334,10 @@ fn progress(a: i32, b: i32, p: i32) -> i64
     ensures { result ≡ toward a b *ℤ (p -ℤ a) }
 {
     if a <= b {
-        return p as i64 - a as i64;
+        p as i64 - a as i64
+    } else {
+        a as i64 - p as i64
     }
-    a as i64 - p as i64
 }
 
 // Whether `across` are the moves along the minor axis at step `along`: the doubled area between the ideal line and the point is within the band
@@ -379,26 +359,21 @@ fn on_line(wide: u32, high: u32, x: i64, y: i64) -> bool
     requires { (wide ≤ 262144) × (high ≤ 262144) }
     ensures { result ≡ on_line wide high x y }
 {
-    if x < 0 {
-        return false;
-    }
-    if y < 0 {
+    if x < 0 || y < 0 {
         return false;
     }
     let w = wide as u64;
     let h = high as u64;
     let u = x as u64;
     let v = y as u64;
-    if w < u {
-        return false;
-    }
-    if h < v {
+    if w < u || h < v {
         return false;
     }
     if w <= h {
-        return is_moves(h, w, v, u);
+        is_moves(h, w, v, u)
+    } else {
+        is_moves(w, h, u, v)
     }
-    is_moves(w, h, u, v)
 }
 
 // Inside the library: whether p is a point of an accepted line.
@@ -406,23 +381,17 @@ pub fn meets(start: Point, end: Point, p: Point) -> bool
     requires { Bounded start × Bounded end }
     ensures { result ≡ has_point start end p }
 {
-    let wide = distance(start.0, end.0) as u32;
-    let high = distance(start.1, end.1) as u32;
+    let wide = end.0.abs_diff(start.0);
+    let high = end.1.abs_diff(start.1);
     let x = progress(start.0, end.0, p.0);
     let y = progress(start.1, end.1, p.1);
     on_line(wide, high, x, y)
 }
 
 // Whether p is a point of the line: any pixel may be asked.
-pub fn has_point(start: Point, end: Point, p: Point) -> Verdict
-    ensures { result ≡ verdict (first (end_tests start end)) (has_point start end p) }
+pub fn has_point(start: Point, end: Point, p: Point) -> Result<bool, Refusal>
+    ensures { as_verdict result ≡ verdict (first (end_tests start end)) (has_point start end p) }
 {
-    let number = refusal(start, end);
-    if number != 0 {
-        return Verdict { number, yes: false };
-    }
-    Verdict {
-        number: 0,
-        yes: meets(start, end, p),
-    }
+    accept(start, end)?;
+    Ok(meets(start, end, p))
 }

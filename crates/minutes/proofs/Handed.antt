@@ -1,7 +1,7 @@
 -- What the program hands to `write`, of `run`'s contract as the source states it: if the input was read to its end, the line of its count and no other byte;
 -- else nothing. Assumes nothing.
 use mathlib.Core.Path.{◌≡◌, refl, sym, ap, subst, ◌∙◌}
-use mathlib.Core.Bool.{Bool, true, false, cond, not, ◌&&◌}
+use mathlib.Core.Bool.{Bool, true, false, cond}
 use mathlib.Core.List.{List, [], ◌++◌, append-nil}
 use Prim.Native.Nat.{ℕ, ◌≤◌}
 use native.Mathlib.Omega.{arith}
@@ -9,15 +9,15 @@ use lib.ListN.{length, take}
 use lib.Seq.{sets, length-sets}
 use Rattle.text.specs.Lines.{over}
 use Rattle.text.proofs.Streaming.{handled_over}
+use Rattle.streams.specs.declared.Input.TheVariants.{End}
 use Rattle.streams.specs.declared.State.{State}
-use Rattle.streams.specs.State.{stands_at}
+use Rattle.streams.specs.State.{has_ended, stands_at}
 use Rattle.streams.specs.Run.{Ran, begun, turn, Ended}
 use Rattle.streams.specs.Handed.{handed, handed_all, came_all}
 use Rattle.streams.proofs.Refilling.{front}
-use Rattle.streams.proofs.Handed.{Follows, same_more, same_unread, ended_more, all_read, all_handled}
-use Rattle.reports.specs.declared.Count.{Count}
+use Rattle.streams.proofs.Handed.{Follows, same_input, ended_input, all_handled}
 use Rattle.reports.specs.declared.Tally.{Tally}
-use Rattle.reports.specs.Minutes.{minutes, fresh, take_line, always, count_line}
+use Rattle.reports.specs.Minutes.{Count, count_of, minutes, fresh, take_line, always, count_line}
 use Rattle.reports.proofs.Counting.{minutes_is, take_blind}
 use Rattle.minutes.specs.Counted.{counted_last, told, bytes, lines, last}
 use Rattle.minutes.proofs.Turns.{told_all}
@@ -31,18 +31,18 @@ module _ (st : State) (k : Count) (out : List ℕ) where
   abbrev after : Bool → State × List ℕ
   after t = cond t (stands_at st st.end (length (count_line k)), sets out 0 (count_line k)) (stands_at st st.next 0, out)
 
-  after_keeps : (t : Bool) → ((after t).0.more ≡ st.more) × ((after t).0.unread ≡ st.unread)
-  after_keeps true = (refl, refl)
-  after_keeps false = (refl, refl)
+  after_keeps : (t : Bool) → (after t).0.input ≡ st.input
+  after_keeps true = refl
+  after_keeps false = refl
 
   -- what is told
-  line_told : st.more ≡ false → st.unread ≡ false → (told st k out).0.at ≤ length (told st k out).1 → take (told st k out).0.at (told st k out).1 ≡ count_line k
-  line_told e f fits =
-      let is : told st k out ≡ after true = sym (told_all st k out e f) in
+  line_told : st.input ≡ End → (told st k out).0.at ≤ length (told st k out).1 → take (told st k out).0.at (told st k out).1 ≡ count_line k
+  line_told e fits =
+      let is : told st k out ≡ after true = sym (told_all st k out e) in
       let room : length (count_line k) ≤ length (sets out 0 (count_line k)) = subst (λ (p : State × List ℕ). p.0.at ≤ length p.1) is fits in
       ap (λ (p : State × List ℕ). take p.0.at p.1) is ∙ front out (count_line k) (omega (arith, room, length-sets out 0 (count_line k)))
 
-  none_told : (not st.more && not st.unread) ≡ false → take (told st k out).0.at (told st k out).1 ≡ []
+  none_told : has_ended st.input ≡ false → take (told st k out).0.at (told st k out).1 ≡ []
   none_told e = rw e
 
 module _ (first : List ℕ) where
@@ -55,7 +55,7 @@ module _ (first : List ℕ) where
         keeps = λ input st o. refl;
         ends = λ before input st o fits e. rw e;
         stays = λ before input st o e. rw e;
-        last_keeps = λ input st o. after_keeps st (counted_last input st o.0).count o.1 (not st.more && not st.unread);
+        last_keeps = λ input st o. after_keeps st (count_of (counted_last input st o.0)) o.1 (has_ended st.input);
       }
 
   none_before : (st : State) (input : List ℕ) (o : Tally × List ℕ) (ran : Ran bytes lines (fresh, first) st input o) → handed ran ≡ []
@@ -64,7 +64,7 @@ module _ (first : List ℕ) where
 
   module _ (r : State) (input out : List ℕ) (e : Ended bytes lines last (fresh, first) r input out) where
     abbrev count : Count
-    count = (counted_last input e.st e.left.0).count
+    count = count_of (counted_last input e.st e.left.0)
 
     abbrev tells : State × List ℕ
     tells = told e.st count e.left.1
@@ -74,26 +74,23 @@ module _ (first : List ℕ) where
         ap (λ (b : List ℕ). b ++ take tells.0.at out) (none_before e.st input e.left e.ran)
         ∙ ap (take tells.0.at) e.leaves
 
-    the_count : r.more ≡ false → r.unread ≡ false → handed_all e ≡ count_line (minutes (came_all e))
-    the_count no_more no-failure =
-        let ended : e.st.more ≡ false = ended_more bytes lines last (fresh, first) take_line tallied follows r input out e no_more no-failure in
-        let read : e.st.unread ≡ false = all_read bytes lines last (fresh, first) take_line tallied follows r input out e no_more no-failure in
-        let counted : (over take_line fresh (came_all e)).count ≡ count =
-        ap (λ (t : Tally). t.count) (all_handled bytes lines last (fresh, first) take_line tallied follows r input out e no_more no-failure) in
+    the_count : r.input ≡ End → handed_all e ≡ count_line (minutes (came_all e))
+    the_count to_end =
+        let ended : e.st.input ≡ End = ended_input bytes lines last (fresh, first) take_line tallied follows r input out e to_end in
+        let counted : count_of (over take_line fresh (came_all e)) ≡ count =
+        ap count_of (all_handled bytes lines last (fresh, first) take_line tallied follows r input out e to_end) in
         told_only
-        ∙ line_told e.st count e.left.1 ended read (subst (λ (l : List ℕ). tells.0.at ≤ length l) e.leaves e.fits)
+        ∙ line_told e.st count e.left.1 ended (subst (λ (l : List ℕ). tells.0.at ≤ length l) e.leaves e.fits)
         ∙ ap count_line (sym counted ∙ minutes_is (came_all e))
 
-    nothing : (not r.more && not r.unread) ≡ false → handed_all e ≡ []
+    nothing : has_ended r.input ≡ false → handed_all e ≡ []
     nothing early =
-        let more = same_more bytes lines last (fresh, first) take_line tallied follows r input out e in
-        let unread = same_unread bytes lines last (fresh, first) take_line tallied follows r input out e in
-        told_only ∙ none_told e.st count e.left.1 (rw (more, unread) at early)
+        told_only ∙ none_told e.st count e.left.1 (rw (same_input bytes lines last (fresh, first) take_line tallied follows r input out e) at early)
 
 -- `run` is lent the input and the output
 module _ (κs : _) (args : _) (r : _) (s : _) (e : run.Post κs args r s) where
-  pub hands_over_the_count : r.more ≡ false → r.unread ≡ false → handed_all e ≡ count_line (minutes (came_all e))
+  pub hands_over_the_count : r.input ≡ End → handed_all e ≡ count_line (minutes (came_all e))
   hands_over_the_count = the_count args.1.1.0.now r _ _ e
 
-  pub hands_over_nothing : (not r.more && not r.unread) ≡ false → handed_all e ≡ []
+  pub hands_over_nothing : has_ended r.input ≡ false → handed_all e ≡ []
   hands_over_nothing = nothing args.1.1.0.now r _ _ e

@@ -1,35 +1,34 @@
 -- Laws of the program's turns: it stays within its input's buffer, no more samples are inside than there are, and when the count is told. Assumes nothing.
-use mathlib.Core.Path.{◌≡◌, sym, ap, ap₂, subst, ◌∙◌}
-use mathlib.Core.Bool.{Bool, true, false, cond, not, ◌&&◌}
+use mathlib.Core.Path.{◌≡◌, sym, ap, subst, ◌∙◌}
+use mathlib.Core.Bool.{true, false}
 use mathlib.Core.List.{List}
 use Prim.Native.Nat.{ℕ}
 use native.Mathlib.Omega.{arith}
 use lib.ListN.{length, take}
 use lib.Seq.{sets, length-take-le}
 use Rattle.text.proofs.Streaming.{handled_within, handled_keeps}
+use Rattle.streams.specs.declared.Input.TheVariants.{End}
 use Rattle.streams.specs.declared.State.{State}
 use Rattle.streams.specs.State.{Within, started, goes_on, stands_at}
 use Rattle.streams.specs.Refill.{Refilled}
 use Rattle.streams.specs.Run.{Ran, begun, turn}
 use Rattle.streams.proofs.Refilling.{refilled_within}
-use Rattle.reports.specs.declared.Count.{Count}
 use Rattle.reports.specs.declared.Tally.{Tally}
-use Rattle.reports.specs.Minutes.{fresh, take_line, always, count_line}
-use Rattle.reports.proofs.Counting.{Few, take_few}
+use Rattle.reports.specs.Minutes.{Count, Few, count_of, fresh, take_line, always, count_line}
+use Rattle.reports.proofs.Counting.{take_few}
 use Rattle.minutes.specs.Counted.{counted_some, told, bytes, lines}
 
 module _ (first : List ℕ) where
   pub record Running (st : State) (input : List ℕ) (t : Tally) : Type 0 where
     pub within : Within st
     pub size : length input ≡ 65536
-    pub few : Few t
+    pub few : Few (count_of t)
     pub ran : Ran bytes lines (fresh, first) st input (t, first)
 
-  pub starts : (st : State) (input : List ℕ) (t : Tally) → st ≡ started → t ≡ fresh → length input ≡ 65536 → Running st input t
-  starts st input t e f i =
-      subst (λ (q : State). Running q input t) (sym e)
-      (subst (λ (u : Tally). Running started input u) (sym f)
-      (record { within = record { ahead = omega arith; most = omega arith }; size = i; few = omega arith; ran = begun input }))
+  pub starts : (st : State) (input : List ℕ) → st ≡ started → length input ≡ 65536 → Running st input fresh
+  starts st input e i =
+      subst (λ (q : State). Running q input fresh) (sym e)
+      (record { within = record { ahead = omega arith; most = omega arith }; size = i; few = tt; ran = begun input })
 
   module _ (st : State) (input : List ℕ) (t : Tally) (run : Running st input t) where
     pub there_is : length (take st.end input) ≡ st.end
@@ -62,21 +61,11 @@ module _ (first : List ℕ) where
           (record {
             within = refilled_within input w r after next_within g;
             size = same ∙ run.size;
-            few = handled_keeps take_line always Few (λ q l a b. take_few q l b) (take st.end input) (length (take st.end input)) st.next t run.few;
+            few = handled_keeps take_line always (λ (q : Tally). Few (count_of q)) (λ q l a b. take_few q l b) (take st.end input) (length (take st.end input)) st.next t run.few;
             ran = turn st input (t, first) false r after run.ran on (omega arith) h;
           })
 
 -- ---- whether the count is told
 module _ (st : State) (k : Count) (out : List ℕ) where
-  by_test : (b : Bool) → (not st.more && not st.unread) ≡ b
-      → told st k out ≡ cond {A = State × List ℕ} b (stands_at st st.end (length (count_line k)), sets out 0 (count_line k)) (stands_at st st.next 0, out)
-  by_test b e = ap (λ (t : Bool). cond {A = State × List ℕ} t (stands_at st st.end (length (count_line k)), sets out 0 (count_line k)) (stands_at st st.next 0, out)) e
-
-  pub told_early : st.more ≡ true → (stands_at st st.next 0, out) ≡ told st k out
-  told_early e = sym (by_test false (ap (λ (b : Bool). not b && not st.unread) e))
-
-  pub told_unread : st.more ≡ false → st.unread ≡ true → (stands_at st st.next 0, out) ≡ told st k out
-  told_unread e f = sym (by_test false (ap₂ (λ (a b : Bool). not a && not b) e f))
-
-  pub told_all : st.more ≡ false → st.unread ≡ false → (stands_at st st.end (length (count_line k)), sets out 0 (count_line k)) ≡ told st k out
-  told_all e f = sym (by_test true (ap₂ (λ (a b : Bool). not a && not b) e f))
+  pub told_all : st.input ≡ End → (stands_at st st.end (length (count_line k)), sets out 0 (count_line k)) ≡ told st k out
+  told_all e = rw e

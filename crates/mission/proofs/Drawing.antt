@@ -25,6 +25,9 @@ use Rattle.layout.proofs.Padding.{padding_stays, tail_stays}
 use Rattle.layout.proofs.Pictures.{rendered_length, shown_rendered, shown_colour}
 use Rattle.layout.proofs.Pixels.{pixels_one, pixels_none}
 use Rattle.windows.specs.Window.{in_window}
+use Rattle.std.specs.Prelude.{Result, is_some}
+use Rattle.refusals.specs.declared.Refusal.{Refusal}
+use Rattle.frames.specs.Answer as frames
 use Rattle.frames.specs.declared.Frame.{Frame}
 use Rattle.frames.specs.declared.Drawn.{Drawn}
 use Rattle.frames.specs.declared.Placed.{Placed}
@@ -37,8 +40,8 @@ use Rattle.drawing.specs.declared.Figure.{Figure}
 use Rattle.drawing.specs.declared.Figure.TheVariants.{Fill, Pixel, Line, Connected, Triangle, Outline, Circle}
 use Rattle.drawing.specs.Drawing.{in_figure, figure_drawing}
 use Rattle.headers.specs.declared.Header as headers
-use Rattle.headers.specs.Header.{header_of}
-use Rattle.headers.proofs.Forms.{header_is}
+use Rattle.headers.specs.Header.{header_of, header_said}
+use Rattle.headers.proofs.Forms.{header_is, said_header}
 use Rattle.netpbm.specs.Image.{big_first}
 use Rattle.netpbm.specs.Reading.{load_tests, file_picture, loaded}
 use Rattle.netpbm.proofs.Reading.{accepted_exactly}
@@ -53,6 +56,8 @@ use Rattle.mission.specs.Calls.{Gives}
 use Rattle.mission.specs.Counts.{Many}
 use Rattle.mission.specs.Figures.{Contains}
 use Rattle.mission.specs.Numbers.{InFrame, of_call}
+use Rattle.mission.specs.Results.{as_number, value_or, as_placed}
+use Rattle.mission.proofs.Results.{done_is, drawn_is, placed_is}
 use Rattle.mission.specs.Runs.{Made, by_set_pixel, by_fill, by_draw_line, by_draw_connected_line, by_draw_triangle, by_draw_outline, by_draw_circle, by_read_image, by_exported_set_pixel, by_exported_fill, by_exported_draw_line, by_exported_draw_connected_line, by_exported_draw_triangle, by_exported_draw_outline, by_exported_draw_circle, by_exported_read_image}
 use Rattle.mission.proofs.Answered.{yes_exactly}
 use Rattle.mission.proofs.Bytes.{pixel_place, bit_is}
@@ -79,8 +84,8 @@ module _ (f : Frame) (D : Described f) (x y : ℕ) where
   pub file_pixel : (s : List ℕ) {v : ℕ} → Gives f (read_image s) x y v → file_picture f s x y ≡ v
   unfolding row_bytes
   file_pixel s c =
-      let start : (header_of f.depth s).start ≡ c.start = ap (λ (h : headers.Header). h.start) (header_here c.header) in
-      pixel_place (big_first f) D.depth (drop (header_of f.depth s).start s) x y
+      let start : (header_said f.depth s).start ≡ c.start = ap (λ (h : headers.Header). h.start) (said_header f.depth s (header_here c.header)) in
+      pixel_place (big_first f) D.depth (drop (header_said f.depth s).start s) x y
       ∙ (λ i. colour_in f.depth true (drop (start i) s) (y * (packed_apart f.width f.depth D.depth D.width).0 i) x)
       ∙ sym c.is
 
@@ -94,8 +99,8 @@ module _ (f : Frame) (n x y : ℕ) where
   unfolding load_tests
   file_gives s z =
       let p = (accepted_exactly f n s).0 z in
-      let H = header_of f.depth s in
-      let ok : H.ok ≡ true = ap (λ (h : headers.Header). h.ok) ((header_is f.depth s p.1.width p.1.height p.1.start).1 p.1.formed) in (
+      let H = header_said f.depth s in
+      let ok : is_some (header_of f.depth s) ≡ true = ap is_some ((header_is f.depth s p.1.width p.1.height p.1.start).1 p.1.formed) in (
         colour_in f.depth true (drop H.start s) (y * row_takes f) x,
         record { w = H.width; h = H.height; start = H.start; header = header_there (has_format f p.0.format) ok; is = refl },
       )
@@ -215,16 +220,25 @@ places_called f p colour b {r} h =
 loads_called : (f : Frame) (s b : List ℕ) {n : ℕ} {after : List ℕ} → ◌≡◌ {A = ℕ × List ℕ} (n, after) (loaded f s b) → DoesCalled f (read_image s) b n 0 after
 loads_called f s b h = called f (read_image s) b (loads_does f s b h) (λ k. refl) (λ z A. refl)
 
+-- of the library's functions, whose answers are read by number and value
+draws_counted : (f : Frame) (g : Figure) (colour : ℕ) (b : List ℕ) (r : Result ℕ Refusal) {after : List ℕ} → ◌≡◌ {A = Drawn × List ℕ} (frames.as_drawn r, after) (outcome f (figure_drawing g colour) b)
+    → DoesCalled f (draw g colour) b (as_number r) (value_or 0 r) after
+draws_counted f g colour b r {after} h = draws_called f g colour b (ap (λ (d : Drawn). (d, after)) (drawn_is r) ∙ h)
+
+places_counted : (f : Frame) (p : Point) (colour : ℕ) (b : List ℕ) (r : Result Bool Refusal) {after : List ℕ} → ◌≡◌ {A = Placed × List ℕ} (frames.as_placed r, after) (pixel_outcome f p colour b)
+    → DoesCalled f (draw (Pixel p) colour) b (as_number r) (cond (value_or false r) 1 0) after
+places_counted f p colour b r {after} h = places_called f p colour b (ap (λ (q : Placed). (q, after)) (placed_is r) ∙ h)
+
 -- whichever function makes it
 made : {f : Frame} {o : Call} {b after : List ℕ} {n count : ℕ} → Made f o b n count after → DoesCalled f o b n count after
-made (by_set_pixel κs a r s h) = places_called _ _ _ a.0.now h
-made (by_fill κs a r s h) = draws_called _ Fill _ a.0.now h
-made (by_draw_line κs a r s h) = draws_called _ (Line _ _) _ a.0.now h
-made (by_draw_connected_line κs a r s h) = draws_called _ (Connected _ _) _ a.0.now h
-made (by_draw_triangle κs a r s h) = draws_called _ (Triangle _ _ _) _ a.0.now h
-made (by_draw_outline κs a r s h) = draws_called _ (Outline _ _ _) _ a.0.now h
-made (by_draw_circle κs a r s h) = draws_called _ (Circle _ _) _ a.0.now h
-made (by_read_image κs a r s h) = loads_called _ a.1.1.0.now a.0.now h
+made (by_set_pixel κs a r s h) = places_counted _ _ _ a.0.now r h
+made (by_fill κs a r s h) = draws_counted _ Fill _ a.0.now r h
+made (by_draw_line κs a r s h) = draws_counted _ (Line _ _) _ a.0.now r h
+made (by_draw_connected_line κs a r s h) = draws_counted _ (Connected _ _) _ a.0.now r h
+made (by_draw_triangle κs a r s h) = draws_counted _ (Triangle _ _ _) _ a.0.now r h
+made (by_draw_outline κs a r s h) = draws_counted _ (Outline _ _ _) _ a.0.now r h
+made (by_draw_circle κs a r s h) = draws_counted _ (Circle _ _) _ a.0.now r h
+made (by_read_image κs a r s h) = loads_called _ a.1.1.0.now a.0.now (ap (λ (n : ℕ). (n, s.0.now)) (done_is r) ∙ h)
 made (by_exported_set_pixel κs a r s h) = places_called _ _ _ a.0.now h
 made (by_exported_fill κs a r s h) = draws_called _ Fill _ a.0.now h
 made (by_exported_draw_line κs a r s h) = draws_called _ (Line _ _) _ a.0.now h
@@ -242,13 +256,13 @@ pub every_call : {f : Frame} {o : Call} {b after : List ℕ} {n count : ℕ} →
 every_call m = (made m).1
 
 -- ---- WHETHER A PIXEL THAT IS SET WAS INSIDE
-inside_is : (f : Frame) (p : Point) (colour : ℕ) (b : List ℕ) {r : Placed} {after : List ℕ} → ◌≡◌ {A = Placed × List ℕ} (r, after) (pixel_outcome f p colour b) → Inside f p r
+set_is : (f : Frame) (p : Point) (colour : ℕ) (b : List ℕ) {r : Placed} {after : List ℕ} → ◌≡◌ {A = Placed × List ℕ} (r, after) (pixel_outcome f p colour b) → Inside f p r
 unfolding pixel_outcome
-inside_is f p colour b {r} h =
+set_is f p colour b {r} h =
     let is : r.number ≡ first (call_tests f (length b) (figure_drawing (Pixel p) colour)) = ap (λ (q : Placed × List ℕ). q.0.number) h in
     let inside = ap (λ (q : Placed × List ℕ). q.0.inside) h in
     (λ k. inside ∙ not_done (λ z. k (is ∙ z)) _ false, λ z. yes_exactly (inside ∙ is_done (sym is ∙ z) _ false) (in_frame_decides f p))
 
 pub set_inside :
-    Promises set_pixel.Post (λ a r. Inside a.1.0 a.1.1.0 r) × Promises exported_set_pixel.Post (λ a r. Inside (framed a.1) (one (behind a.1)) r)
-set_inside = (λ κs a r s h. inside_is _ _ a.1.1.1.0 a.0.now h, λ κs a r s h. inside_is _ _ (behind a.1).1.1.0 a.0.now h)
+    Promises set_pixel.Post (λ a r. Inside a.1.0 a.1.1.0 (as_placed r)) × Promises exported_set_pixel.Post (λ a r. Inside (framed a.1) (one (behind a.1)) r)
+set_inside = (λ κs a r s h. set_is _ _ a.1.1.1.0 a.0.now (ap (λ (q : Placed). (q, s.0.now)) (placed_is r) ∙ h), λ κs a r s h. set_is _ _ (behind a.1).1.1.0 a.0.now h)

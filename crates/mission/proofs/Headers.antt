@@ -5,12 +5,13 @@ use mathlib.Core.List.{List, [], ◌∷◌, ◌++◌, append_assoc}
 use mathlib.Core.Logic.{◌⊎◌, inl, inr, ⊎_elim}
 use Prim.Native.Nat.{ℕ}
 use lib.Dec.{eqb}
+use Rattle.std.specs.Prelude.{Some, is_some}
 use Rattle.whole.proofs.Decides.{Decides, decides_map, decides_or, decides_eqb, decides_yes}
 use Rattle.whole.proofs.Tests.{and_true, true_and}
 use Rattle.text.specs.Show.{shown}
-use Rattle.headers.specs.Header.{kind, maximum, header_bytes, is_space, headed, header_of}
+use Rattle.headers.specs.Header.{kind, maximum, header_bytes, is_space, headed, header_of, header_said}
 use Rattle.headers.specs.Grammar.{every, Entry, Ending, WellFormed}
-use Rattle.headers.proofs.Forms.{header_is}
+use Rattle.headers.proofs.Forms.{header_is, header_found}
 use Rattle.mission.specs.Files.{Each, none, more, Kind, HeaderText, White, Field, Format, p4, p5, p6, Header}
 use Rattle.mission.proofs.Decimals.{each_digit, digit_each, meaning_is, one_decimal, decimal_shown}
 
@@ -105,13 +106,13 @@ header_formed H =
     }
 
 -- what is read is what the file has
-pub header_here : {d : ℕ} {s : List ℕ} {w h n : ℕ} → Header d s w h n → header_of d s ≡ headed true w h n
+pub header_here : {d : ℕ} {s : List ℕ} {w h n : ℕ} → Header d s w h n → header_of d s ≡ Some (headed w h n)
 header_here {d} {s} {w} {h} {n} H = (header_is d s w h n).1 (header_formed H)
 
-pub header_there : {d : ℕ} {s : List ℕ} → HasFormat d → (header_of d s).ok ≡ true → Header d s (header_of d s).width (header_of d s).height (header_of d s).start
+pub header_there : {d : ℕ} {s : List ℕ} → HasFormat d → is_some (header_of d s) ≡ true → Header d s (header_said d s).width (header_said d s).height (header_said d s).start
 header_there {d} {s} g e =
-    let H = header_of d s in
-    formed_header g ((header_is d s H.width H.height H.start).0 (λ i. record { ok = e i; width = H.width; height = H.height; start = H.start }))
+    let H = header_said d s in
+    formed_header g ((header_is d s H.width H.height H.start).0 (header_found d s e))
 
 -- ---- THE HEADER AS IT IS WRITTEN
 join : (s t u : List ℕ) (a b : ℕ) → (s ++ (a ∷ [])) ++ ((t ++ (b ∷ [])) ++ u) ≡ s ++ (a ∷ (t ++ (b ∷ u)))

@@ -37,6 +37,7 @@ use Rattle.mission.proofs.Answered.{answered_both}
 use Rattle.mission.proofs.Bytes.{pixel_place, bit_is}
 use Rattle.mission.proofs.Drawing.{file_gives, file_pixel, made_does}
 use Rattle.mission.proofs.Headers.{HasFormat, header_text}
+use Rattle.mission.proofs.Results.{size_is}
 use Rattle.mission.proofs.Numbers.{asked, format_decides, has_format, frame_asked, frame_accepted, pixels_take, room_decides}
 
 get_d_zeros : (n i : ℕ) → ◌≡◌ {A = ℕ} (get_or (replicate n 0) i 0) 0
@@ -117,7 +118,7 @@ written_is f b out h =
     rest = (10, no_format f) ∷ (9, no_room f (length out)) ∷ []
 
 of_written : {f : Frame} {b out after : List ℕ} {r : Size} → Written f b out r after → ◌≡◌ {A = Size × List ℕ} (r, after) (written f b out)
-of_written (by_write_image κs a r s h) = h
+of_written (by_write_image κs a r s h) = ap (λ (q : Size). (q, s.1.1.0.now)) (size_is r) ∙ h
 of_written (by_exported_write_image κs a r s h) = h
 
 -- T-01

@@ -13,3 +13,4 @@ pub mod OnePicture
 pub mod Images
 pub mod Outlines
 pub mod Gapless
+pub mod Results

@@ -9,6 +9,7 @@ use lib.IntN.{pos, negsuc, ◌+ℤ◌}
 use lib.ListN.{length}
 use lib.Signed.{◌≤ℤ◌}
 use borrow.Author.Tests.{ltb-false, not-false}
+use Rattle.std.specs.Prelude.{is_some, is_none}
 use Rattle.whole.proofs.Decides.{Decides, always, never, decides_map, decides_and, decides_or, decides_eqb, decides_leb, decides_ltb, decides_le, decides_lt, decides_between, decides_no}
 use Rattle.whole.proofs.Tests.{or_false}
 use Rattle.refusals.specs.First.{Tests, first}
@@ -28,7 +29,7 @@ use Rattle.drawing.specs.declared.Figure.{Figure}
 use Rattle.drawing.specs.declared.Figure.TheVariants.{Fill, Pixel, Line, Connected, Triangle, Outline, Circle}
 use Rattle.drawing.specs.Drawing.{own_tests}
 use Rattle.headers.specs.declared.Header as headers
-use Rattle.headers.specs.Header.{header_bytes, header_of}
+use Rattle.headers.specs.Header.{header_bytes, header_of, header_said}
 use Rattle.netpbm.specs.Image.{header, big_first, image_length}
 use Rattle.netpbm.specs.Written.{no_format, no_room}
 use Rattle.netpbm.specs.Reading.{other_size, few_pixels, file_tests}
@@ -36,6 +37,7 @@ use Rattle.picture.specs.Calls.{Call, draw, read_image, number_of}
 use Rattle.mission.specs.Bytes.{row_takes}
 use Rattle.mission.specs.Calls.{Accepts}
 use Rattle.mission.specs.Numbers.{NoDepth, TooLarge, BadDistance, TooShort, InFrame, NoFormat, FileTakes, NoRoom, Says, NoHeader, OtherSize, TooFew, Far, Test, applies, passes, done, description, frame, ends, vertices, circle, of_figure, of_call}
+use Rattle.headers.proofs.Forms.{said_header}
 use Rattle.mission.proofs.Headers.{HasFormat, header_text, one_text, header_here, header_there}
 
 -- ---- one test
@@ -144,22 +146,25 @@ module _ (f : Frame) where
   -- ---- of a file that is read
   module _ (s : List ℕ) (g : HasFormat f.depth) where
     abbrev head : headers.Header
-    head = header_of f.depth s
+    head = header_said f.depth s
 
-    header_decides : Decides (not head.ok) (NoHeader f s)
-    header_decides = by head.ok refl
+    abbrev ok : Bool
+    ok = is_some (header_of f.depth s)
+
+    header_decides : Decides (not ok) (NoHeader f s)
+    header_decides = by ok refl
       where
-        by : (t : Bool) → head.ok ≡ t → Decides (not t) (NoHeader f s)
+        by : (t : Bool) → ok ≡ t → Decides (not t) (NoHeader f s)
         by true e = never (λ n. n _ _ _ (header_there g e))
-        by false e = always (λ w h n H. true≢false (sym (ap (λ (h : headers.Header). h.ok) (header_here H)) ∙ e))
+        by false e = always (λ w h n H. true≢false (sym (ap is_some (header_here H)) ∙ e))
 
-    says_decides : {t : Bool} (P : ℕ → ℕ → ℕ → Type 0) → head.ok ≡ true → Decides t (P head.width head.height head.start) → Decides t (Says f s P)
+    says_decides : {t : Bool} (P : ℕ → ℕ → ℕ → Type 0) → ok ≡ true → Decides t (P head.width head.height head.start) → Decides t (Says f s P)
     says_decides P e d =
         decides_map d (λ p. record { w = head.width; h = head.height; start = head.start; header = header_there g e; is = p })
-        (λ S. subst (λ (h : headers.Header). P h.width h.height h.start) (sym (header_here S.header)) S.is)
+        (λ S. subst (λ (h : headers.Header). P h.width h.height h.start) (sym (said_header f.depth s (header_here S.header))) S.is)
 
     pub file_asked : Described f → (Test 11 (NoHeader f s) (Test 13 (OtherSize f s) (Test 12 (TooFew f s) done)))
-        (first ((11, not head.ok) ∷ (13, other_size f head) ∷ (12, few_pixels f (length s) head) ∷ []))
+        (first ((11, is_none (header_of f.depth s)) ∷ (13, other_size f head) ∷ (12, few_pixels f (length s) head) ∷ []))
     file_asked D =
         asked _ _ header_decides (λ e.
         asked _ _ (says_decides (λ w h start. (w ≡ f.width) × (h ≡ f.height) → ⊥) (not-false _ e) (decides_not (decides_and _ _ (decides_eqb head.width f.width) (decides_eqb head.height f.height))))

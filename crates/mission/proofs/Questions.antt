@@ -16,7 +16,7 @@ use Rattle.geometry.specs.declared.Verdict.{Verdict}
 use Rattle.geometry.specs.declared.Span.{Span}
 use Rattle.geometry.specs.Answer.{verdict, span}
 use Rattle.line.specs.declared.Length.{Length}
-use Rattle.line.specs.declared.Step.{Step}
+use Rattle.line.specs.Answer as line
 use Rattle.line.specs.Line.{major, points, point_at, has_point}
 use Rattle.line.specs.Answer.{end_tests, step_tests, length_answer, step_answer}
 use Rattle.line.proofs.Refusals.{end_numbered}
@@ -78,6 +78,8 @@ use Rattle.mission.specs.Bytes.{colour_of}
 use Rattle.mission.specs.Counts.{Many}
 use Rattle.mission.specs.Figures.{larger, smaller, RowSpan, CircleSpan}
 use Rattle.mission.specs.Numbers.{FileTakes}
+use Rattle.mission.specs.Results.{as_number, point_of, as_length, as_verdict, as_span, as_rows, as_size, as_read, as_lights}
+use Rattle.mission.proofs.Results as answer
 use Rattle.mission.proofs.Answered.{answered, answered_both, yes_exactly}
 use Rattle.mission.proofs.Bytes.{pixel_place}
 use Rattle.mission.proofs.Counts.{counts_many}
@@ -101,10 +103,10 @@ module _ (s e : Point) where
   unfolding end_tests
   length_is h = subst (LineLength s e) (sym h) (answered (ends_asked s e [] refl) (λ z. z) (λ z v. v ∙ ap (λ (n : ℕ). n + 1) (larger_is s e)))
 
-  step_is : (k : ℕ) {r : Step} → r ≡ step_answer (first (step_tests s e k)) (point_at s e k) → LinePoint s e k r.number r.point
+  step_is : (k : ℕ) {r : line.Step} → r ≡ step_answer (first (step_tests s e k)) (point_at s e k) → LinePoint s e k r.number r.point
   unfolding step_tests
   step_is k h =
-      subst (λ (r : Step). LinePoint s e k r.number r.point) (sym h)
+      subst (λ (r : line.Step). LinePoint s e k r.number r.point) (sym h)
       (answered (ends_asked s e ((7, ltb (major s e) k) ∷ []) (asked _ _ (last k) (λ z. refl))) (λ z. z) (λ z v. v ∙ point_is s e k))
     where
       last : (k : ℕ) → Decides (ltb (major s e) k) (larger s e < k)
@@ -114,10 +116,10 @@ module _ (s e : Point) where
   unfolding end_tests
   trace_length_is h = subst (TraceLength s e) (sym h) (answered (ends_asked s e [] refl) (λ z. z) (λ z v. v ∙ ap₂ (λ (x y : ℕ). x + y + 1) (larger_is s e) (smaller_is s e)))
 
-  index_is : (i : ℕ) {r : Step} → r ≡ step_answer (first (index_tests s e i)) (connected_at s e i) → TracePoint s e i r.number r.point
+  index_is : (i : ℕ) {r : line.Step} → r ≡ step_answer (first (index_tests s e i)) (connected_at s e i) → TracePoint s e i r.number r.point
   unfolding index_tests
   index_is i h =
-      subst (λ (r : Step). TracePoint s e i r.number r.point) (sym h)
+      subst (λ (r : line.Step). TracePoint s e i r.number r.point) (sym h)
       (answered (ends_asked s e ((7, ltb (last_index s e) i) ∷ []) (asked _ _ last (λ z. refl))) (λ z. z)
       (λ z v. subst (AtIndex s e i) (sym v) (at_index s e i (walked z))))
     where
@@ -136,33 +138,33 @@ module _ (s e : Point) where
   trace_has_is p h = decided (ends_asked s e [] refl) (trace_decides s e p) h
 
 -- the functions of `beamacorn` answer a point by its coordinates
-plain_is : {q : Step} {r : exported.Step} → r ≡ plain_step q → (claim : ℕ → Point → Type 0) → claim q.number q.point → claim r.number (r.x, r.y)
+plain_is : {q : line.Step} {r : exported.Step} → r ≡ plain_step q → (claim : ℕ → Point → Type 0) → claim q.number q.point → claim r.number (r.x, r.y)
 plain_is h claim c = subst (λ (r : exported.Step). claim r.number (r.x, r.y)) (sym h) c
 
-pub line_length : Promises major_length.Post (λ a r. LineLength a.0 a.1.0 r) × Promises exported_line_length.Post (λ a r. LineLength (one a) (two a) r)
-line_length = (λ κs a r s h. length_is _ _ h, λ κs a r s h. length_is _ _ h)
+pub line_length : Promises major_length.Post (λ a r. LineLength a.0 a.1.0 (as_length r)) × Promises exported_line_length.Post (λ a r. LineLength (one a) (two a) r)
+line_length = (λ κs a r s h. length_is _ _ (answer.length_is r ∙ h), λ κs a r s h. length_is _ _ h)
 
 pub line_point :
-    Promises point_of_line.Post (λ a r. LinePoint a.0 a.1.0 a.1.1.0 r.number r.point)
+    Promises point_of_line.Post (λ a r. LinePoint a.0 a.1.0 a.1.1.0 (as_number r) (point_of r))
     × Promises exported_line_point.Post (λ a r. LinePoint (one a) (two a) a.1.1.1.1.0 r.number (r.x, r.y))
-line_point = (λ κs a r s h. step_is _ _ _ h, λ κs a r s h. plain_is h (LinePoint (one a) (two a) a.1.1.1.1.0) (step_is _ _ _ refl))
+line_point = (λ κs a r s h. step_is _ _ _ (answer.step_is r ∙ h), λ κs a r s h. plain_is h (LinePoint (one a) (two a) a.1.1.1.1.0) (step_is _ _ _ refl))
 
 pub line_has_point :
-    Promises has_point_of_line.Post (λ a r. LineHas a.0 a.1.0 a.1.1.0 r) × Promises exported_line_has_point.Post (λ a r. LineHas (one a) (two a) (three a) r)
-line_has_point = (λ κs a r s h. has_is _ _ _ h, λ κs a r s h. has_is _ _ _ h)
+    Promises has_point_of_line.Post (λ a r. LineHas a.0 a.1.0 a.1.1.0 (as_verdict r)) × Promises exported_line_has_point.Post (λ a r. LineHas (one a) (two a) (three a) r)
+line_has_point = (λ κs a r s h. has_is _ _ _ (answer.verdict_is r ∙ h), λ κs a r s h. has_is _ _ _ h)
 
 pub connected_length :
-    Promises length_of_trace.Post (λ a r. TraceLength a.0 a.1.0 r) × Promises exported_connected_length.Post (λ a r. TraceLength (one a) (two a) r)
-connected_length = (λ κs a r s h. trace_length_is _ _ h, λ κs a r s h. trace_length_is _ _ h)
+    Promises length_of_trace.Post (λ a r. TraceLength a.0 a.1.0 (as_length r)) × Promises exported_connected_length.Post (λ a r. TraceLength (one a) (two a) r)
+connected_length = (λ κs a r s h. trace_length_is _ _ (answer.length_is r ∙ h), λ κs a r s h. trace_length_is _ _ h)
 
 pub connected_point :
-    Promises point_of_trace.Post (λ a r. TracePoint a.0 a.1.0 a.1.1.0 r.number r.point)
+    Promises point_of_trace.Post (λ a r. TracePoint a.0 a.1.0 a.1.1.0 (as_number r) (point_of r))
     × Promises exported_connected_point.Post (λ a r. TracePoint (one a) (two a) a.1.1.1.1.0 r.number (r.x, r.y))
-connected_point = (λ κs a r s h. index_is _ _ _ h, λ κs a r s h. plain_is h (TracePoint (one a) (two a) a.1.1.1.1.0) (index_is _ _ _ refl))
+connected_point = (λ κs a r s h. index_is _ _ _ (answer.step_is r ∙ h), λ κs a r s h. plain_is h (TracePoint (one a) (two a) a.1.1.1.1.0) (index_is _ _ _ refl))
 
 pub connected_has_point :
-    Promises has_point_of_trace.Post (λ a r. TraceHas a.0 a.1.0 a.1.1.0 r) × Promises exported_connected_has_point.Post (λ a r. TraceHas (one a) (two a) (three a) r)
-connected_has_point = (λ κs a r s h. trace_has_is _ _ _ h, λ κs a r s h. trace_has_is _ _ _ h)
+    Promises has_point_of_trace.Post (λ a r. TraceHas a.0 a.1.0 a.1.1.0 (as_verdict r)) × Promises exported_connected_has_point.Post (λ a r. TraceHas (one a) (two a) (three a) r)
+connected_has_point = (λ κs a r s h. trace_has_is _ _ _ (answer.verdict_is r ∙ h), λ κs a r s h. trace_has_is _ _ _ h)
 
 -- ---- TRIANGLES
 module _ (v1 v2 v3 : Point) where
@@ -177,18 +179,18 @@ module _ (v1 v2 v3 : Point) where
   span_is y h = spanned (RowSpan v1 v2 v3 y) (vertices_asked v1 v2 v3) (row_is v1 v2 v3 y) h
 
 pub triangle_contains :
-    Promises contains_of_triangle.Post (λ a r. TriangleHas a.0 a.1.0 a.1.1.0 a.1.1.1.0 r)
+    Promises contains_of_triangle.Post (λ a r. TriangleHas a.0 a.1.0 a.1.1.0 a.1.1.1.0 (as_verdict r))
     × Promises exported_triangle_contains.Post (λ a r. TriangleHas (one a) (two a) (three a) (four a) r)
-triangle_contains = (λ κs a r s h. contains_is _ _ _ _ h, λ κs a r s h. contains_is _ _ _ _ h)
+triangle_contains = (λ κs a r s h. contains_is _ _ _ _ (answer.verdict_is r ∙ h), λ κs a r s h. contains_is _ _ _ _ h)
 
 pub triangle_rows :
-    Promises rows_of_triangle.Post (λ a r. TriangleRows a.0 a.1.0 a.1.1.0 r) × Promises exported_triangle_rows.Post (λ a r. TriangleRows (one a) (two a) (three a) r)
-triangle_rows = (λ κs a r s h. rows_are _ _ _ h, λ κs a r s h. rows_are _ _ _ h)
+    Promises rows_of_triangle.Post (λ a r. TriangleRows a.0 a.1.0 a.1.1.0 (as_rows r)) × Promises exported_triangle_rows.Post (λ a r. TriangleRows (one a) (two a) (three a) r)
+triangle_rows = (λ κs a r s h. rows_are _ _ _ (answer.rows_are r ∙ h), λ κs a r s h. rows_are _ _ _ h)
 
 pub triangle_row_span :
-    Promises span_of_triangle.Post (λ a r. TriangleSpan a.0 a.1.0 a.1.1.0 a.1.1.1.0 r)
+    Promises span_of_triangle.Post (λ a r. TriangleSpan a.0 a.1.0 a.1.1.0 a.1.1.1.0 (as_span r))
     × Promises exported_triangle_row_span.Post (λ a r. TriangleSpan (one a) (two a) (three a) a.1.1.1.1.1.1.0 r)
-triangle_row_span = (λ κs a r s h. span_is _ _ _ _ h, λ κs a r s h. span_is _ _ _ _ h)
+triangle_row_span = (λ κs a r s h. span_is _ _ _ _ (answer.span_is r ∙ h), λ κs a r s h. span_is _ _ _ _ h)
 
 -- ---- CIRCLES
 module _ (c : Point) (d : ℕ) where
@@ -199,12 +201,12 @@ module _ (c : Point) (d : ℕ) where
   circle_span y h = spanned (CircleSpan c d y) (circle_asked c d) (circle_row_lem c d y) h
 
 pub circle_contains :
-    Promises contains_of_circle.Post (λ a r. CircleHas a.0 a.1.0 a.1.1.0 r) × Promises exported_circle_contains.Post (λ a r. CircleHas (one a) a.1.1.0 (one a.1.1.1) r)
-circle_contains = (λ κs a r s h. in_circle a.0 a.1.0 a.1.1.0 h, λ κs a r s h. in_circle (one a) a.1.1.0 (one a.1.1.1) h)
+    Promises contains_of_circle.Post (λ a r. CircleHas a.0 a.1.0 a.1.1.0 (as_verdict r)) × Promises exported_circle_contains.Post (λ a r. CircleHas (one a) a.1.1.0 (one a.1.1.1) r)
+circle_contains = (λ κs a r s h. in_circle a.0 a.1.0 a.1.1.0 (answer.verdict_is r ∙ h), λ κs a r s h. in_circle (one a) a.1.1.0 (one a.1.1.1) h)
 
 pub circle_row_span :
-    Promises span_of_circle.Post (λ a r. CircleRow a.0 a.1.0 a.1.1.0 r) × Promises exported_circle_row_span.Post (λ a r. CircleRow (one a) a.1.1.0 a.1.1.1.0 r)
-circle_row_span = (λ κs a r s h. circle_span _ _ _ h, λ κs a r s h. circle_span _ _ _ h)
+    Promises span_of_circle.Post (λ a r. CircleRow a.0 a.1.0 a.1.1.0 (as_span r)) × Promises exported_circle_row_span.Post (λ a r. CircleRow (one a) a.1.1.0 a.1.1.1.0 r)
+circle_row_span = (λ κs a r s h. circle_span _ _ _ (answer.span_is r ∙ h), λ κs a r s h. circle_span _ _ _ h)
 
 -- ---- FRAMES
 module _ (f : Frame) where
@@ -239,16 +241,16 @@ module _ (f : Frame) where
       (λ z v. let p = both_pass (description_tests f) ((10, no_format f) ∷ []) (description_numbered f) z in
       subst (FileTakes f) (sym v) (file_takes f (is_described f p.0) (has_format f (fails_alone 9 (no_format f) p.1)))))
 
-pub frame_size : Promises buffer_size_bpp.Post (λ a r. FrameSize a.0 r) × Promises exported_frame_size.Post (λ a r. FrameSize (unordered a) r)
-frame_size = (λ κs a r s h. size_is _ h, λ κs a r s h. size_is _ h)
+pub frame_size : Promises buffer_size_bpp.Post (λ a r. FrameSize a.0 (as_size r)) × Promises exported_frame_size.Post (λ a r. FrameSize (unordered a) r)
+frame_size = (λ κs a r s h. size_is _ (answer.size_is r ∙ h), λ κs a r s h. size_is _ h)
 
 pub pixel_read :
-    Promises pixel_of_frame.Post (λ a r. PixelRead a.1.0 a.0.now a.1.1.0 r)
+    Promises pixel_of_frame.Post (λ a r. PixelRead a.1.0 a.0.now a.1.1.0 (as_read r))
     × Promises exported_pixel.Post (λ a r. PixelRead (framed a.1) a.0.now (one (behind a.1)) r)
-pixel_read = (λ κs a r s h. pixel_is _ a.0.now _ h, λ κs a r s h. pixel_is _ a.0.now _ h)
+pixel_read = (λ κs a r s h. pixel_is _ a.0.now _ (answer.read_is r ∙ h), λ κs a r s h. pixel_is _ a.0.now _ h)
 
-pub pixels_lit : Promises lit_of_frame.Post (λ a r. PixelsLit a.1.0 a.0.now r) × Promises exported_lit.Post (λ a r. PixelsLit (framed a.1) a.0.now r)
-pixels_lit = (λ κs a r s h. lit_is _ a.0.now h, λ κs a r s h. lit_is _ a.0.now h)
+pub pixels_lit : Promises lit_of_frame.Post (λ a r. PixelsLit a.1.0 a.0.now (as_lights r)) × Promises exported_lit.Post (λ a r. PixelsLit (framed a.1) a.0.now r)
+pixels_lit = (λ κs a r s h. lit_is _ a.0.now (answer.lights_is r ∙ h), λ κs a r s h. lit_is _ a.0.now h)
 
-pub image_size : Promises size_of_image.Post (λ a r. ImageSize a.0 r) × Promises exported_image_size.Post (λ a r. ImageSize (unordered a) r)
-image_size = (λ κs a r s h. image_size_is _ h, λ κs a r s h. image_size_is _ h)
+pub image_size : Promises size_of_image.Post (λ a r. ImageSize a.0 (as_size r)) × Promises exported_image_size.Post (λ a r. ImageSize (unordered a) r)
+image_size = (λ κs a r s h. image_size_is _ (answer.size_is r ∙ h), λ κs a r s h. image_size_is _ h)

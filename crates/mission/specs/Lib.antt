@@ -7,4 +7,5 @@ pub mod Calls
 pub mod Answers
 pub mod Before
 pub mod Arguments
+pub mod Results
 pub mod Runs

@@ -1,6 +1,6 @@
 // What was asked, in its own words, held over the code: the mission's three demands, the rules that they lean on (01) and the requests T-01, T-02 and T-04 to T-07 (02). No product code
 // stands here. specs/ is the text to believe: it uses none of the library's definitions but those of a place (Point), a frame's numbers (Frame), a call's arguments (Call, Figure)
-// and the fields of the answers.
+// and the fields of the answers, a refusal's name among them.
 //   Figures    which pixels a line, a triangle, an outline, a circle and a connected line have, and the spans of their rows
 //   Bytes      where a pixel stands, at each of the seven depths and in both orders, and what never changes
 //   Files      the header of an image file, as it is written and as it is read
@@ -8,6 +8,7 @@
 //   Counts     how many pixels there are of a kind
 //   Calls      when a call is accepted, which colour it gives a pixel, and the last accepted call whose figure contains it
 //   Answers    what each operation answers and leaves; Before, the same before rows had a distance
+//   Results    what a function of the library answers, by its number and its value
 //   Arguments  the arguments of `beamacorn`'s functions by their place, and what it is that a contract promises
 //   Runs       calls as they are made, by the library's functions and those of `beamacorn` in any mix
 // What is said of `beamacorn`'s functions holds of the exported ones, whose contracts are theirs: beamacorn_c/proofs/Same.antt.

@@ -1,12 +1,13 @@
 -- How long a header is, and that it is read back. Assumes nothing.
 use mathlib.Core.Path.{◌≡◌, sym, ap, ◌∙◌}
 use mathlib.Core.Logic.{⊎_elim}
-use mathlib.Core.Bool.{Bool, true, cond}
+use mathlib.Core.Bool.{Bool, cond}
 use mathlib.Core.List.{List, [], ◌++◌, append-nil, append_assoc}
 use Prim.Native.Nat.{ℕ, ◌+◌, ◌^◌, ◌≤◌, ◌<◌}
 use native.Mathlib.Omega.{arith}
 use lib.ListN.{length, length-append}
 use borrow.Author.Tests.{eq-eqb, ne_eqb}
+use Rattle.std.specs.Prelude.{Some}
 use Rattle.whole.proofs.Tests.{eq_or_not}
 use Rattle.text.specs.Show.{shown}
 use Rattle.text.specs.Words.{numbered}
@@ -65,6 +66,6 @@ module _ (f : Frame) where
       most d = ⊎_elim (λ e. rw (no_maximum d e) (omega arith)) (λ n. rw (a_maximum d n) (omega arith)) (eq_or_not d 1)
 
 -- ---- whatever follows it, it is read back
-pub header_says : (f : Frame) → Described f → (t : List ℕ) → header_of f.depth (header f ++ t) ≡ headed true f.width f.height (length (header f))
+pub header_says : (f : Frame) → Described f → (t : List ℕ) → header_of f.depth (header f ++ t) ≡ Some (headed f.width f.height (length (header f)))
 unfolding header
 header_says f D = written_header f.depth f.width f.height (omega (arith, D.width)) (omega (arith, D.height))

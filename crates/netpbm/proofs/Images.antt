@@ -10,7 +10,8 @@ use lib.Dec.{eqb}
 use lib.ListN.{length, drop, get_or, replicate, length-append, length-replicate}
 use lib.Seq.{drop-append_seam}
 use Rattle.headers.specs.declared.Header.{Header}
-use Rattle.headers.specs.Header.{kind, header_of}
+use Rattle.headers.specs.Header.{kind, header_said}
+use Rattle.headers.proofs.Forms.{said_header}
 use Rattle.layout.specs.Layout.{shown}
 use Rattle.layout.proofs.Pictures.{Agree, one_picture, shown_colour}
 use Rattle.frames.specs.declared.Frame.{Frame}
@@ -63,7 +64,7 @@ unfolding image_bytes header
 one_file_one_size f g F G a b e =
     let same : kind f.depth ≡ kind g.depth = ap (λ (s : List ℕ). get_or s 1 0) e in
     let d : f.depth ≡ g.depth = sym (depth_back f F) ∙ ap depth_of same ∙ depth_back g G in
-    let h = sym (header_says f F.accepted.described (pixels f a)) ∙ ap₂ header_of d e ∙ header_says g G.accepted.described (pixels g b) in
+    let h = sym (said_header f.depth (image_bytes f a) (header_says f F.accepted.described (pixels f a))) ∙ ap₂ header_said d e ∙ said_header g.depth (image_bytes g b) (header_says g G.accepted.described (pixels g b)) in
     (ap (λ (H : Header). H.width) h, ap (λ (H : Header). H.height) h, d)
 
 -- ---- a file is as long as is said beforehand, whatever the buffer holds

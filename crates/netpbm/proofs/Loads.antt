@@ -1,18 +1,19 @@
 -- The number of reading as the code comes to it, test by test, what it says that it is 0, and the answer. Assumes nothing.
 use mathlib.Core.Path.{◌≡◌, refl, sym, ap, ◌∙◌}
-use mathlib.Core.Bool.{true, false, not}
+use mathlib.Core.Bool.{true, false}
 use mathlib.Core.List.{List, [], ◌∷◌}
 use Prim.Native.Nat.{ℕ, ◌+◌, ◌≤◌, ◌<◌}
 use lib.Dec.{eqb}
 use lib.ListN.{length}
 use borrow.Author.Tests.{lt-ltb, le-ltb, ltb-false, eqb-true, not-false}
+use Rattle.std.specs.Prelude.{Option, Some, None, is_some, is_none, unwrap_or}
 use Rattle.whole.proofs.Tests.{and_true}
 use Rattle.refusals.specs.Answer.{if_done}
 use Rattle.refusals.proofs.Answer.{not_done, is_done}
 use Rattle.refusals.specs.First.{Tests, first}
-use Rattle.refusals.proofs.First.{exactly_0, both_pass, refused, passed, stops, goes_on}
+use Rattle.refusals.proofs.First.{exactly_0, both_pass, passed, stops, goes_on}
 use Rattle.headers.specs.declared.Header.{Header}
-use Rattle.headers.specs.Header.{header_of}
+use Rattle.headers.specs.Header.{headed, header_of, header_said}
 use Rattle.layout.specs.Layout.{rendered}
 use Rattle.frames.specs.declared.Frame.{Frame}
 use Rattle.frames.specs.Description.{raster, size, frame_tests}
@@ -28,35 +29,26 @@ few f bytes h = (12, few_pixels f bytes h) ∷ []
 abbrev sized_and_few : Frame → ℕ → Header → Tests
 sized_and_few f bytes h = (13, other_size f h) ∷ few f bytes h
 
-abbrev headed_and_sized : Frame → ℕ → Header → Tests
-headed_and_sized f bytes h = (11, not h.ok) ∷ sized_and_few f bytes h
+abbrev headed_and_sized : Frame → ℕ → Option Header → Tests
+headed_and_sized f bytes o = (11, is_none o) ∷ sized_and_few f bytes (unwrap_or o (headed 0 0 0))
 
-module _ (f : Frame) (s : List ℕ) {h : Header} (e : h ≡ header_of f.depth s) where
-  given : {r : ℕ} → r ≡ first ((10, no_format f) ∷ headed_and_sized f (length s) h) → r ≡ first (file_tests f s)
+module _ (f : Frame) (s : List ℕ) (t₁ : no_format f ≡ false) where
+  formatted : {o : Option Header} → header_of f.depth s ≡ o → {r : ℕ} → r ≡ first (headed_and_sized f (length s) o) → r ≡ first (file_tests f s)
   unfolding file_tests
-  given k = k ∙ ap (λ (h : Header). first ((10, no_format f) ∷ headed_and_sized f (length s) h)) e
+  formatted e k =
+      goes_on 10 (no_format f) (headed_and_sized f (length s) (header_of f.depth s)) t₁ (k ∙ ap (λ (o : Option Header). first (headed_and_sized f (length s) o)) (sym e))
 
-  pub no_format_lem : no_format f ≡ true → 10 ≡ first (file_tests f s)
-  no_format_lem t = given (stops 10 (no_format f) (headed_and_sized f (length s) h) t)
+  pub no_header : header_of f.depth s ≡ None → 11 ≡ first (file_tests f s)
+  no_header e = formatted e refl
 
-  module _ (t₁ : no_format f ≡ false) where
-    formatted : {r : ℕ} → r ≡ first (headed_and_sized f (length s) h) → r ≡ first (file_tests f s)
-    formatted k = given (goes_on 10 (no_format f) (headed_and_sized f (length s) h) t₁ k)
+  module _ {h : Header} (e : header_of f.depth s ≡ Some h) where
+    pub other_size_lem : other_size f h ≡ true → 13 ≡ first (file_tests f s)
+    other_size_lem t = formatted e (stops 13 (other_size f h) (few f (length s) h) t)
 
-    pub no_header : not h.ok ≡ true → 11 ≡ first (file_tests f s)
-    no_header t = formatted (stops 11 (not h.ok) (sized_and_few f (length s) h) t)
-
-    module _ (t₂ : not h.ok ≡ false) where
-      with_header : {r : ℕ} → r ≡ first (sized_and_few f (length s) h) → r ≡ first (file_tests f s)
-      with_header k = formatted (goes_on 11 (not h.ok) (sized_and_few f (length s) h) t₂ k)
-
-      pub other_size_lem : other_size f h ≡ true → 13 ≡ first (file_tests f s)
-      other_size_lem t = with_header (stops 13 (other_size f h) (few f (length s) h) t)
-
-      module _ (t₃ : other_size f h ≡ false) where
-        -- the pixels decide
-        pub by_pixels : {r : ℕ} → r ≡ first (few f (length s) h) → r ≡ first (file_tests f s)
-        by_pixels k = with_header (goes_on 13 (other_size f h) (few f (length s) h) t₃ k)
+    module _ (t₂ : other_size f h ≡ false) where
+      -- the pixels decide
+      pub by_pixels : {r : ℕ} → r ≡ first (few f (length s) h) → r ≡ first (file_tests f s)
+      by_pixels k = formatted e (goes_on 13 (other_size f h) (few f (length s) h) t₂ k)
 
 -- too few of them, or enough
 module _ (f : Frame) (bytes : ℕ) (h : Header) where
@@ -69,15 +61,15 @@ module _ (f : Frame) (bytes : ℕ) (h : Header) where
 -- ---- what 0 says of a file: it has the frame's format and size, and all pixels
 pub record Readable (f : Frame) (s : List ℕ) : Type 0 where
   pub format : no_format f ≡ false
-  pub ok : (header_of f.depth s).ok ≡ true
-  pub width : (header_of f.depth s).width ≡ f.width
-  pub height : (header_of f.depth s).height ≡ f.height
-  pub room : (header_of f.depth s).start + size (big_first f) ≤ length s
+  pub ok : is_some (header_of f.depth s) ≡ true
+  pub width : (header_said f.depth s).width ≡ f.width
+  pub height : (header_said f.depth s).height ≡ f.height
+  pub room : (header_said f.depth s).start + size (big_first f) ≤ length s
 
 pub is_readable : (f : Frame) (s : List ℕ) → first (file_tests f s) ≡ 0 → Readable f s
 unfolding file_tests
 is_readable f s z =
-    let h = header_of f.depth s in
+    let h = header_said f.depth s in
     let t = (exactly_0 (file_tests f s) refl).0 z in
     let w = and_true (eqb h.width f.width) _ (not-false _ t.1.1.0) in
     record {
@@ -91,10 +83,6 @@ is_readable f s z =
 -- ---- of a frame and a file
 module _ (f : Frame) (len : ℕ) (s : List ℕ) where
   module _ {n : ℕ} (e : n ≡ first (frame_tests f len)) where
-    pub by_own_tests : (n ≡ 0 → ⊥) → n ≡ first (load_tests f len s)
-    unfolding load_tests
-    by_own_tests h = refused (frame_tests f len) (file_tests f s) e h
-
     pub by_file : n ≡ 0 → {r : ℕ} → r ≡ first (file_tests f s) → r ≡ first (load_tests f len s)
     unfolding load_tests
     by_file z h = passed (frame_tests f len) (file_tests f s) (frame_numbered f len) e z h

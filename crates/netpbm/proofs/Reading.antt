@@ -10,13 +10,14 @@ use lib.Dec.{eqb}
 use lib.ListN.{length, drop, get_or, length-append, length-drop, get_or-append}
 use lib.Pow.{pow_pos}
 use borrow.Author.Tests.{eq-eqb, eqb-true, ltb-true, not-false}
+use Rattle.std.specs.Prelude.{Option, Some, None, is_some}
 use Rattle.whole.proofs.Tests.{and_true, true_and}
 use Rattle.refusals.specs.First.{first}
 use Rattle.refusals.proofs.First.{exactly_0}
 use Rattle.headers.specs.declared.Header.{Header}
-use Rattle.headers.specs.Header.{headed, header_of}
+use Rattle.headers.specs.Header.{headed, header_of, header_said}
 use Rattle.headers.specs.Grammar.{WellFormed}
-use Rattle.headers.proofs.Forms.{header_is, header_grows}
+use Rattle.headers.proofs.Forms.{header_is, header_found, said_header, header_grows}
 use lib.Seq.{drop-append-le}
 use Rattle.layout.specs.Digits.{digit}
 use Rattle.layout.specs.Layout.{shown, rendered}
@@ -59,7 +60,7 @@ reading_sets_exactly_the_pixels f s b z =
     subst (Sets f s b) (sym (loaded_bytes f s b z))
     (record {
       pixels = λ x y hx hy. shown_rendered (raster f) (sound f D) (file_picture f s) b A.room x y hx hy
-          (shown_colour (raster (big_first f)) (sound (big_first f) (big_described f D)) (drop (header_of f.depth s).start s) x y);
+          (shown_colour (raster (big_first f)) (sound (big_first f) (big_described f D)) (drop (header_said f.depth s).start s) x y);
       padding = λ y j t hj ht past. padding_stays (arranged f) S y j t hj ht past (file_picture f s) b;
       tail = λ i h. tail_stays (arranged f) S i h (file_picture f s) b;
     })
@@ -126,10 +127,10 @@ is_12 true false false e = absurd (let z : 0 ≡ 12 = e in omega arith)
 
 module _ (f : Frame) (len : ℕ) (s : List ℕ) where
   abbrev head : Header
-  head = header_of f.depth s
+  head = header_said f.depth s
 
   abbrev ok : Bool
-  ok = head.ok
+  ok = is_some (header_of f.depth s)
 
   abbrev other : Bool
   other = other_size f head
@@ -151,12 +152,11 @@ module _ (f : Frame) (len : ℕ) (s : List ℕ) where
   answered W e = sym (by_file f len s refl (frame_passes f len W.accepted) e)
 
   -- what a header says is what the file is made of
-  formed : head.ok ≡ true → WellFormed f.depth s head.width head.height head.start
-  formed h = (header_is f.depth s head.width head.height head.start).0
-      (λ i. record { ok = h i; width = head.width; height = head.height; start = head.start })
+  formed : ok ≡ true → WellFormed f.depth s head.width head.height head.start
+  formed h = (header_is f.depth s head.width head.height head.start).0 (header_found f.depth s h)
 
-  read : {w h n : ℕ} → WellFormed f.depth s w h n → headed true w h n ≡ head
-  read {w} {h} {n} W = sym ((header_is f.depth s w h n).1 W)
+  read : {w h n : ℕ} → WellFormed f.depth s w h n → header_of f.depth s ≡ Some (headed w h n)
+  read {w} {h} {n} W = (header_is f.depth s w h n).1 W
 
   equal_size : (w h : ℕ) → own f w h → (eqb w f.width && eqb h f.height) ≡ true
   equal_size w h e = true_and (eq-eqb w f.width e.0) (eq-eqb h f.height e.1)
@@ -174,23 +174,20 @@ module _ (f : Frame) (len : ℕ) (s : List ℕ) where
   -- "11 for a bad header"
   pub eleven : (number ≡ 11) ↔ (Writable f len × Unformed f s)
   eleven = (
-    λ e. let p = by_head 11 (omega arith) (omega arith) e in (p.0, λ w h n W. true≢false (ap (λ (H : Header). H.ok) (read W) ∙ is_11 ok other few p.1)),
-    λ p. answered p.0 (no_header f s refl p.0.format (none p.1)),
+    λ e. let p = by_head 11 (omega arith) (omega arith) e in (p.0, λ w h n W. true≢false (sym (ap is_some (read W)) ∙ is_11 ok other few p.1)),
+    λ p. answered p.0 (no_header f s p.0.format (none (header_of f.depth s) refl p.1)),
   )
     where
-      none : Unformed f s → not head.ok ≡ true
-      none u = go head.ok refl
-        where
-          go : (t : Bool) → head.ok ≡ t → not t ≡ true
-          go true e = absurd (u _ _ _ (formed e))
-          go false e = refl
+      none : (o : Option Header) → header_of f.depth s ≡ o → Unformed f s → o ≡ None
+      none None e u = refl
+      none (Some h) e u = absurd (u h.width h.height h.start ((header_is f.depth s h.width h.height h.start).0 e))
 
   -- "13 for another size"
   pub thirteen : (number ≡ 13) ↔ (Writable f len × OtherSize f s)
   thirteen = (
     λ e. let p = by_head 13 (omega arith) (omega arith) e in let q = is_13 ok other few p.1 in
         (p.0, record { width = head.width; height = head.height; start = head.start; formed = formed q.0; is = λ o. true≢false (sym q.1 ∙ ap not (equal_size _ _ o)) }),
-    λ p. let S = p.1 in answered p.0 (other_size_lem f s (read S.formed) p.0.format refl (not_own S.width S.height S.is)),
+    λ p. let S = p.1 in answered p.0 (other_size_lem f s p.0.format (read S.formed) (not_own S.width S.height S.is)),
   )
 
   -- "12 for too few pixel bytes"
@@ -198,7 +195,7 @@ module _ (f : Frame) (len : ℕ) (s : List ℕ) where
   twelve = (
     λ e. let p = by_head 12 (omega arith) (omega arith) e in let q = is_12 ok other few p.1 in
         (p.0, record { width = head.width; height = head.height; start = head.start; formed = formed q.0; is = (is_own _ _ q.1, ltb-true _ _ q.2) }),
-    λ p. let S = p.1 in answered p.0 (by_pixels f s (read S.formed) p.0.format refl (ap not (equal_size S.width S.height S.is.0)) (too_few f (length s) (headed true S.width S.height S.start) S.is.1)),
+    λ p. let S = p.1 in answered p.0 (by_pixels f s p.0.format (read S.formed) (ap not (equal_size S.width S.height S.is.0)) (too_few f (length s) (headed S.width S.height S.start) S.is.1)),
   )
 
   -- and none
@@ -208,15 +205,14 @@ module _ (f : Frame) (len : ℕ) (s : List ℕ) where
       record { accepted = is_accepted f len p.0; format = R.format },
       record { width = head.width; height = head.height; start = head.start; formed = formed R.ok; is = ((R.width, R.height), R.room) },
     ),
-    λ p. let S = p.1 in answered p.0 (by_pixels f s (read S.formed) p.0.format refl (ap not (equal_size S.width S.height S.is.0)) (enough_pixels f (length s) (headed true S.width S.height S.start) S.is.1)),
+    λ p. let S = p.1 in answered p.0 (by_pixels f s p.0.format (read S.formed) (ap not (equal_size S.width S.height S.is.0)) (enough_pixels f (length s) (headed S.width S.height S.start) S.is.1)),
   )
 
 -- ---- BYTES BEHIND A FILE (02, T-06: "bytes after the pixels ignored")
 -- a header with bytes behind it
 longer : (f : Frame) (s t : List ℕ) {w h n : ℕ} → WellFormed f.depth s w h n → WellFormed f.depth (s ++ t) w h n
 longer f s t {w} {h} {n} W =
-    let e = (header_is f.depth s w h n).1 W in
-    (header_is f.depth (s ++ t) w h n).0 (header_grows f.depth s (ap (λ (H : Header). H.ok) e) t ∙ e)
+    (header_is f.depth (s ++ t) w h n).0 (header_grows f.depth s ((header_is f.depth s w h n).1 W) t)
 
 -- a file that says another size is answered 13 whatever follows
 pub thirteen_stays : (f : Frame) (len : ℕ) (s t : List ℕ) → first (load_tests f len s) ≡ 13 → first (load_tests f len (s ++ t)) ≡ 13
@@ -244,12 +240,12 @@ more_behind f s t b z =
     let S = p.1 in
     let R = is_readable f s (both_passed f (length b) s z).1 in
     let d = f.depth in
-    let start = (header_of d s).start in
+    let start = (header_said d s).start in
     let l = length-append s t in
     let z' = (accepted_exactly f (length b) (s ++ t)).1
     (p.0, record { width = S.width; height = S.height; start = S.start; formed = longer f s t S.formed; is = (S.is.0, omega (arith, S.is.1, l)) }) in
-    let e : drop (header_of d (s ++ t)).start (s ++ t) ≡ drop start s ++ t =
-    ap (λ (H : Header). drop H.start (s ++ t)) (header_grows d s R.ok t) ∙ drop-append-le start s t (omega (arith, R.room)) in
+    let e : drop (header_said d (s ++ t)).start (s ++ t) ≡ drop start s ++ t =
+    ap (λ (H : Header). drop H.start (s ++ t)) (said_header d (s ++ t) (header_grows d s (header_found d s R.ok) t)) ∙ drop-append-le start s t (omega (arith, R.room)) in
     sym (accepted_loaded f (s ++ t) b (sym z') refl
     (sym (rendered_cong (raster f) (sound f D) (file_picture f (s ++ t)) (file_picture f s) b
     (λ x y hx hy. ap (λ (u : List ℕ). shown (raster (big_first f)) u x y) e

@@ -1,7 +1,7 @@
 -- WHAT IS WRITTEN IS READ BACK (02, T-06: "What T-01 writes must read back to the same picture"): into a frame of that size and depth in either order, with rows at
 -- any distance, over any bytes that are enough, whatever stood in the output and stands behind the file. Assumes nothing.
 use mathlib.Core.Path.{◌≡◌, refl, sym, ap, subst, ◌∙◌}
-use mathlib.Core.Bool.{Bool, true}
+use mathlib.Core.Bool.{Bool}
 use mathlib.Core.List.{List, [], ◌∷◌, ◌++◌, append_assoc}
 use Prim.Native.Nat.{ℕ, ◌+◌, ◌≤◌, ◌<◌}
 use native.Mathlib.Nat.{le_refl}
@@ -9,11 +9,12 @@ use native.Mathlib.Omega.{arith}
 use lib.ListN.{length, drop, replicate, length-append, length-replicate}
 use lib.Seq.{sets-eq, drop-append_seam}
 use borrow.Author.Tests.{ltb-false}
+use Rattle.std.specs.Prelude.{Some}
 use Rattle.refusals.specs.First.{Tests, first}
 use Rattle.refusals.proofs.First.{exactly_0, both_pass}
 use Rattle.headers.specs.declared.Header.{Header}
-use Rattle.headers.specs.Header.{headed, header_of}
-use Rattle.headers.proofs.Forms.{header_is}
+use Rattle.headers.specs.Header.{headed, header_of, header_said}
+use Rattle.headers.proofs.Forms.{header_is, said_header}
 use Rattle.layout.specs.Layout.{shown}
 use Rattle.layout.proofs.Pictures.{shown_rendered, shown_colour}
 use Rattle.frames.specs.declared.Frame.{Frame}
@@ -25,7 +26,7 @@ use Rattle.frames.proofs.Refusals.{frame_numbered, is_accepted, spaced, sound}
 use Rattle.netpbm.specs.Image.{header, big_first, pixels, image_bytes, image_length}
 use Rattle.netpbm.specs.Written.{no_format, no_room, write_tests, written, Writable}
 use Rattle.netpbm.specs.Reading.{loaded}
-use Rattle.netpbm.proofs.Answers.{number_of, accepted_written}
+use Rattle.netpbm.proofs.Answers.{accepted_written}
 use Rattle.netpbm.proofs.Headers.{header_says}
 use Rattle.netpbm.proofs.Images.{file_length}
 use Rattle.netpbm.proofs.Transfers.{big_described, pixels_length}
@@ -58,7 +59,7 @@ module _ (w h d : ℕ) (i j : Bool) (m n : ℕ) (a c rest : List ℕ) where
     abbrev D : Described f
     D = W.accepted.described
 
-    says : header_of d file ≡ headed true w h (length (header f))
+    says : header_of d file ≡ Some (headed w h (length (header f)))
     says = ap (header_of d) parted ∙ header_says f D (pixels f a ++ rest)
 
     file_accepted : accepts g (length c) file
@@ -86,15 +87,15 @@ module _ (w h d : ℕ) (i j : Bool) (m n : ℕ) (a c rest : List ℕ) where
           ∙ same_colour f D a x y hx hy,
     )
       where
-        behind : drop (header_of d file).start file ≡ pixels f a ++ rest
-        behind = ap (λ (H : Header). drop H.start file) says ∙ ap (drop (length (header f))) parted ∙ drop-append_seam (header f) (pixels f a ++ rest)
+        behind : drop (header_said d file).start file ≡ pixels f a ++ rest
+        behind = ap (λ (H : Header). drop H.start file) (said_header d file says) ∙ ap (drop (length (header f))) parted ∙ drop-append_seam (header f) (pixels f a ++ rest)
 
 -- ---- from `write_image` to `read_image`
 -- an accepted write: the frame, and the output afterwards
 module _ (f : Frame) (a out : List ℕ) (z : (written f a out).0.number ≡ 0) where
   passed : first (write_tests f (length a) (length out)) ≡ 0
   unfolding written
-  passed = sym (number_of {r = (written f a out).0} (first (write_tests f (length a) (length out))) (image_length f) refl) ∙ z
+  passed = z
 
   wrote : Writable f (length a) × (image_length f ≤ length out)
   unfolding write_tests

@@ -1,22 +1,23 @@
 -- A picture taken over from one frame into another of the same size and depth: its rows are the source's, copied or with each pixel's bytes turned round, and padding and
 -- what lies between the rows is what stood there. Assumes nothing.
-use mathlib.Core.Path.{◌≡◌, sym, ap, ap₂, subst, ◌∙◌}
+use mathlib.Core.Path.{◌≡◌, refl, sym, ap, ap₂, subst, ◌∙◌}
 use mathlib.Core.Logic.{inr}
 use mathlib.Core.Bool.{Bool, true, false, cond}
-use mathlib.Core.List.{List}
+use mathlib.Core.List.{List, ◌++◌}
 use Prim.Native.Nat.{ℕ, suc, ◌+◌, ◌-◌, ◌*◌, ◌/◌, ◌%◌, ◌^◌, ◌≤◌, ◌<◌}
 use native.Mathlib.Nat.{div-lt_iff_lt-mul, div-add-mod', mod-lt}
 use native.Mathlib.Omega.{arith}
 use lib.Arith.{digits_mod}
 use lib.Bits.{bit_and, and_le_l}
 use lib.Dec.{eqb, ltb}
-use lib.ListN.{length, get_or, set}
+use lib.ListN.{length, get_or, set, take, drop, length-drop}
+use lib.Seq.{get_or-take, get_or-drop, length-take-le}
 use borrow.Author.Tests.{lt-ltb, le-ltb, eqb-true, not-true}
 use Rattle.whole.proofs.Tests.{and_true}
 use Rattle.layout.specs.Digits.{set_run}
 use Rattle.layout.specs.Layout.{shown, rendered}
 use Rattle.layout.specs.Packed.{Packed, row_bytes, laid}
-use Rattle.layout.proofs.Runs.{run_length, run_front, run_out, run_over, run_goes_on, run_cong, run_then, run_bytes}
+use Rattle.layout.proofs.Runs.{run_length, run_front, run_out, run_over, run_goes_on, run_cong, run_then, run_bytes, run_is, run_part}
 use Rattle.layout.proofs.Bytes.{Bytes}
 use Rattle.layout.proofs.Places.{Sound, placing}
 use Rattle.layout.proofs.Pictures.{rendered_length}
@@ -28,6 +29,38 @@ use Rattle.frames.proofs.Refusals.{spaced, row_room}
 use Rattle.netpbm.specs.Words.{Alike, transferred, masked_rows, copied, copied_row, turned_row, is_turned, is_run}
 use Rattle.packing.proofs.Bits.{rendered_bytes, source_of, same_source, turned_place, mixed, mixed_cong, cut, full, beside, by_bits}
 use Rattle.netpbm.proofs.Formats.{row_pos, has_bits, same_bytes, run_full, same_distance, not_turned}
+
+-- ---- bytes that are lent, and that are copied at once
+lent_at : (l : List ℕ) (at m j : ℕ) → j < m → get_or (take m (drop at l)) (0 + j) 0 ≡ get_or l (at + j) 0
+lent_at l at m j h =
+    let z : 0 + j ≡ j = omega arith in
+    ap (λ (i : ℕ). get_or (take m (drop at l)) i 0) z ∙ get_or-take m (drop at l) j 0 h ∙ get_or-drop at l j 0
+
+lent_length : (l : List ℕ) (at n : ℕ) → at + n ≤ length l → length (take (at + n - at) (drop at l)) ≡ n
+lent_length l at n h = length-take-le (at + n - at) (drop at l) (rw length-drop (omega arith)) ∙ omega arith
+
+pub copied_front : (n : ℕ) (a b : List ℕ) → n ≤ length a → n ≤ length b → take n a ++ drop n b ≡ copied a 0 0 n b
+copied_front n a b la lb =
+    run_part 0 n n b (take n b) (take n a) (λ k. get_or a (0 + k) 0) (omega arith) refl (omega (arith, length-take-le n b lb))
+    (run_is n _ (take n b) (take n a) (length-take-le n b lb) (length-take-le n a la) (λ j h. get_or-take n a j 0 h ∙ ap (λ (k : ℕ). get_or a k 0) (zero_left j)))
+  where
+    zero_left : (j : ℕ) → j ≡ 0 + j
+    zero_left j = omega arith
+
+-- ---- a row's bytes are some, and end within both buffers
+module _ {f g : Frame} {m n : ℕ} (A : Alike f m g n) (y : ℕ) (hy : y < g.height) where
+  some_bytes : 0 < row_bytes g.width g.depth
+  unfolding row_bytes
+  some_bytes = omega (arith, has_bits g A.target)
+
+  pub source_end : y * f.distance + row_bytes g.width g.depth ≤ m
+  unfolding row_bytes
+  source_end =
+      let e = ap₂ (λ (w d : ℕ). (w * d + 7) / 8) A.width A.depth in
+      omega (arith, row_room f y (rw A.height hy), e, A.source.described.apart, A.source.room)
+
+  pub target_end : y * g.distance + row_bytes g.width g.depth ≤ n
+  target_end = omega (arith, row_room g y hy, A.target.accepted.described.apart, A.target.accepted.room)
 
 -- ---- the picture of f over the bytes a, taken over into g over the bytes b, of which `kept` keeps the bits
 pub record Transfer (f : Frame) (a : List ℕ) (g : Frame) (b : List ℕ) : Type 0 where
@@ -110,11 +143,38 @@ module _ {f g : Frame} {a b : List ℕ} (K : Transfer f a g b) (kept : ℕ) wher
       gap_stays (arranged g) sound y j hr hj (shown (raster f) a) under
       ∙ under_at y j hy hj ∙ ap (λ (t : Bool). cond t (bit_and (get_or b (y * row + j) 0) kept) (get_or b (y * row + j) 0)) (le-ltb j used hr)
 
-  -- a row, and with it the gap as it was
-  row_and_gap : (y : ℕ) → y < g.height → set_run (y * row) used (λ k. get_or all (y * row + k) 0) b ≡ set_run (y * row) row (λ k. get_or all (y * row + k) 0) b
+  -- row y taken over, and with it the gap as it was
+  abbrev row_done : ℕ → List ℕ
+  row_done y = set_run (y * row) row (λ k. get_or all (y * row + k) 0) b
+
+  row_and_gap : (y : ℕ) → y < g.height → set_run (y * row) used (λ k. get_or all (y * row + k) 0) b ≡ row_done y
   row_and_gap y hy =
       let e : used + (row - used) ≡ row = omega (arith, sound.apart) in
       sym (run_goes_on (y * row) used (row - used) _ b (λ j l m. gap_is y j hy l (omega arith))) ∙ ap (λ (k : ℕ). set_run (y * row) k (λ k. get_or all (y * row + k) 0) b) e
+
+  -- ---- row y as it is lent of both buffers, and what other bytes in its place make of b
+  abbrev source_row : ℕ → List ℕ
+  source_row y = take (y * f.distance + used - y * f.distance) (drop (y * f.distance) a)
+
+  abbrev target_row : ℕ → List ℕ
+  target_row y = take (y * row + used - y * row) (drop (y * row) b)
+
+  abbrev put_back : ℕ → List ℕ → List ℕ
+  put_back y t = take (y * row) b ++ (t ++ drop (y * row + used - y * row) (drop (y * row) b))
+
+  target_long : (y : ℕ) → y < g.height → length (target_row y) ≡ used
+  target_long y hy = lent_length b (y * row) used (target_end K.frames y hy)
+
+  pub both_long : (y : ℕ) → y < g.height → length (source_row y) ≡ length (target_row y)
+  both_long y hy = lent_length a (y * f.distance) used (source_end K.frames y hy) ∙ sym (target_long y hy)
+
+  pub some_long : (y : ℕ) → y < g.height → 0 < length (target_row y)
+  some_long y hy = omega (arith, target_long y hy, some_bytes K.frames y hy)
+
+  row_put : (y : ℕ) → y < g.height → {t : List ℕ} → t ≡ set_run 0 used (λ j. get_or all (y * row + j) 0) (target_row y) → put_back y t ≡ row_done y
+  row_put y hy e =
+      run_part (y * row) (y * row + used - y * row) used b (target_row y) _ _ (omega (arith, target_end K.frames y hy)) refl (omega (arith, target_long y hy)) e
+      ∙ row_and_gap y hy
 
   -- ---- where both keep a pixel in the same bytes of a row
   module _ (T : is_turned f g ≡ false) where
@@ -124,28 +184,32 @@ module _ {f g : Frame} {a b : List ℕ} (K : Transfer f a g b) (kept : ℕ) wher
         ∙ mixed_cong bits j _ _ (old y j)
         (λ t h. ap (λ (k : ℕ). get_or a (y * f.distance + k) 0) (same_source g.depth f.big g.big sound.depth (same_bytes g K.frames.target f T) j t h))
 
-    pub row_copied : (y : ℕ) → y < g.height
-        → copied_row a (y * f.distance) (y * row) ((bits + 7) / 8 - 1) ((255 * 2 ^ ((bits + 7) / 8 * 8 - bits)) % 256) kept b
-        ≡ set_run (y * row) row (λ k. get_or all (y * row + k) 0) b
+    pub row_copied : (y : ℕ) → y < g.height → {t : List ℕ}
+        → t ≡ copied_row (source_row y) 0 0 (length (target_row y) - 1) ((255 * 2 ^ ((bits + 7) / 8 * 8 - bits)) % 256) kept (target_row y) → put_back y t ≡ row_done y
     unfolding row_bytes
-    row_copied y hy =
+    row_copied y hy e =
         let at = y * f.distance in
         let start = y * row in
-        let n = (bits + 7) / 8 - 1 in
+        let s = source_row y in
+        let t = target_row y in
+        let n = length t - 1 in
         let p = (bits + 7) / 8 * 8 - bits in
-        let some = has_bits g K.frames.target in
         let apart = sound.apart in
-        let whole : (j : ℕ) → j < n → get_or a (at + j) 0 ≡ get_or all (start + j) 0 =
-        λ j h. sym (byte_copied y j hy (omega arith) ∙ full bits j (get_or a (at + j) 0) (old y j) (omega arith) (K.from (at + j))) in
+        let some = some_long y hy in
+        let long = target_long y hy in
+        let whole : (j : ℕ) → j < n → get_or s (0 + j) 0 ≡ get_or all (start + j) 0 =
+        λ j h. lent_at a at (at + used - at) j (omega arith)
+        ∙ sym (byte_copied y j hy (omega arith) ∙ full bits j (get_or a (at + j) 0) (old y j) (omega arith) (K.from (at + j))) in
         let v = get_or b (start + n) 0 in
         let in_row : old y n ≡ bit_and v kept = ap (λ (t : Bool). cond t (bit_and v kept) v) (lt-ltb n used (omega arith)) in
-        let last : merged (bit_and v kept) (get_or a (at + n) 0) ((255 * 2 ^ p) % 256) ≡ get_or all (start + n) 0 =
-        sym (byte_copied y n hy (omega arith)
+        let last : merged (bit_and (get_or t (0 + n) 0) kept) (get_or s (0 + n) 0) ((255 * 2 ^ p) % 256) ≡ get_or all (start + n) 0 =
+        ap₂ (λ (v u : ℕ). merged (bit_and v kept) u ((255 * 2 ^ p) % 256)) (lent_at b start (start + used - start) n (omega arith)) (lent_at a at (at + used - at) n (omega arith))
+        ∙ sym (byte_copied y n hy (omega arith)
         ∙ cut bits n p (get_or a (at + n) 0) (old y n) (omega arith) (omega arith) (K.from (at + n)) (below n (start + n))
         ∙ ap (λ (v : ℕ). merged v (get_or a (at + n) 0) ((255 * 2 ^ p) % 256)) in_row) in
-        let e : suc n ≡ (bits + 7) / 8 = omega arith in
-        ap₂ (λ (c : List ℕ) (v : ℕ). set c (start + n) v) (run_cong start n _ _ b whole) last
-        ∙ ap (λ (k : ℕ). set_run start k (λ k. get_or all (start + k) 0) b) e ∙ row_and_gap y hy
+        let ends : suc n ≡ used = omega arith in
+        row_put y hy (e ∙ ap₂ (λ (c : List ℕ) (v : ℕ). set c (0 + n) v) (run_cong 0 n _ _ t whole) last
+        ∙ ap (λ (k : ℕ). set_run 0 k (λ j. get_or all (start + j) 0) t) ends)
 
     -- rows without padding or a gap: all bytes are the source's
     module _ (N : bits ≡ 8 * row) (E : f.distance ≡ row) where
@@ -172,23 +236,28 @@ module _ {f g : Frame} {a b : List ℕ} (K : Transfer f a g b) (kept : ℕ) wher
   run_copied t = bytes_copied (not_turned f g t) (run_full f g t) (same_distance f g t)
 
   -- ---- three bytes, in the other order
-  pub row_turned : is_turned f g ≡ true → (y : ℕ) → y < g.height
-      → turned_row a (y * f.distance) (y * row) g.width b ≡ set_run (y * row) row (λ k. get_or all (y * row + k) 0) b
+  pub row_turned : is_turned f g ≡ true → (y : ℕ) → y < g.height → {t : List ℕ}
+      → t ≡ turned_row (source_row y) 0 0 (length (target_row y) / 3) (target_row y) → put_back y t ≡ row_done y
   unfolding row_bytes
-  row_turned t y hy =
+  row_turned t y hy r =
       let T = and_true (eqb g.depth 24) _ t in
       let e = eqb-true g.depth 24 T.0 in
       let at = y * f.distance in
+      let n = length (target_row y) / 3 in
       let apart = sound.apart in
       let wide : bits ≡ g.width * 24 = ap (λ (k : ℕ). g.width * k) e in
-      let r : g.width * 3 ≡ (bits + 7) / 8 = omega arith in
-      let place : (j t : ℕ) → t < 8 → at + source_of g.depth f.big g.big j t ≡ at + j / 3 * 3 + (2 - j % 3) =
+      let ends : n * 3 ≡ used = omega (arith, target_long y hy) in
+      let place : (j t : ℕ) → t < 8 → at + source_of g.depth f.big g.big j t ≡ at + (j / 3 * 3 + (2 - j % 3)) =
       λ j t h. let z = turned_place g.depth f.big g.big e (not-true _ T.1) j t h in omega arith in
-      run_cong (y * row) (g.width * 3) _ _ b
-      (λ j h. sym (byte_is y j hy (omega arith)
+      let within : (j : ℕ) → j < n * 3 → get_or (source_row y) (0 + j / 3 * 3 + (2 - j % 3)) 0 ≡ get_or a (at + (j / 3 * 3 + (2 - j % 3))) 0 =
+      λ j h. let z : 0 + j / 3 * 3 + (2 - j % 3) ≡ 0 + (j / 3 * 3 + (2 - j % 3)) = omega arith in
+      ap (λ (i : ℕ). get_or (source_row y) i 0) z ∙ lent_at a at (at + used - at) (j / 3 * 3 + (2 - j % 3)) (omega arith) in
+      row_put y hy (r ∙ run_cong 0 (n * 3) _ _ _
+      (λ j h. within j h
+      ∙ sym (byte_is y j hy (omega arith)
       ∙ mixed_cong bits j _ _ (old y j) (λ t ht. ap (λ (k : ℕ). get_or a k 0) (place j t ht))
-      ∙ full bits j (get_or a (at + j / 3 * 3 + (2 - j % 3)) 0) (old y j) (omega arith) (K.from (at + j / 3 * 3 + (2 - j % 3)))))
-      ∙ ap (λ (k : ℕ). set_run (y * row) k (λ k. get_or all (y * row + k) 0) b) r ∙ row_and_gap y hy
+      ∙ full bits j (get_or a (at + (j / 3 * 3 + (2 - j % 3))) 0) (old y j) (omega arith) (K.from (at + (j / 3 * 3 + (2 - j % 3))))))
+      ∙ ap (λ (i : ℕ). set_run 0 i (λ j. get_or all (y * row + j) 0) (target_row y)) ends)
 
 -- ---- row after row
 -- the first y rows

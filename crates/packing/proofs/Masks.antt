@@ -182,7 +182,7 @@ module _ (d : ℕ) (g : good_depth d ≡ true) (s : d < 8) where
 
 -- ---- a byte all of whose pixels have one colour
 abbrev times : ℕ → ℕ → ℕ → Type 0
-times d f c = (c * f < 256) × (c * f ≡ value (2 ^ field d) (per d) (λ k. c))
+times d f c = c * f ≡ value (2 ^ field d) (per d) (λ k. c)
 
 pub pattern_1 : (d c : ℕ) → d ≡ 1 → c < 2 ^ d → times d 255 c
 unfolding field per
@@ -196,10 +196,10 @@ pub pattern_4 : (d c : ℕ) → d ≡ 4 → c < 2 ^ d → times d 17 c
 unfolding field per
 pattern_4 d c e h = subst (λ (k : ℕ). c < 2 ^ k → times k 17 c) (sym e) (λ l. omega arith) h
 
-pub pattern_8 : (d : ℕ) → good_depth d ≡ true → d ≤ 8 → (d ≡ 1 → ⊥) → (d ≡ 2 → ⊥) → (d ≡ 4 → ⊥) → (c : ℕ) → c < 2 ^ d → (c < 256) × (c ≡ value (2 ^ field d) (per d) (λ k. c))
+pub pattern_8 : (d : ℕ) → good_depth d ≡ true → d ≤ 8 → (d ≡ 1 → ⊥) → (d ≡ 2 → ⊥) → (d ≡ 4 → ⊥) → (c : ℕ) → c < 2 ^ d → c ≡ value (2 ^ field d) (per d) (λ k. c)
 unfolding field per
 pattern_8 =
-    depth_cases (λ d. d ≤ 8 → (d ≡ 1 → ⊥) → (d ≡ 2 → ⊥) → (d ≡ 4 → ⊥) → (c : ℕ) → c < 2 ^ d → (c < 256) × (c ≡ value (2 ^ field d) (per d) (λ k. c)))
+    depth_cases (λ d. d ≤ 8 → (d ≡ 1 → ⊥) → (d ≡ 2 → ⊥) → (d ≡ 4 → ⊥) → (c : ℕ) → c < 2 ^ d → c ≡ value (2 ^ field d) (per d) (λ k. c))
     (λ h a b e c l. absurd (a refl)) (λ h a b e c l. absurd (b refl)) (λ h a b e c l. absurd (e refl)) (λ h a b e c l. omega arith)
     (λ h a b e c l. absurd (no h)) (λ h a b e c l. absurd (no' h)) (λ h a b e c l. absurd (no'' h))
   where

@@ -1,19 +1,21 @@
 -- A colour in whole bytes, as the machine works its digits out and puts them together again, and runs of such bytes. Assumes nothing.
 use mathlib.Core.Path.{◌≡◌, refl, sym, ap, ap₂, ◌∙◌, subst}
 use mathlib.Core.Bool.{Bool, true, cond}
-use mathlib.Core.List.{List, ◌++◌}
+use mathlib.Core.List.{List, [], ◌∷◌, ◌++◌}
 use Prim.Native.Nat.{ℕ, zero, suc, ◌+◌, ◌-◌, ◌*◌, ◌/◌, ◌%◌, ◌^◌, ◌≤◌, ◌<◌}
-use native.Mathlib.Nat.{zero-add, le_refl, mod-lt, mod_self, mod-eq_of_lt, mod-add-mod, mul-zero, mul-suc, mul_comm, div-one, div-div-eq-div-mul, not-suc-le-zero, mul-lt-mul_of_pos_right, pow-suc}
-use native.Mathlib.Numerals.{add-one}
+use native.Mathlib.Nat.{zero-add, le_refl, mod-lt, mod-eq_of_lt, mod-add-mod, div-add-mod', mul-le-mul_right, mul-zero, mul-suc, mul_comm, div-one, div-div-eq-div-mul, mul-lt-mul_of_pos_right, pow-suc}
 use native.Mathlib.Omega.{arith}
 use lib.Bits.{bit_and, bit_or, and_mask, or_shifted}
 use lib.Pow.{pow_pos, pow-add, pow_mono}
-use lib.ListN.{length, get_or, set, take, drop, replicate, length-drop}
+use lib.ListN.{length, get_or, take, drop, replicate, length-drop}
 use lib.Seq.{length-take-le}
+use mir.Syntax.{w32}
 use borrow.Author.Tests.{eq-eqb, ne_eqb}
+use Rattle.std.specs.Int.{swap_bytes}
+use Rattle.std.specs.List.{fold}
 use Rattle.layout.specs.Digits.{digit, value, set_run}
 use Rattle.layout.specs.Packed.{good_depth, turned, full_byte}
-use Rattle.layout.proofs.Cells.{digit_lt, value_cong, digit_value}
+use Rattle.layout.proofs.Cells.{value_cong}
 use Rattle.layout.proofs.Places.{large}
 use Rattle.layout.proofs.Runs.{run_in, run_cong, run_then, run_part}
 use Rattle.layout.proofs.Fields.{pow_mul, value_lt}
@@ -27,63 +29,63 @@ digit_is (suc j) v =
     (ap (λ (x : ℕ). v / x) (ap (λ (x : ℕ). 2 ^ x) (mul-suc 8 j) ∙ pow-add 2 (8 * j) 8 ∙ mul_comm (2 ^ (8 * j)) (2 ^ 8)) ∙ sym (div-div-eq-div-mul v (2 ^ 8) (2 ^ (8 * j))))
     ∙ digit_is j (v / 2 ^ 8)
 
--- what is left of a shift has the digits from one on
-digit_later : (j k v : ℕ) → digit 256 k (v / 2 ^ (8 * j)) ≡ digit 256 (j + k) v
-digit_later j k v =
-    let e : 8 * j + 8 * k ≡ 8 * (j + k) = omega arith in
-    sym (digit_is k (v / 2 ^ (8 * j)))
-    ∙ ap (λ (x : ℕ). bit_and x 255) (div-div-eq-div-mul v (2 ^ (8 * j)) (2 ^ (8 * k)) ∙ ap (λ (x : ℕ). v / x) (sym (pow-add 2 (8 * j) (8 * k)) ∙ ap (λ (x : ℕ). 2 ^ x) e))
-    ∙ digit_is (j + k) v
+-- with the bytes swapped and the last of them shifted out, a number's n digits are the other way round
+pub digit_turned : (n k v : ℕ) → n ≤ 4 → k < n → digit 256 k (swap_bytes w32 v / 2 ^ (8 * (4 - n) % 32)) ≡ digit 256 (n - 1 - k) v
+digit_turned zero k v l h = absurd (omega arith)
+digit_turned (suc zero) zero v l h = omega arith
+digit_turned (suc (suc zero)) zero v l h = omega arith
+digit_turned (suc (suc zero)) (suc zero) v l h = omega arith
+digit_turned (suc (suc (suc zero))) zero v l h = omega arith
+digit_turned (suc (suc (suc zero))) (suc zero) v l h = omega arith
+digit_turned (suc (suc (suc zero))) (suc (suc zero)) v l h = omega arith
+digit_turned (suc (suc (suc (suc zero)))) zero v l h = omega arith
+digit_turned (suc (suc (suc (suc zero)))) (suc zero) v l h = omega arith
+digit_turned (suc (suc (suc (suc zero)))) (suc (suc zero)) v l h = omega arith
+digit_turned (suc (suc (suc (suc zero)))) (suc (suc (suc zero))) v l h = omega arith
+digit_turned n k v l h = absurd (omega arith)
 
--- a colour's four digits the other way round
-abbrev pub rounded : ℕ → ℕ
-rounded v = value 256 4 (λ m. digit 256 (3 - m) v)
+-- a byte put below those that were read
+abbrev pub below_those : ℕ → ℕ → ℕ
+below_those sum byte = bit_or ((sum * 2 ^ 8) % 4294967296) byte
 
-pub rounded_is : (v : ℕ) → ((digit 256 0 v * 256 + digit 256 1 v) * 256 + digit 256 2 v) * 256 + digit 256 3 v ≡ rounded v
-rounded_is v = omega arith
+-- bytes read one after another, the highest first, make the number whose digits they are
+module _ (n : ℕ) (d : ℕ → ℕ) (small : (m : ℕ) → d m < 256) (few : n ≤ 4) where
+  -- the digits behind k are put together; then digit k
+  next_digit : (k sum x : ℕ) → suc k ≤ n → sum ≡ value 256 (n - suc k) (λ m. d (suc k + m)) → x ≡ d k → below_those sum x ≡ value 256 (n - k) (λ m. d (k + m))
+  next_digit k sum x h es ex =
+      ap (λ (y : ℕ). bit_or y x) (mod-eq_of_lt no_wrap)
+      ∙ or_shifted sum 8 x (subst (λ (y : ℕ). y < 2 ^ 8) (sym ex) (small k))
+      ∙ ap₂ (λ (y z : ℕ). y * 256 + z)
+      (es ∙ value_cong 256 (pow_pos 8) (n - suc k) _ _ (λ m q. let e : suc k + m ≡ k + suc m = omega arith in ap d e))
+      (let e : k ≡ k + 0 = omega arith in ex ∙ ap d e)
+      ∙ (let e : suc (n - suc k) ≡ n - k = omega arith in ap (λ (i : ℕ). value 256 i (λ m. d (k + m))) e)
+    where
+      no_wrap : sum * 2 ^ 8 < 4294967296
+      no_wrap =
+          let v : sum < 256 ^ (n - suc k) = subst (λ (y : ℕ). y < 256 ^ (n - suc k)) (sym es) (value_lt 256 (n - suc k) _ (λ m. small (suc k + m))) in
+          let w : sum * 2 ^ 8 < 256 ^ (n - suc k) * 256 = mul-lt-mul_of_pos_right v (pow_pos 8) in
+          let e : 256 ^ (n - suc k) * 256 ≡ 2 ^ (8 * suc (n - suc k)) = sym (pow-suc 256 (n - suc k)) ∙ pow_mul 8 (suc (n - suc k)) in
+          let u : 2 ^ (8 * suc (n - suc k)) ≤ 4294967296 = pow_mono {i = 8 * suc (n - suc k)} {j = 32} (omega arith) in
+          omega arith
 
-pub rounded_lt : (v : ℕ) → rounded v < 4294967296
-rounded_lt v = value_lt 256 4 _ (λ m. digit_lt 256 (pow_pos 8) (3 - m) v)
+  read_on : (k sum : ℕ) (xs : List ℕ) → k ≤ n → length xs ≡ k → ((j : ℕ) → j < k → get_or xs j 0 ≡ d (k - 1 - j))
+      → sum ≡ value 256 (n - k) (λ m. d (k + m)) → fold below_those sum xs ≡ value 256 n d
+  read_on zero sum [] l e h g =
+      let all : n - 0 ≡ n = omega arith in
+      g ∙ ap (λ (i : ℕ). value 256 i (λ m. d (0 + m))) all ∙ value_cong 256 (pow_pos 8) n _ _ (λ m q. ap d (zero-add m))
+  read_on zero sum (x ∷ xs) l e h g = absurd (omega arith)
+  read_on (suc k) sum [] l e h g = absurd (omega arith)
+  read_on (suc k) sum (x ∷ xs) l e h g =
+      read_on k (below_those sum x) xs (omega arith) (omega arith)
+      (λ j q. let i : suc k - 1 - suc j ≡ k - 1 - j = omega arith in h (suc j) (omega arith) ∙ ap d i)
+      (next_digit k sum x l g (let i : suc k - 1 - 0 ≡ k = omega arith in h 0 (omega arith) ∙ ap d i))
 
--- of n of them the highest come first
-pub rounded_digit : (n v : ℕ) → n ≤ 4 → (k : ℕ) → k < n → digit 256 k (rounded v / 2 ^ (8 * (4 - n))) ≡ digit 256 (turned true n k) v
-rounded_digit n v l k h =
-    let e : 3 - (4 - n + k) ≡ n - 1 - k = omega arith in
-    digit_later (4 - n) k (rounded v)
-    ∙ digit_value 256 (pow_pos 8) 4 (4 - n + k) (λ m. digit 256 (3 - m) v) (λ m. digit_lt 256 (pow_pos 8) (3 - m) v) (omega arith)
-    ∙ ap (λ (j : ℕ). digit 256 j v) e
-
--- the digits from k on are put together; then the one before
-pub next_digit : (n k sum x : ℕ) (d : ℕ → ℕ) → ((m : ℕ) → d m < 256) → n ≤ 4 → 0 < k → k ≤ n
-    → sum ≡ value 256 (n - k) (λ m. d (k + m)) → x ≡ d (k - 1)
-    → bit_or ((sum * 2 ^ 8) % 4294967296) x ≡ value 256 (n - (k - 1)) (λ m. d (k - 1 + m))
-next_digit n zero sum x d b l p h es ex = absurd (not-suc-le-zero p)
-next_digit n (suc j) sum x d b l p h es ex =
-    ap (λ (y : ℕ). bit_or y x) (mod-eq_of_lt no_wrap)
-    ∙ or_shifted sum 8 x (subst (λ (y : ℕ). y < 2 ^ 8) (sym ex) (b (suc j - 1)))
-    ∙ ap₂ (λ (y z : ℕ). y * 256 + z)
-    (es ∙ value_cong 256 (pow_pos 8) (n - suc j) _ _ (λ m q. let e : suc j + m ≡ j + suc m = omega arith in ap d e))
-    (let e : suc j - 1 ≡ j + 0 = omega arith in ex ∙ ap d e)
-    ∙ (let e₁ : suc (n - suc j) ≡ n - (suc j - 1) = omega arith in
-    let e₂ : j ≡ suc j - 1 = omega arith in
-    ap₂ (λ (q i : ℕ). value 256 q (λ m. d (i + m))) e₁ e₂)
-  where
-    no_wrap : sum * 2 ^ 8 < 4294967296
-    no_wrap =
-        let v : sum < 256 ^ (n - suc j) = subst (λ (y : ℕ). y < 256 ^ (n - suc j)) (sym es) (value_lt 256 (n - suc j) _ (λ m. b (suc j + m))) in
-        let w : sum * 2 ^ 8 < 256 ^ (n - suc j) * 256 = mul-lt-mul_of_pos_right v (pow_pos 8) in
-        let e : 256 ^ (n - suc j) * 256 ≡ 2 ^ (8 * suc (n - suc j)) = sym (pow-suc 256 (n - suc j)) ∙ pow_mul 8 (suc (n - suc j)) in
-        let u : 2 ^ (8 * suc (n - suc j)) ≤ 4294967296 = pow_mono {i = 8 * suc (n - suc j)} {j = 32} (omega arith) in
-        omega arith
+  pub read_all : (xs : List ℕ) → length xs ≡ n → ((j : ℕ) → j < n → get_or xs j 0 ≡ d (n - 1 - j)) → fold below_those 0 xs ≡ value 256 n d
+  read_all xs e h = read_on n 0 xs (le_refl n) e h (let none : 0 ≡ n - n = omega arith in ap (λ (i : ℕ). value 256 i (λ m. d (n + m))) none)
 
 -- ---- runs of bytes
--- a run goes on by a byte
-pub run_turn : (i v : ℕ) (b₀ b : List ℕ) (g : ℕ → ℕ) → b ≡ set_run 0 i g b₀ → v ≡ g i → set b i v ≡ set_run 0 (i + 1) g b₀
-run_turn i v b₀ b g e f =
-    (λ z. set (e z) (sym (zero-add i) z) (f z)) ∙ ap (λ (k : ℕ). set_run 0 k g b₀) (sym (add-one i))
-
 -- as many bytes are lent as lie between the ends
-lent : (i e : ℕ) (b : List ℕ) → e ≤ length b → length (take (e - i) (drop i b)) ≡ e - i
+pub lent : (i e : ℕ) (b : List ℕ) → e ≤ length b → length (take (e - i) (drop i b)) ≡ e - i
 lent i e b h = length-take-le (e - i) (drop i b) (simp length-drop (omega arith))
 
 -- a run goes on through a part that follows it
@@ -99,12 +101,16 @@ run_on i e b₀ b s g h l m eb es same =
     ∙ run_then 0 i (e - i) g b₀
     ∙ ap (λ (k : ℕ). set_run 0 k g b₀) n
 
+-- before the last of the parts there is room for one
+pub room_for : (k n len : ℕ) → k < len / n → k * n + n ≤ len
+room_for k n len h =
+    let l : (k + 1) * n ≤ len / n * n = mul-le-mul_right n (omega arith) in
+    let m = div-add-mod' len n in
+    omega arith
+
 -- behind a multiple of n, j steps are j
 pub behind : (n i j : ℕ) → i % n ≡ 0 → j < n → (i + j) % n ≡ j
 behind n i j z h = sym (mod-add-mod i n j) ∙ ap (λ (k : ℕ). (k + j) % n) z ∙ ap (λ (k : ℕ). k % n) (zero-add j) ∙ mod-eq_of_lt h
-
-pub next_multiple : (n i : ℕ) → i % n ≡ 0 → (i + n) % n ≡ 0
-next_multiple n i z = sym (mod-add-mod i n n) ∙ ap (λ (k : ℕ). (k + n) % n) z ∙ ap (λ (k : ℕ). k % n) (zero-add n) ∙ mod_self n
 
 -- of blocks of n bytes, through as much of the next as there is room for
 pub block_on : (n i e : ℕ) (b₀ b s block : List ℕ) → i % n ≡ 0 → e ≤ i + n → i ≤ e → e ≤ length b → b ≡ set_run 0 i (λ j. get_or block (j % n) 0) b₀
@@ -124,15 +130,6 @@ module _ (p i : ℕ) (b : List ℕ) (l : i + p ≤ length b) where
   pixel_on_lem b₀ s big c z eb es =
       run_on i (i + p) b₀ b s (pixel_byte p big c) _ (omega arith) l eb es
       (λ j h. ap₂ (λ (n k : ℕ). digit 256 (turned big n k) c) pixel_lent (sym (behind p i j z (omega arith))))
-
--- among whole pixels there is room for one wherever one begins
-pub whole_pixels : (p i n : ℕ) → 0 < p → p ≤ 4 → i % p ≡ 0 → n % p ≡ 0 → i < n → i + p ≤ n
-whole_pixels zero i n h l a b c = absurd (omega arith)
-whole_pixels (suc zero) i n h l a b c = omega arith
-whole_pixels (suc (suc zero)) i n h l a b c = omega arith
-whole_pixels (suc (suc (suc zero))) i n h l a b c = omega arith
-whole_pixels (suc (suc (suc (suc zero)))) i n h l a b c = omega arith
-whole_pixels (suc (suc (suc (suc (suc p))))) i n h l a b c = absurd (omega arith)
 
 -- blocks of n bytes that hold whole pixels, again and again, are a run of pixels
 pub block_of_pixels : (p : ℕ) (big : Bool) (c n len : ℕ) (block b : List ℕ) → 0 < n → n ≤ 64 → ((j : ℕ) → j % n % p ≡ j % p)

@@ -30,27 +30,19 @@ const MASKS: [u8; 14] = [
     0x80, 0x40, 0x20, 0x10, 0x08, 0x04, 0x02, 0x01, 0xC0, 0x30, 0x0C, 0x03, 0xF0, 0x0F,
 ];
 
-// Four bytes as one number, the first the highest.
-fn beside(a: u8, b: u8, c: u8, d: u8) -> u64
-    ensures { result ≡ ((a * 256 + b) * 256 + c) * 256 + d }
-{
-    ((a as u64 * 256 + b as u64) * 256 + c as u64) * 256 + d as u64
-}
-
 // The masks of a depth as one number, the first pixel's the highest. Each is taken at a constant place of the table: where a place is worked out, the table is laid out on
 // the stack first, which measured slower than working out the mask (docs/BENCHMARKS.md).
 fn masks_of(depth: u32) -> u64
     requires { (good_depth depth ≡ true) × (depth < 8) }
     ensures { result ≡ masks_of depth }
 {
-    if depth == 1 {
-        return beside(MASKS[0], MASKS[1], MASKS[2], MASKS[3]) * 4294967296
-            + beside(MASKS[4], MASKS[5], MASKS[6], MASKS[7]);
+    match depth {
+        1 => u64::from_be_bytes([
+            MASKS[0], MASKS[1], MASKS[2], MASKS[3], MASKS[4], MASKS[5], MASKS[6], MASKS[7],
+        ]),
+        2 => u32::from_be_bytes([MASKS[8], MASKS[9], MASKS[10], MASKS[11]]) as u64,
+        _ => u16::from_be_bytes([MASKS[12], MASKS[13]]) as u64,
     }
-    if depth == 2 {
-        return beside(MASKS[8], MASKS[9], MASKS[10], MASKS[11]);
-    }
-    beside(0, 0, MASKS[12], MASKS[13])
 }
 
 // Pixel x's bits.
@@ -105,16 +97,13 @@ pub fn pattern(depth: u32, colour: u32) -> u8
     requires { (good_depth depth ≡ true) × (depth ≤ 8) × (colour < 2 ^ depth) }
     ensures { result ≡ value (2 ^ field depth) (per depth) (λ k. colour) }
 {
-    if depth == 1 {
-        return (colour * 255) as u8;
-    }
-    if depth == 2 {
-        return (colour * 85) as u8;
-    }
-    if depth == 4 {
-        return (colour * 17) as u8;
-    }
-    colour as u8
+    let byte = match depth {
+        1 => colour * 255,
+        2 => colour * 85,
+        4 => colour * 17,
+        _ => colour,
+    };
+    byte as u8
 }
 
 // Inside the library: the byte at a place takes p where m has ones.
@@ -127,25 +116,6 @@ pub fn merge_at(buf: &mut [u8], at: usize, p: u8, m: u8)
 
 // ---- a pixel's bytes, at depths 8 to 32
 
-// Digit k of a colour is in byte k of its pixel, or with the big end first in the one that is k from the last.
-fn turn(big: bool, parts: usize, k: usize) -> usize
-    requires { k < parts }
-    ensures { result ≡ turned big parts k }
-{
-    if big {
-        return parts - 1 - k;
-    }
-    k
-}
-
-// Byte k of a number, the lowest being byte 0.
-fn byte_at(v: u32, k: u32) -> u8
-    requires { k < 4 }
-    ensures { result ≡ digit 256 k v }
-{
-    (v >> (8 * k) & 255) as u8
-}
-
 // The number whose byte k is byte k of a pixel: the colour, or with the big end first its digits the other way round, of which the compiler makes one instruction.
 fn in_order(big: bool, parts: usize, colour: u32) -> u32
     requires { parts ≤ 4 }
@@ -154,82 +124,71 @@ fn in_order(big: bool, parts: usize, colour: u32) -> u32
     if !big {
         return colour;
     }
-    let round = beside(
-        byte_at(colour, 0),
-        byte_at(colour, 1),
-        byte_at(colour, 2),
-        byte_at(colour, 3),
-    );
-    (round >> (8 * (4 - parts as u32))) as u32
+    colour.swap_bytes().wrapping_shr(8 * (4 - parts as u32))
 }
 
-// Inside the library: the colour, written over all of a part of the buffer, a digit a byte.
+// Inside the library: the colour, written over all of a part of the buffer, a digit a byte. Byte by byte: a copy of n bytes where n is no constant is a call of memcpy, 25
+// instructions more a pixel, and a match on n with a copy in each arm takes 5 more a pixel at depth 8 (docs/BENCHMARKS.md).
 pub fn store(part: &mut [u8], big: bool, colour: u32)
     requires { (0 < length part.old) × (length part.old ≤ 4) }
     ensures { part.new ≡
         (let n = length part.old in set_run 0 n (λ j. digit 256 (turned big n j) colour) part.old) }
 {
     let n = part.len();
-    let bytes = in_order(big, n, colour);
-    part[0] = byte_at(bytes, 0);
+    let bytes = in_order(big, n, colour).to_le_bytes();
+    part[0] = bytes[0];
     if n == 1 {
         return;
     }
-    part[1] = byte_at(bytes, 1);
+    part[1] = bytes[1];
     if n == 2 {
         return;
     }
-    part[2] = byte_at(bytes, 2);
+    part[2] = bytes[2];
     if n == 3 {
         return;
     }
-    part[3] = byte_at(bytes, 3);
+    part[3] = bytes[3];
 }
 
-// Inside the library: the colour that all of a part of the buffer holds.
+// Inside the library: the colour that all of a part of the buffer holds, its highest digit read first.
 pub fn load(part: &[u8], big: bool) -> u32
     requires { length part.now ≤ 4 }
     ensures { result ≡
         (let n = length part.now in value 256 n (λ k. get_or part.now (turned big n k) 0)) }
 {
-    let n = part.len();
-    let mut sum = 0u32;
-    let mut k = n;
-    while 0 < k {
-        k -= 1;
-        let i = turn(big, n, k);
-        sum = (sum << 8) | part[i] as u32;
+    let more = |sum: u32, byte: u8| (sum << 8) | byte as u32;
+    if big {
+        part.iter().copied().fold(0, more)
+    } else {
+        part.iter().rev().copied().fold(0, more)
     }
-    sum
 }
 
 // ---- runs of bytes
 
-// Inside the library: every byte of a part of a buffer set to v, by one plain store a turn.
+// Inside the library: every byte of a part of a buffer set to v, by one plain store a turn: `fill` takes 12 to 23 instructions more a call (docs/BENCHMARKS.md).
 pub fn set_all(part: &mut [u8], v: u8)
     ensures { part.new ≡ set_run 0 (length part.old) (λ j. v) part.old }
 {
-    let mut i = 0usize;
-    while i < part.len() {
-        part[i] = v;
-        i += 1;
+    for byte in part.iter_mut() {
+        *byte = v;
     }
 }
 
-// Whole pixels of the colour side by side over all of a part of the buffer.
+// Whole pixels of the colour side by side over all of a part of the buffer. By index, as `repeat` goes: after `chunks_exact_mut` a proof knows the part's length alone.
 fn pixels(part: &mut [u8], parts: usize, big: bool, colour: u32)
     requires { (0 < parts) × (parts ≤ 4) × (length part.old % parts ≡ 0) }
     ensures { part.new ≡ set_run 0 (length part.old) (pixel_byte parts big colour) part.old }
 {
-    let mut i = 0usize;
-    while i < part.len() {
-        let end = i + parts;
-        store(&mut part[i..end], big, colour);
-        i = end;
+    for k in 0..part.len() / parts {
+        let start = k * parts;
+        store(&mut part[start..start + parts], big, colour);
     }
 }
 
-// A block of whole pixels at a depth above 8. Each call has the number of a pixel's bytes as a constant, of which the compiler makes stores without a loop.
+// A block of whole pixels at a depth above 8. Each call has the number of a pixel's bytes as a constant, of which the compiler makes stores without a loop. Each returns its
+// own array: where the arms of a match join, the block is kept in registers, 50 to 70 instructions more (docs/BENCHMARKS.md).
 fn block(depth: u32, big: bool, colour: u32) -> [u8; 64]
     requires { (good_depth depth ≡ true) × (8 < depth) }
     ensures { result ≡ set_run 0 (block_size depth) (pixel_byte (depth / 8) big colour) (replicate 64 0) }
@@ -252,26 +211,21 @@ fn lay(part: &mut [u8], block: &[u8; 64])
     requires { length part.old ≤ 64 }
     ensures { part.new ≡ set_run 0 (length part.old) (λ j. get_or block.now j 0) part.old }
 {
-    let mut i = 0usize;
-    while i < part.len() {
-        part[i] = block[i];
-        i += 1;
-    }
+    part.copy_from_slice(&block[..part.len()]);
 }
 
-// The first n bytes of a block again and again over all of a part of the buffer. The block comes by value: of an own copy the compiler knows that no store into the part
-// changes it, and with n a constant a turn of the loop becomes three or four stores of 16 bytes.
-fn repeat(part: &mut [u8], block: [u8; 64], n: usize)
-    requires { (0 < n) × (n ≤ 64) }
-    ensures { part.new ≡ set_run 0 (length part.old) (λ j. get_or block (j % n) 0) part.old }
+// The first N bytes of a block again and again over all of a part of the buffer. The block comes by value: of an own copy the compiler knows that no store into the part
+// changes it, and a turn of the loop becomes three or four stores of 16 bytes.
+fn repeat<const N: usize>(part: &mut [u8], block: [u8; 64])
+    requires { (0 < N) × (N ≤ 64) }
+    ensures { part.new ≡ set_run 0 (length part.old) (λ j. get_or block (j % N) 0) part.old }
 {
-    let mut i = 0usize;
-    while n <= part.len() - i {
-        let end = i + n;
-        lay(&mut part[i..end], &block);
-        i = end;
+    let blocks = part.len() / N;
+    for k in 0..blocks {
+        let start = k * N;
+        lay(&mut part[start..start + N], &block);
     }
-    lay(&mut part[i..], &block);
+    lay(&mut part[blocks * N..], &block);
 }
 
 // Blocks of pixels over all of a part of the buffer, at a depth above 8: lines of the cache, or at 24 bits 48 bytes. As it is called from two places the compiler does not
@@ -282,10 +236,10 @@ fn fill_blocks(part: &mut [u8], depth: u32, big: bool, colour: u32)
 {
     let bytes = block(depth, big, colour);
     if depth == 24 {
-        repeat(part, bytes, 48);
-        return;
+        repeat::<48>(part, bytes);
+    } else {
+        repeat::<64>(part, bytes);
     }
-    repeat(part, bytes, 64);
 }
 
 // Inside the library: a part of the buffer that holds whole pixels, all of them in the colour. A part of less than 48 bytes is stored pixel by pixel, unless its end cuts
@@ -296,16 +250,14 @@ pub fn fill_part(part: &mut [u8], depth: u32, big: bool, colour: u32)
 {
     if depth <= 8 {
         set_all(part, pattern(depth, colour));
-        return;
-    }
-    if 48 <= part.len() {
+    } else if 48 <= part.len() {
         fill_blocks(part, depth, big, colour);
-        return;
+    } else {
+        let parts = (depth / 8) as usize;
+        if part.len() % parts == 0 {
+            pixels(part, parts, big, colour);
+        } else {
+            fill_blocks(part, depth, big, colour);
+        }
     }
-    let parts = (depth / 8) as usize;
-    if part.len() % parts == 0 {
-        pixels(part, parts, big, colour);
-        return;
-    }
-    fill_blocks(part, depth, big, colour);
 }

@@ -1,3 +1,4 @@
 pub mod Rows
 pub mod Edges
+pub mod Pixels
 pub mod Brushes

@@ -53,10 +53,10 @@ fn put_at(buf: &mut [u8], frame: Frame, x: u32, y: u32, colour: u32)
     let at = byte_of(frame, x, y);
     if depth < 8 {
         buf[at] = packing::with_field(buf[at], depth, x, colour);
-        return;
+    } else {
+        let end = at + (depth / 8) as usize;
+        packing::store(&mut buf[at..end], frame.big, colour);
     }
-    let end = at + (depth / 8) as usize;
-    packing::store(&mut buf[at..end], frame.big, colour);
 }
 
 // Inside the library: the colour of a pixel of the frame.
@@ -67,10 +67,11 @@ pub fn read_point(buf: &[u8], frame: Frame, x: u32, y: u32) -> u32
     let depth = frame.depth;
     let at = byte_of(frame, x, y);
     if depth < 8 {
-        return packing::field_of(buf[at], depth, x);
+        packing::field_of(buf[at], depth, x)
+    } else {
+        let end = at + (depth / 8) as usize;
+        packing::load(&buf[at..end], frame.big)
     }
-    let end = at + (depth / 8) as usize;
-    packing::load(&buf[at..end], frame.big)
 }
 
 // The pixel at a place that the rectangle holds gets the colour.
@@ -127,43 +128,38 @@ fn paint_fields(buf: &mut [u8], frame: Frame, y: u32, from: u32, past: u32, colo
     let tail = packing::bits_to(depth, last_column);
     if first == last {
         packing::merge_at(buf, first, p, head & tail);
-        return;
+    } else {
+        packing::merge_at(buf, first, p, head);
+        packing::merge_at(buf, last, p, tail);
+        packing::set_all(&mut buf[first + 1..last], p);
     }
-    packing::merge_at(buf, first, p, head);
-    packing::merge_at(buf, last, p, tail);
-    packing::set_all(&mut buf[first + 1..last], p);
 }
 
-// The same on a frame of this depth, which is handed on as a constant, as in `set_pixel`.
-fn fields_at_depth(
+// The same on a frame of this depth, which is a constant, as in `set_pixel`.
+fn fields_at_depth<const DEPTH: u32>(
     buf: &mut [u8],
-    depth: u32,
     frame: Frame,
     y: u32,
     from: u32,
     past: u32,
     colour: u32,
 )
-    requires { (depth ≡ frame.depth)
+    requires { (DEPTH ≡ frame.depth)
         × (Drawable frame (length buf.old) colour × (frame.depth < 8) × (y < frame.height) × (from < past) × (past ≤ frame.width)) }
     ensures { buf.new ≡ painted (raster frame) (span_figure (pos y) (pos from) (pos past)) colour buf.old }
 {
-    paint_fields(buf, frame.at_depth(depth), y, from, past, colour);
+    paint_fields(buf, frame.at_depth(DEPTH), y, from, past, colour);
 }
 
 fn paint_by_depth(buf: &mut [u8], frame: Frame, y: u32, from: u32, past: u32, colour: u32)
     requires { Drawable frame (length buf.old) colour × (frame.depth < 8) × (y < frame.height) × (from < past) × (past ≤ frame.width) }
     ensures { buf.new ≡ painted (raster frame) (span_figure (pos y) (pos from) (pos past)) colour buf.old }
 {
-    if frame.depth == 1 {
-        fields_at_depth(buf, 1, frame, y, from, past, colour);
-        return;
+    match frame.depth {
+        1 => fields_at_depth::<1>(buf, frame, y, from, past, colour),
+        2 => fields_at_depth::<2>(buf, frame, y, from, past, colour),
+        _ => fields_at_depth::<4>(buf, frame, y, from, past, colour),
     }
-    if frame.depth == 2 {
-        fields_at_depth(buf, 2, frame, y, from, past, colour);
-        return;
-    }
-    fields_at_depth(buf, 4, frame, y, from, past, colour);
 }
 
 // Columns of row y. From depth 8 on they are whole bytes.
@@ -173,11 +169,11 @@ fn paint_columns(buf: &mut [u8], frame: Frame, y: u32, from: u32, past: u32, col
 {
     if frame.depth < 8 {
         paint_by_depth(buf, frame, y, from, past, colour);
-        return;
+    } else {
+        let start = byte_of(frame, from, y);
+        let end = byte_of(frame, past, y);
+        packing::fill_part(&mut buf[start..end], frame.depth, frame.big, colour);
     }
-    let start = byte_of(frame, from, y);
-    let end = byte_of(frame, past, y);
-    packing::fill_part(&mut buf[start..end], frame.depth, frame.big, colour);
 }
 
 // Inside the library: row y's columns from `start` to one before `end` get the colour, as far as the rectangle holds them; and how many these are, on top of those that
@@ -223,12 +219,8 @@ fn fill_each_row(buf: &mut [u8], frame: Frame, colour: u32)
     requires { Drawable frame (length buf.old) colour × (0 < frame.width) }
     ensures { buf.new ≡ painted (raster frame) everywhere colour buf.old }
 {
-    let width = frame.width;
-    let height = frame.height;
-    let mut y = 0u32;
-    while y < height {
-        paint_columns(buf, frame, y, 0, width, colour);
-        y += 1;
+    for y in 0..frame.height {
+        paint_columns(buf, frame, y, 0, frame.width, colour);
     }
 }
 
@@ -252,12 +244,9 @@ pub fn fill_rows(buf: &mut [u8], brush: Brush) -> u32
     let frame = brush.frame;
     let window = brush.window;
     let width = frame.width as i32;
-    let bottom = window.bottom;
     let mut seen = 0u32;
-    let mut y = window.top;
-    while y < bottom {
+    for y in window.top..window.bottom {
         seen = paint_more(buf, brush, y as i32, 0, width, seen);
-        y += 1;
     }
     seen
 }

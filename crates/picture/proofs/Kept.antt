@@ -14,7 +14,9 @@ use Rattle.layout.specs.Packed.{row_bytes}
 use Rattle.layout.proofs.Padding.{padding_stays, gap_stays, tail_stays}
 use Rattle.layout.proofs.Pictures.{rendered_length, shown_rendered, shown_colour, shown_zeros}
 use Rattle.frames.specs.declared.Frame.{Frame}
+use Rattle.std.specs.Prelude.{Ok}
 use Rattle.frames.specs.Answer.{read}
+use Rattle.frames.proofs.Answer.{same_read}
 use Rattle.frames.specs.Description.{arranged, raster, size, is_outside, frame_tests, read_tests, colour_at, whole_window}
 use Rattle.frames.specs.Judged.{Accepted}
 use Rattle.frames.proofs.Refusals.{is_accepted, frame_numbered, spaced, sound}
@@ -59,12 +61,13 @@ module _ (f : Frame) (n : ℕ) (ok : first (frame_tests f n) ≡ 0) {os : List C
 
   -- "Reading returns the last colour written": whatever `pixel` answers by its contract, asked of these bytes, is the picture's colour
   pub pixel_answers : (x y : ℕ) → x < f.width → y < f.height → (κs : _) (a : _) (r : _) (s : _) → pixel.Post κs a r s
-      → a.0.now ≡ c → a.1.0 ≡ f → a.1.1.0 ≡ (pos x, pos y) → r ≡ read 0 (picture_after f n os (shown (raster f) b) x y)
+      → a.0.now ≡ c → a.1.0 ≡ f → a.1.1.0 ≡ (pos x, pos y) → r ≡ Ok (picture_after f n os (shown (raster f) b) x y)
   pixel_answers x y hx hy κs a r s h p q w =
-      h
+      same_read
+      (h
       ∙ (λ i. read (first (read_tests (q i) (length (p i)) (w i))) (colour_at (q i) (w i) (p i)))
       ∙ ap (λ (k : ℕ). read k (shown (raster f) c x y)) (sym (number x y hx hy))
-      ∙ ap (read 0) (run_shows x y hx hy)
+      ∙ ap (read 0) (run_shows x y hx hy))
 
   -- "Row padding .. never change": bit t of byte j of row y, the lowest being bit 0, where it stands behind the row's last pixel
   pub padding_kept : (y j t : ℕ) → j < f.distance → t < 8 → f.width * f.depth ≤ 8 * j + (7 - t)
@@ -83,7 +86,7 @@ module _ (f : Frame) (n : ℕ) (ok : first (frame_tests f n) ≡ 0) {os : List C
 
 -- from a zero-filled buffer: the colour of the last accepted call whose figure contains the pixel, or 0 if none
 pub pixel_answers_last : (f : Frame) (n : ℕ) → first (frame_tests f n) ≡ 0 → {os : List Call} {c : List ℕ} → Run f os (zeros n) c → (x y : ℕ) → x < f.width → y < f.height
-    → (κs : _) (a : _) (r : _) (s : _) → pixel.Post κs a r s → a.0.now ≡ c → a.1.0 ≡ f → a.1.1.0 ≡ (pos x, pos y) → r ≡ read 0 (picture_after f n os blank x y)
+    → (κs : _) (a : _) (r : _) (s : _) → pixel.Post κs a r s → a.0.now ≡ c → a.1.0 ≡ f → a.1.1.0 ≡ (pos x, pos y) → r ≡ Ok (picture_after f n os blank x y)
 pixel_answers_last f n ok {os} run x y hx hy κs a r s h p q w =
     pixel_answers f n ok (length-replicate n 0) run x y hx hy κs a r s h p q w
-    ∙ ap (λ (g : Picture). read 0 (picture_after f n os g x y)) (λ i u v. shown_zeros (raster f) n u v i)
+    ∙ ap (λ (g : Picture). Ok (picture_after f n os g x y)) (λ i u v. shown_zeros (raster f) n u v i)

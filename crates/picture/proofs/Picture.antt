@@ -26,7 +26,7 @@ use Rattle.frames.specs.Description.{raster, size, no_colour, frame_tests}
 use Rattle.frames.specs.Drawing.{Drawing}
 use Rattle.frames.specs.Judged.{Described, Accepted}
 use Rattle.frames.proofs.Refusals.{is_accepted, frame_numbered, sound}
-use Rattle.headers.specs.Header.{header_of}
+use Rattle.headers.specs.Header.{header_said}
 use Rattle.netpbm.specs.Image.{big_first}
 use Rattle.netpbm.proofs.Transfers.{big_described}
 use Rattle.drawing.specs.Drawing.{figure_drawing}
@@ -69,7 +69,7 @@ loads_lawful : (f : Frame) (s : List ℕ) → Lawful f (loads s)
 loads_lawful f s =
     record {
       local = λ g h a x y hx hy. refl;
-      colours = λ D z g c x y hx hy. shown_colour (raster (big_first f)) (sound (big_first f) (big_described f D)) (drop (header_of f.depth s).start s) x y;
+      colours = λ D z g c x y hx hy. shown_colour (raster (big_first f)) (sound (big_first f) (big_described f D)) (drop (header_said f.depth s).start s) x y;
     }
 
 pub lawful : (f : Frame) (o : Call) → Lawful f (change_of o)

@@ -4,6 +4,8 @@ use mathlib.Core.Path.{◌≡◌, refl, sym, ap, ◌∙◌}
 use mathlib.Core.List.{List, [], ◌∷◌}
 use mathlib.Core.Logic.{◌↔◌}
 use Prim.Native.Nat.{ℕ, ◌<◌}
+use Rattle.refusals.specs.Refusal.{as_number}
+use Rattle.frames.specs.Answer.{as_drawn, as_placed}
 use Rattle.frames.specs.declared.Frame.{Frame}
 use Rattle.framebuffer.proofs.set_pixel.Reads as set_pixel
 use Rattle.framebuffer.proofs.fill.Reads as fill
@@ -20,19 +22,19 @@ use Rattle.picture.proofs.Ties.{Does, counts_does, places_does, loads_does}
 
 -- a call made by its function: the arguments, the answer, whose number is kept, and the bytes afterwards are as the function's contract says
 pub data Made : Frame → Call → List ℕ → ℕ → List ℕ → Type 0 where
-  by_set_pixel : (κs : _) (a : _) (r : _) (s : _) → set_pixel.Post κs a r s → Made a.1.0 (draw (Pixel a.1.1.0) a.1.1.1.0) a.0.now r.number s.0.now
-  by_fill : (κs : _) (a : _) (r : _) (s : _) → fill.Post κs a r s → Made a.1.0 (draw Fill a.1.1.0) a.0.now r.number s.0.now
+  by_set_pixel : (κs : _) (a : _) (r : _) (s : _) → set_pixel.Post κs a r s → Made a.1.0 (draw (Pixel a.1.1.0) a.1.1.1.0) a.0.now (as_placed r).number s.0.now
+  by_fill : (κs : _) (a : _) (r : _) (s : _) → fill.Post κs a r s → Made a.1.0 (draw Fill a.1.1.0) a.0.now (as_drawn r).number s.0.now
   by_draw_line : (κs : _) (a : _) (r : _) (s : _) → draw_line.Post κs a r s
-      → Made a.1.0 (draw (Line a.1.1.0 a.1.1.1.0) a.1.1.1.1.0) a.0.now r.number s.0.now
+      → Made a.1.0 (draw (Line a.1.1.0 a.1.1.1.0) a.1.1.1.1.0) a.0.now (as_drawn r).number s.0.now
   by_draw_triangle : (κs : _) (a : _) (r : _) (s : _) → draw_triangle.Post κs a r s
-      → Made a.1.0 (draw (Triangle a.1.1.0 a.1.1.1.0 a.1.1.1.1.0) a.1.1.1.1.1.0) a.0.now r.number s.0.now
+      → Made a.1.0 (draw (Triangle a.1.1.0 a.1.1.1.0 a.1.1.1.1.0) a.1.1.1.1.1.0) a.0.now (as_drawn r).number s.0.now
   by_draw_outline : (κs : _) (a : _) (r : _) (s : _) → draw_outline.Post κs a r s
-      → Made a.1.0 (draw (Outline a.1.1.0 a.1.1.1.0 a.1.1.1.1.0) a.1.1.1.1.1.0) a.0.now r.number s.0.now
+      → Made a.1.0 (draw (Outline a.1.1.0 a.1.1.1.0 a.1.1.1.1.0) a.1.1.1.1.1.0) a.0.now (as_drawn r).number s.0.now
   by_draw_circle : (κs : _) (a : _) (r : _) (s : _) → draw_circle.Post κs a r s
-      → Made a.1.0 (draw (Circle a.1.1.0 a.1.1.1.0) a.1.1.1.1.0) a.0.now r.number s.0.now
+      → Made a.1.0 (draw (Circle a.1.1.0 a.1.1.1.0) a.1.1.1.1.0) a.0.now (as_drawn r).number s.0.now
   by_draw_connected_line : (κs : _) (a : _) (r : _) (s : _) → draw_connected_line.Post κs a r s
-      → Made a.1.0 (draw (Connected a.1.1.0 a.1.1.1.0) a.1.1.1.1.0) a.0.now r.number s.0.now
-  by_read_image : (κs : _) (a : _) (r : _) (s : _) → image_read.Post κs a r s → Made a.1.0 (read_image a.1.1.0.now) a.0.now r s.0.now
+      → Made a.1.0 (draw (Connected a.1.1.0 a.1.1.1.0) a.1.1.1.1.0) a.0.now (as_drawn r).number s.0.now
+  by_read_image : (κs : _) (a : _) (r : _) (s : _) → image_read.Post κs a r s → Made a.1.0 (read_image a.1.1.0.now) a.0.now (as_number r) s.0.now
 
 -- calls made one after the other on one frame, from the bytes at the start to those at the end
 pub data Run (f : Frame) : List Call → List ℕ → List ℕ → Type 0 where

@@ -1,2 +1,3 @@
 pub mod Writes
 pub mod Hexadecimal
+pub mod Parts

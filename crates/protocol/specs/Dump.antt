@@ -1,8 +1,8 @@
 -- Bytes of the buffer as `dump` shows them.
-use Rattle.std.specs.Prelude.{cond, ◌&&◌, List, [], ◌∷◌, ◌++◌, ℕ, ◌+◌, ◌/◌, ◌%◌, leb, ltb, length, take, drop}
-use Rattle.text.specs.declared.NextU32.{NextU32}
+use Rattle.std.specs.Prelude.{cond, List, [], ◌∷◌, ◌++◌, ℕ, ◌+◌, ◌/◌, ◌%◌, leb, ltb, length, take, drop, Option, Some, None, option_and_then}
+use Rattle.std.specs.Bool.{then_some}
 use Rattle.text.specs.Fields.{next_u32}
-use Rattle.readers.specs.Figures.{is_last, of_two}
+use Rattle.readers.specs.Figures.{last_u32}
 use Rattle.protocol.specs.Reply.{bad_line}
 
 -- a hexadecimal digit, in lower case
@@ -15,10 +15,15 @@ hex_text [] = []
 hex_text (b ∷ s) = hex_digit (b / 16) ∷ hex_digit (b % 16) ∷ hex_text s
 
 -- `dump FROM COUNT`: COUNT bytes of the buffer from FROM on, at most 4,096 and none beyond the buffer
-abbrev pub dump_by : List ℕ → List ℕ → NextU32 → NextU32 → List ℕ
-dump_by said m from count =
-    cond ((is_last said count.next && leb count.value 4096) && leb (from.value + count.value) (length m))
-    (hex_text (take count.value (drop from.value m)) ++ (10 ∷ [])) bad_line
+abbrev pub part_of : List ℕ → ℕ → ℕ → Option (List ℕ)
+part_of m from count = then_some (leb (from + count) (length m)) (take count (drop from m))
 
-unfoldable pub dump_line : List ℕ → ℕ → List ℕ → List ℕ
-dump_line said at m = of_two (dump_by said m) (next_u32 said at) (λ from. next_u32 said from.next)
+unfoldable pub dumped : List ℕ → ℕ → List ℕ → Option (List ℕ)
+dumped said at m = option_and_then (λ f. option_and_then (part_of m f.0) (last_u32 4096 said f.1)) (next_u32 said at)
+
+abbrev pub shown_part : Option (List ℕ) → List ℕ
+shown_part None = bad_line
+shown_part (Some b) = hex_text b ++ (10 ∷ [])
+
+abbrev pub dump_line : List ℕ → ℕ → List ℕ → List ℕ
+dump_line said at m = shown_part (dumped said at m)

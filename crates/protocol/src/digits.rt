@@ -1,11 +1,12 @@
 // Bytes as hexadecimal digits, written and read.
 ghost use Rattle.std.specs.Prelude.{◌≡◌, true, ◌+◌, ◌≤◌, ◌<◌, length};
+ghost use Rattle.std.specs.Option.{option_copied};
 ghost use Rattle.std.proofs.lemmas.List.Edits.{sets};
 ghost use Rattle.protocol.specs.Bytes.{hex_value, all_hex, is_hex, hex_bytes, hex_put};
-ghost use Rattle.protocol.specs.Dump.{hex_digit, hex_text, dump_line};
+ghost use Rattle.protocol.specs.Dump.{hex_digit, hex_text, dumped, dump_line};
 
 use crate::reply::write_bad;
-use readers::ends_within;
+use readers::last_u32;
 
 fn digit(v: u8) -> u8
     requires { v < 16 }
@@ -23,15 +24,23 @@ fn write_hex(out: &mut [u8], at: usize, bytes: &[u8]) -> usize
     ensures { (result ≡ at + length (hex_text bytes.now)) × (out.new ≡ sets out.old at (hex_text bytes.now)) }
 {
     let mut filled = at;
-    let mut i = 0;
-    while i < bytes.len() {
-        let b = bytes[i];
+    for b in bytes {
         out[filled] = digit(b / 16);
         out[filled + 1] = digit(b % 16);
         filled += 2;
-        i += 1;
     }
     filled
+}
+
+// The bytes of the buffer that the numbers of a `dump` ask for.
+fn asked<'m>(said: &[u8], at: usize, memory: &'m [u8]) -> Option<&'m [u8]>
+    ensures { option_copied result ≡ dumped said.now at memory.now }
+{
+    let (from, at) = text::next_u32(said, at)?;
+    let count = last_u32(said, at, 4096)?;
+    let start = from as usize;
+    let end = start + count as usize;
+    memory.get(start..end)
 }
 
 // Inside the library: the line that `dump` is answered, of at most 8,193 bytes.
@@ -40,47 +49,31 @@ pub fn dump(said: &[u8], at: usize, memory: &[u8], out: &mut [u8], to: usize) ->
     ensures { (result ≡ to + length (dump_line said.now at memory.now))
         × (out.new ≡ sets out.old to (dump_line said.now at memory.now)) × (result ≤ to + 8193) }
 {
-    let from = text::next_u32(said, at);
-    let count = text::next_u32(said, from.next);
-    if !ends_within(said, count.next, count.value, 4096) {
+    let Some(bytes) = asked(said, at, memory) else {
         return write_bad(out, to);
-    }
-    let start = from.value as usize;
-    let end = start + count.value as usize;
-    if end > memory.len() {
-        return write_bad(out, to);
-    }
-    let last = write_hex(out, to, &memory[start..end]);
+    };
+    let last = write_hex(out, to, bytes);
     out[last] = b'\n';
     last + 1
 }
 
 // ---- the way back
 
-// The value of a digit, 16 where the byte is none.
-fn digit_value(b: u8) -> u8
+// The value of a digit.
+fn digit_value(b: u8) -> Option<u8>
     ensures { result ≡ hex_value b }
 {
-    if (b >= b'0') & (b <= b'9') {
-        return b - b'0';
+    match b {
+        b'0'..=b'9' => Some(b - b'0'),
+        b'a'..=b'f' => Some(b - 87),
+        _ => None,
     }
-    if (b >= b'a') & (b <= b'f') {
-        return b - 87;
-    }
-    16
 }
 
 fn all_digits(s: &[u8]) -> bool
     ensures { result ≡ all_hex s.now }
 {
-    let mut i = 0;
-    while i < s.len() {
-        if digit_value(s[i]) >= 16 {
-            return false;
-        }
-        i += 1;
-    }
-    true
+    s.iter().all(|b| digit_value(*b).is_some())
 }
 
 // Whether digits are 1 to 48 bytes, two digits each.
@@ -96,13 +89,10 @@ fn put_pairs(out: &mut [u8], at: usize, digits: &[u8])
     requires { (all_hex digits.now ≡ true) × (at + length (hex_bytes digits.now) ≤ length out.old) }
     ensures { out.new ≡ sets out.old at (hex_bytes digits.now) }
 {
-    let count = digits.len() / 2;
-    let mut i = 0;
-    while i < count {
-        let high = digit_value(digits[i * 2]);
-        let low = digit_value(digits[i * 2 + 1]);
+    for i in 0..digits.len() / 2 {
+        let high = digit_value(digits[i * 2]).unwrap_or(0);
+        let low = digit_value(digits[i * 2 + 1]).unwrap_or(0);
         out[at + i] = high * 16 + low;
-        i += 1;
     }
 }
 

@@ -5,4 +5,4 @@ mod digits;
 mod reply;
 
 pub use digits::{dump, put_hex};
-pub use reply::{Reply, Value, verdict_reply, write_bad, write_reply};
+pub use reply::{Reply, Value, write_bad, write_reply};

@@ -1,9 +1,11 @@
 // What a line is answered, and writing it.
 ghost use Rattle.std.specs.Prelude.{◌≡◌, ◌+◌, ◌≤◌, length};
 ghost use Rattle.std.proofs.lemmas.List.Edits.{sets};
-ghost use Rattle.protocol.specs.Reply.{bad_line, natural, value_field, one_line, two_line, reply_line, verdict_reply};
+ghost use Rattle.protocol.specs.Reply.{bad_line, natural, value_field, one_line, two_line, reply_line, number_reply, count_reply, yes_reply, place_reply, columns_reply, run_reply};
 
-use geometry::Verdict;
+use geometry::{Columns, Point};
+use refusals::Refusal;
+use triangle::RowRun;
 
 // A value of an answer: unsigned, or signed.
 #[derive(Clone, Copy)]
@@ -12,24 +14,84 @@ pub enum Value {
     Whole(i32),
 }
 
-// A line that is no request; or an answer's number, alone or with one value or two.
+// An answer's number, alone or with one value or two.
 #[derive(Clone, Copy)]
 pub enum Reply {
-    Bad,
     Number(u32),
     One(u32, Value),
     Two(u32, Value, Value),
 }
 
-// Yes is 1, no is 0.
-pub fn verdict_reply(v: Verdict) -> Reply
-    ensures { result ≡ verdict_reply v }
-{
-    if v.yes {
-        return Reply::One(v.number, Value::Natural(1));
+// ---- answers of the library, each by its number and its values; with a refusal these are 0
+
+impl From<Result<(), Refusal>> for Reply {
+    ghost from_gives = { λ answer reply. reply ≡ number_reply answer };
+
+    fn from(answer: Result<(), Refusal>) -> Self {
+        match answer {
+            Ok(()) => Reply::Number(0),
+            Err(refusal) => Reply::Number(refusal.number()),
+        }
     }
-    Reply::One(v.number, Value::Natural(0))
 }
+
+impl From<Result<u32, Refusal>> for Reply {
+    ghost from_gives = { λ answer reply. reply ≡ count_reply answer };
+
+    fn from(answer: Result<u32, Refusal>) -> Self {
+        match answer {
+            Ok(n) => Reply::One(0, Value::Natural(n)),
+            Err(refusal) => Reply::One(refusal.number(), Value::Natural(0)),
+        }
+    }
+}
+
+// Yes is 1, no is 0.
+impl From<Result<bool, Refusal>> for Reply {
+    ghost from_gives = { λ answer reply. reply ≡ yes_reply answer };
+
+    fn from(answer: Result<bool, Refusal>) -> Self {
+        match answer {
+            Ok(yes) => Reply::One(0, Value::Natural(u32::from(yes))),
+            Err(refusal) => Reply::One(refusal.number(), Value::Natural(0)),
+        }
+    }
+}
+
+impl From<Result<Point, Refusal>> for Reply {
+    ghost from_gives = { λ answer reply. reply ≡ place_reply answer };
+
+    fn from(answer: Result<Point, Refusal>) -> Self {
+        match answer {
+            Ok(p) => Reply::Two(0, Value::Whole(p.0), Value::Whole(p.1)),
+            Err(refusal) => Reply::Two(refusal.number(), Value::Whole(0), Value::Whole(0)),
+        }
+    }
+}
+
+impl From<Result<Columns, Refusal>> for Reply {
+    ghost from_gives = { λ answer reply. reply ≡ columns_reply answer };
+
+    fn from(answer: Result<Columns, Refusal>) -> Self {
+        match answer {
+            Ok(c) => Reply::Two(0, Value::Whole(c.0), Value::Whole(c.1)),
+            Err(refusal) => Reply::Two(refusal.number(), Value::Whole(0), Value::Whole(0)),
+        }
+    }
+}
+
+impl From<Result<RowRun, Refusal>> for Reply {
+    ghost from_gives = { λ answer reply. reply ≡ run_reply answer };
+
+    fn from(answer: Result<RowRun, Refusal>) -> Self {
+        match answer {
+            Ok(r) => Reply::Two(0, Value::Whole(r.first), Value::Natural(r.count)),
+            Err(refusal) => Reply::Two(refusal.number(), Value::Whole(0), Value::Natural(0)),
+        }
+    }
+}
+
+// ---- writing
 
 fn write_natural(out: &mut [u8], at: usize, n: u32, stop: u8) -> usize
     requires { at + 11 ≤ length out.old }
@@ -75,15 +137,15 @@ pub fn write_bad(out: &mut [u8], at: usize) -> usize
     text::write_bytes(out, at, b"bad line\n")
 }
 
-// Inside the library: the line of a reply, of at most 35 bytes.
-pub fn write_reply(out: &mut [u8], at: usize, reply: Reply) -> usize
+// Inside the library: the line of a reply, of at most 35 bytes; none is for a line that is no request.
+pub fn write_reply(out: &mut [u8], at: usize, reply: Option<Reply>) -> usize
     requires { at + 35 ≤ length out.old }
     ensures { (result ≡ at + length (reply_line reply)) × (out.new ≡ sets out.old at (reply_line reply)) × (result ≤ at + 35) }
 {
     match reply {
-        Reply::Bad => write_bad(out, at),
-        Reply::Number(number) => write_natural(out, at, number, b'\n'),
-        Reply::One(number, v) => write_one(out, at, number, v),
-        Reply::Two(number, v, w) => write_two(out, at, number, v, w),
+        None => write_bad(out, at),
+        Some(Reply::Number(number)) => write_natural(out, at, number, b'\n'),
+        Some(Reply::One(number, v)) => write_one(out, at, number, v),
+        Some(Reply::Two(number, v, w)) => write_two(out, at, number, v, w),
     }
 }

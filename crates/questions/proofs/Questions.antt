@@ -1,47 +1,68 @@
 -- The library's answers to questions, put into a reply, and what answers the needs of a question. Assumes nothing.
-use mathlib.Core.Path.{◌≡◌, sym, ap, ◌∙◌}
+use mathlib.Core.Path.{◌≡◌, ap, ◌∙◌}
 use mathlib.Core.Bool.{Bool}
+use Prim.Native.Nat.{ℕ}
 use lib.IntN.{ℤ}
+use Rattle.std.specs.Prelude.{Option, Some, None, Result, Ok, Err}
 use Rattle.whole.proofs.Machine.{field_back}
+use Rattle.refusals.specs.declared.Refusal.{Refusal}
+use Rattle.geometry.specs.declared.Columns.{Columns}
+use Rattle.geometry.specs.declared.Point.{Point}
 use Rattle.geometry.specs.declared.Span.{Span}
 use Rattle.geometry.specs.declared.Verdict.{Verdict}
+use Rattle.geometry.specs.Answer.{as_verdict, as_span}
 use Rattle.line.specs.declared.Length.{Length}
-use Rattle.line.specs.declared.Step.{Step}
+use Rattle.line.specs.Answer.{Step, as_length, as_step}
 use Rattle.triangle.specs.declared.RowRange.{RowRange}
+use Rattle.triangle.specs.declared.RowRun.{RowRun}
+use Rattle.triangle.specs.Answer.{as_rows}
 use Rattle.readers.specs.declared.figures.Corners.{Corners}
-use Rattle.readers.specs.declared.figures.NextCircle.{NextCircle}
-use Rattle.readers.proofs.Readings.{readings}
 use Rattle.protocol.specs.declared.reply.Reply.{Reply}
-use Rattle.protocol.specs.declared.reply.Reply.TheVariants.{Two}
-use Rattle.protocol.specs.declared.reply.Value.TheVariants.{Natural, Whole}
-use Rattle.protocol.specs.Reply.{verdict_reply}
-use Rattle.questions.specs.Ask.{length_said, step_said, span_said, rows_said, span_of, discspan_of}
+use Rattle.protocol.specs.Reply.{replied, verdict_reply, count_reply, yes_reply, place_reply, columns_reply, run_reply}
+use Rattle.questions.specs.Ask.{Asked, length_said, step_said, span_said, rows_said, span_of, discspan_of}
 
--- a question is of the connected line or of the line, by what the code was told
-pub told_which : (f : Bool → Reply) {trace b : Bool} {r : Reply} → trace ≡ b → r ≡ f b → r ≡ f trace
-told_which f e h = h ∙ ap f (sym e)
+-- what is known of an answer that an operation gave is what is to be said of it
+pub asked_is : {A B : Type 0} (asked : Option A) {gives : A → B → Type 0} (say : B → Reply) (said : A → Reply) {r : Option Reply} → Asked asked gives say r
+    → ((a : A) (b : B) → gives a b → say b ≡ said a) → r ≡ replied said asked
+asked_is None say said h given = h
+asked_is (Some a) say said h given = h.2 ∙ ap Some (given a h.0 h.1)
 
-pub length_said_lem : {a found : Length} {r : Reply} → r ≡ length_said a → a ≡ found → r ≡ length_said found
-length_said_lem e q = e ∙ ap length_said q
+-- ---- an answer's reply is that of its number and its values
+pub length_told : (r : Result ℕ Refusal) {l : Length} → as_length r ≡ l → count_reply r ≡ length_said l
+length_told (Ok n) h = ap length_said h
+length_told (Err e) h = ap length_said h
 
-pub step_said_lem : {a found : Step} {r : Reply} → r ≡ step_said a → a ≡ found → r ≡ step_said found
-step_said_lem e q = e ∙ ap step_said q
+pub step_told : (r : Result Point Refusal) {s : Step} → as_step r ≡ s → place_reply r ≡ step_said s
+step_told (Ok p) h = ap step_said h
+step_told (Err e) h = ap step_said h
 
-pub rows_said_lem : {a found : RowRange} {y : ℤ} → a ≡ found → y ≡ a.first → Two a.number (Whole y) (Natural a.count) ≡ rows_said found
-rows_said_lem e p = rw p (ap rows_said e)
+pub verdict_told : (r : Result Bool Refusal) {v : Verdict} → as_verdict r ≡ v → yes_reply r ≡ verdict_reply v
+verdict_told (Ok b) h = ap verdict_reply h
+verdict_told (Err e) h = ap verdict_reply h
 
-pub verdict_said : {v found : Verdict} {r : Reply} → r ≡ verdict_reply v → v ≡ found → r ≡ verdict_reply found
-verdict_said e q = e ∙ ap verdict_reply q
+rows_told : (r : Result RowRun Refusal) {n : RowRange} → as_rows r ≡ n → run_reply r ≡ rows_said n
+rows_told (Ok n) h = ap rows_said h
+rows_told (Err e) h = ap rows_said h
 
-pub span_said_lem : {a found : Span} {x z : ℤ} → a ≡ found → x ≡ a.start → z ≡ a.end → Two a.number (Whole x) (Whole z) ≡ span_said found
-span_said_lem e p q = rw (p, q) (ap span_said e)
+span_told : (r : Result Columns Refusal) {s : Span} → as_span r ≡ s → columns_reply r ≡ span_said s
+span_told (Ok c) h = ap span_said h
+span_told (Err e) h = ap span_said h
+
+pub rows_said_lem : (a : Result RowRun Refusal) {found : RowRange} {r : Reply} → r ≡ run_reply a → as_rows a ≡ found → r ≡ rows_said found
+rows_said_lem a e q = e ∙ rows_told a q
+
+pub verdict_said : (v : Result Bool Refusal) {found : Verdict} {r : Reply} → r ≡ yes_reply v → as_verdict v ≡ found → r ≡ verdict_reply found
+verdict_said v e q = e ∙ verdict_told v q
+
+pub span_said_lem : (a : Result Columns Refusal) {found : Span} {r : Reply} → r ≡ columns_reply a → as_span a ≡ found → r ≡ span_said found
+span_said_lem a e q = e ∙ span_told a q
 
 -- at a row that the code reads back
 pub row_span : (t : Corners) {a : Span} {row y : ℤ} → a ≡ span_of t row → row ≡ y → a ≡ span_of t y
 row_span t e h = e ∙ ap (span_of t) h
 
-pub row_discspan : (c : NextCircle) {a : Span} {row y : ℤ} → a ≡ discspan_of c row → row ≡ y → a ≡ discspan_of c y
+pub row_discspan : (c : Point × ℕ) {a : Span} {row y : ℤ} → a ≡ discspan_of c row → row ≡ y → a ≡ discspan_of c y
 row_discspan c e h = e ∙ ap (discspan_of c) h
 
 -- what answers the needs of a question
-pub ruleset questions = (readings, length_said_lem, step_said_lem, rows_said_lem, verdict_said, span_said_lem, row_span, row_discspan, field_back)
+pub ruleset questions = (rows_said_lem, verdict_said, span_said_lem, row_span, row_discspan, field_back)

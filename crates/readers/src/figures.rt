@@ -1,24 +1,9 @@
 // The numbers of a line, read as the figures that they describe. Places in a line are those of the crate text.
-ghost use Rattle.std.specs.Prelude.{◌≡◌, ◌&&◌, ◌+◌, eqb, leb, length};
-ghost use Rattle.readers.specs.Figures.{is_last, next_point, next_ends, next_corners, next_circle, point_of, corners_of};
+ghost use Rattle.std.specs.Prelude.{◌≡◌};
+ghost use Rattle.text.specs.Lines.{first_line};
+ghost use Rattle.readers.specs.Figures.{line_end, last_u32, next_point, next_ends, next_corners, next_circle, point_of, corners_of, read_point, read_corners};
 
 use geometry::Point;
-use text::{Place, Vertices};
-
-// What reading two coordinates finds, and the place of the next field.
-#[derive(Clone, Copy)]
-pub struct NextPoint {
-    pub point: Point,
-    pub next: usize,
-}
-
-// The same of a line's ends.
-#[derive(Clone, Copy)]
-pub struct NextEnds {
-    pub start: Point,
-    pub end: Point,
-    pub next: usize,
-}
 
 // A triangle's corners, in the order in which they were given.
 #[derive(Clone, Copy)]
@@ -28,110 +13,103 @@ pub struct Corners {
     pub c: Point,
 }
 
-// What reading three corners finds, and the place of the next field.
-#[derive(Clone, Copy)]
-pub struct NextCorners {
-    pub corners: Corners,
-    pub next: usize,
-}
+// What stands for a triangle where there is none.
+pub const NO_TRIANGLE: Corners = Corners {
+    a: Point(0, 0),
+    b: Point(0, 0),
+    c: Point(0, 0),
+};
 
-// The same of a circle.
-#[derive(Clone, Copy)]
-pub struct NextCircle {
-    pub topleft: Point,
-    pub diameter: u32,
-    pub next: usize,
-}
-
-// Whether `next` is the place behind the last field of a line: every field was what was asked for, and there are no more.
-pub fn ends_at(said: &[u8], next: usize) -> bool
-    ensures { result ≡ eqb next (length said.now + 1) }
+// Nothing, unless the line ends at `at`: it is the place behind the last field.
+pub fn line_end(said: &[u8], at: usize) -> Option<()>
+    ensures { result ≡ line_end said.now at }
 {
-    next == said.len() + 1
+    (at == said.len() + 1).then_some(())
 }
 
-// Whether a line ends at `next` and a value of it is at most `most`.
-pub fn ends_within(said: &[u8], next: usize, value: u32, most: u32) -> bool
-    ensures { result ≡ (is_last said.now next && leb value most) }
+// The number at `at`, if it is the last of the line and at most `most`.
+pub fn last_u32(said: &[u8], at: usize, most: u32) -> Option<u32>
+    ensures { result ≡ last_u32 most said.now at }
 {
-    if !ends_at(said, next) {
-        return false;
-    }
-    value <= most
+    let (value, at) = text::next_u32(said, at)?;
+    line_end(said, at)?;
+    (value <= most).then_some(value)
 }
 
-// The two coordinates at `at`.
-pub fn next_point(said: &[u8], at: usize) -> NextPoint
+// The two coordinates at `at`, and the place of the next field.
+pub fn next_point(said: &[u8], at: usize) -> Option<(Point, usize)>
     ensures { result ≡ next_point said.now at }
 {
-    let x = text::next_i32(said, at);
-    let y = text::next_i32(said, x.next);
-    NextPoint {
-        point: Point(x.value, y.value),
-        next: y.next,
-    }
+    let (x, at) = text::next_i32(said, at)?;
+    let (y, at) = text::next_i32(said, at)?;
+    Some((Point(x, y), at))
 }
 
-// The two ends at `at`.
-pub fn next_ends(said: &[u8], at: usize) -> NextEnds
+// The same of a line's two ends.
+pub fn next_ends(said: &[u8], at: usize) -> Option<((Point, Point), usize)>
     ensures { result ≡ next_ends said.now at }
 {
-    let start = next_point(said, at);
-    let end = next_point(said, start.next);
-    let a = start.point;
-    let b = end.point;
-    NextEnds {
-        start: a,
-        end: b,
-        next: end.next,
-    }
+    let (start, at) = next_point(said, at)?;
+    let (end, at) = next_point(said, at)?;
+    Some(((start, end), at))
 }
 
-// The three corners at `at`.
-pub fn next_corners(said: &[u8], at: usize) -> NextCorners
+// The same of three corners.
+pub fn next_corners(said: &[u8], at: usize) -> Option<(Corners, usize)>
     ensures { result ≡ next_corners said.now at }
 {
-    let first = next_ends(said, at);
-    let last = next_point(said, first.next);
-    let a = first.start;
-    let b = first.end;
-    let c = last.point;
-    NextCorners {
-        corners: Corners { a, b, c },
-        next: last.next,
-    }
+    let ((a, b), at) = next_ends(said, at)?;
+    let (c, at) = next_point(said, at)?;
+    Some((Corners { a, b, c }, at))
 }
 
-// The top-left and the diameter at `at`.
-pub fn next_circle(said: &[u8], at: usize) -> NextCircle
+// The same of a circle's top-left and diameter.
+pub fn next_circle(said: &[u8], at: usize) -> Option<((Point, u32), usize)>
     ensures { result ≡ next_circle said.now at }
 {
-    let corner = next_point(said, at);
-    let side = text::next_u32(said, corner.next);
-    let topleft = corner.point;
-    NextCircle {
-        topleft,
-        diameter: side.value,
-        next: side.next,
-    }
+    let (topleft, at) = next_point(said, at)?;
+    let (diameter, at) = text::next_u32(said, at)?;
+    Some(((topleft, diameter), at))
 }
 
 // ---- a whole line
 
-// Inside the library: the point of a line of two coordinates.
-pub fn point_of(p: Place) -> Point
-    ensures { result ≡ point_of p }
+fn point_of(numbers: [i32; 2]) -> Point
+    ensures { result ≡ point_of numbers }
 {
-    Point(p.x, p.y)
+    let [x, y] = numbers;
+    Point(x, y)
 }
 
-// Inside the library: the triangle of a line of six.
-pub fn corners_of(v: Vertices) -> Corners
-    ensures { result ≡ corners_of v }
-{
-    Corners {
-        a: Point(v.x1, v.y1),
-        b: Point(v.x2, v.y2),
-        c: Point(v.x3, v.y3),
+impl From<[i32; 6]> for Corners {
+    ghost from_gives = { λ v t. t ≡ corners_of v };
+
+    fn from([x1, y1, x2, y2, x3, y3]: [i32; 6]) -> Corners {
+        Corners {
+            a: Point(x1, y1),
+            b: Point(x2, y2),
+            c: Point(x3, y3),
+        }
     }
+}
+
+// Inside the library: the point that a line of two coordinates is.
+pub fn read_point(line: &[u8]) -> Option<Point>
+    ensures { result ≡ read_point line.now }
+{
+    text::read_numbers(line).map(point_of)
+}
+
+// Inside the library: the triangle that a line of six is.
+pub fn read_corners(line: &[u8]) -> Option<Corners>
+    ensures { result ≡ read_corners line.now }
+{
+    text::read_numbers(line).map(Corners::from)
+}
+
+// Inside the library: the triangle that the first line of `input` is.
+pub fn first_corners(input: &[u8]) -> Option<Corners>
+    ensures { result ≡ read_corners (first_line input.now) }
+{
+    text::first_numbers(input).map(Corners::from)
 }

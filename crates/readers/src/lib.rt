@@ -5,7 +5,7 @@ mod figures;
 mod words;
 
 pub use figures::{
-    Corners, NextCircle, NextCorners, NextEnds, NextPoint, corners_of, ends_at, ends_within,
-    next_circle, next_corners, next_ends, next_point, point_of,
+    Corners, NO_TRIANGLE, first_corners, last_u32, line_end, next_circle, next_corners, next_ends,
+    next_point, read_corners, read_point,
 };
-pub use words::place_in;
+pub use words::is_word;

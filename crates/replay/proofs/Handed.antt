@@ -1,7 +1,7 @@
 -- What the program hands to `write`, of `run`'s contract as the source states it: if the input was read to its end, the answers to its lines and no other byte;
 -- else the front of them. Assumes nothing.
 use mathlib.Core.Path.{◌≡◌, refl, sym, ap, ◌∙◌}
-use mathlib.Core.Bool.{false, not, ◌&&◌}
+use mathlib.Core.Bool.{false}
 use mathlib.Core.List.{List, [], ◌∷◌, ◌++◌, append_assoc, append-nil}
 use Prim.Native.Nat.{ℕ}
 use lib.ListN.{length, take}
@@ -9,8 +9,9 @@ use lib.Seq.{take_at}
 use Rattle.text.specs.Fields.{lines as parted}
 use Rattle.text.specs.Lines.{each, over}
 use Rattle.text.proofs.Streaming.{handled_seen}
+use Rattle.streams.specs.declared.Input.TheVariants.{End}
 use Rattle.streams.specs.declared.State.{State}
-use Rattle.streams.specs.State.{last_is}
+use Rattle.streams.specs.State.{has_ended, last_is}
 use Rattle.streams.specs.Run.{Ended}
 use Rattle.streams.specs.Handed.{handed_all, came_all}
 use Rattle.streams.proofs.Answers.{seen, Room, room_before, one_more}
@@ -57,12 +58,12 @@ said_behind before l (line ∷ ls) =
     ∙ ap (λ (t : List ℕ). before ++ t) (sym (said_behind (answer line l).0 (answer line l).1 ls))
 
 module _ (out : List ℕ) (m : Buffers) (r : State) (input left : List ℕ) (e : Ended bytes after_lines after_last (first out m) r input left) where
-  all_said : r.more ≡ false → r.unread ≡ false → handed_all e ≡ output m (came_all e)
-  all_said no_more no-failure =
+  all_said : r.input ≡ End → handed_all e ≡ output m (came_all e)
+  all_said to_end =
       sym (append-nil (handed_all e))
-      ∙ sym (ap (λ (o : List ℕ × Left). o.0) (all_handled bytes after_lines after_last (first out m) told work (follows (first out m)) r input left e no_more no-failure))
+      ∙ sym (ap (λ (o : List ℕ × Left). o.0) (all_handled bytes after_lines after_last (first out m) told work (follows (first out m)) r input left e to_end))
 
-  some_said : (not r.more && not r.unread) ≡ false → (more : List ℕ) → take (length (handed_all e)) (output m (came_all e ++ more)) ≡ handed_all e
+  some_said : has_ended r.input ≡ false → (more : List ℕ) → take (length (handed_all e)) (output m (came_all e ++ more)) ≡ handed_all e
   some_said early more =
       let line : List ℕ = ahead input e.st ++ more in
       let l : Left = (after_last input e.st e.left).1.1 in
@@ -74,9 +75,9 @@ module _ (out : List ℕ) (m : Buffers) (r : State) (input left : List ℕ) (e :
 
 -- `run` is lent the input, the two buffers and the output
 module _ (κs : _) (args : _) (r : _) (s : _) (e : run.Post κs args r s) where
-  pub hands_over_the_answers : r.more ≡ false → r.unread ≡ false → handed_all e ≡ output (args.1.1.0.now, args.1.1.1.0.now) (came_all e)
+  pub hands_over_the_answers : r.input ≡ End → handed_all e ≡ output (args.1.1.0.now, args.1.1.1.0.now) (came_all e)
   hands_over_the_answers = all_said args.1.1.1.1.0.now (args.1.1.0.now, args.1.1.1.0.now) r _ _ e
 
-  pub hands_over_no_other : (not r.more && not r.unread) ≡ false → (more : List ℕ)
+  pub hands_over_no_other : has_ended r.input ≡ false → (more : List ℕ)
       → take (length (handed_all e)) (output (args.1.1.0.now, args.1.1.1.0.now) (came_all e ++ more)) ≡ handed_all e
   hands_over_no_other = some_said args.1.1.1.1.0.now (args.1.1.0.now, args.1.1.1.0.now) r _ _ e

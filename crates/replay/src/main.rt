@@ -34,7 +34,7 @@ fn answer_some(
     let done = session::answer_lines(&input[..end], st.next, memory, file, screen, out, st.at);
     let left = done.screen;
     Reached {
-        st: streams::stands_at(st, done.next, done.at),
+        st: st.stands_at(done.next, done.at),
         screen: left,
     }
 }
@@ -52,7 +52,7 @@ fn last_line(
     ensures { ((result.st, (out.new, (result.screen, (memory.new, file.new))))
         ≡ after_last input.now st (out.old, (screen, (memory.old, file.old)))) × (result.st.at ≤ 65536) }
 {
-    if !streams::has_last(st) {
+    if !st.has_last() {
         return Reached { st, screen };
     }
     let next = st.next;
@@ -60,7 +60,7 @@ fn last_line(
     let last = session::answer_line(&input[next..end], memory, file, screen, out, st.at);
     let left = last.screen;
     Reached {
-        st: streams::stands_at(st, end, last.at),
+        st: st.stands_at(end, last.at),
         screen: left,
     }
 }
@@ -76,16 +76,16 @@ fn run(
     requires { (length input.old ≡ 65536) × (length memory.old ≡ 65536) × (length file.old ≡ 65536) × (length out.old ≡ 65536) }
     ensures { Ended bytes after_lines after_last (first out.old (memory.old, file.old)) result input.new out.new }
 {
-    let mut st = streams::start();
+    let mut st = State::start();
     let mut screen = screens::first_screen();
-    while streams::goes_on(st) {
+    // No `for`: the turns are as many as it takes until the state says that the input has ended.
+    while st.goes_on() {
         let reached = answer_some(input, memory, file, out, st, screen);
         screen = reached.screen;
-        st = streams::flush(rt, out, reached.st);
-        st = streams::refill(rt, input, st);
+        st = reached.st.flush(rt, out).refill(rt, input);
     }
     let reached = last_line(input, memory, file, out, st, screen);
-    streams::empty(rt, out, reached.st)
+    reached.st.empty(rt, out)
 }
 
 fn main(rt: HostRuntime) {
@@ -93,6 +93,5 @@ fn main(rt: HostRuntime) {
     let mut memory = [0u8; 65536];
     let mut file = [0u8; 65536];
     let mut out = [0u8; 65536];
-    let st = run(&rt, &mut input, &mut memory, &mut file, &mut out);
-    streams::complain(&rt, st);
+    run(&rt, &mut input, &mut memory, &mut file, &mut out).complain(&rt);
 }

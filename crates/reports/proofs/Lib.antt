@@ -1,5 +1,6 @@
 pub mod Report
 pub mod Within
+pub mod Rows
 pub mod Parts
 pub mod Counting
 pub mod Determined

@@ -9,25 +9,20 @@ use lib.ListN.{length, length-append}
 use lib.Seq.{sets}
 use borrow.Author.Tests.{eq-eqb, ne_eqb}
 use Rattle.whole.proofs.Difference.{as_mk, mks, mk_eq}
+use Rattle.refusals.specs.declared.Refusal.{Refusal}
+use Rattle.refusals.specs.Refusal.{number}
+use Rattle.refusals.proofs.Numbers.{some_number}
 use Rattle.triangle.specs.declared.RowRange.{RowRange}
-use Rattle.triangle.specs.Answer.{rows_answer}
-use Rattle.text.specs.declared.Vertices.{Vertices}
+use Rattle.triangle.specs.declared.RowRun.{RowRun}
+use Rattle.std.specs.Prelude.{Option, Some, None, Result, Ok, Err}
+use Rattle.std.specs.Option.{is_some}
 use Rattle.text.proofs.Writing.{Wrote, sets_append}
 use Rattle.reports.specs.declared.Part.{Part}
 use Rattle.text.specs.Words.{bad_line, counted}
 use Rattle.readers.specs.declared.figures.Corners.{Corners}
-use Rattle.readers.specs.Figures.{corners_of}
+use Rattle.readers.specs.Figures.{corners_or_zero}
 use Rattle.reports.specs.Words.{refused, rows}
-use Rattle.reports.specs.Spans.{rows_of, heading, all_rows, row_line, row_lines, report, first_part, part_text, next_part, parts}
-
--- ---- which rows
-pub no_rows : (v : Vertices) → v.ok ≡ false → rows_answer 0 (pos 0) 0 ≡ rows_of v
-unfolding rows_of
-no_rows v e = rw e
-
-pub some_rows : (v : Vertices) {t : Corners} → t ≡ corners_of v → v.ok ≡ true → all_rows t ≡ rows_of v
-unfolding rows_of
-some_rows v e o = ap all_rows e ∙ rw o
+use Rattle.reports.specs.Spans.{found, rows_of, heading, row_line, row_lines, report, first_part, part_text, next_part, parts}
 
 -- ---- which first line
 module _ (ok : Bool) (r : RowRange) where
@@ -42,6 +37,17 @@ module _ (ok : Bool) (r : RowRange) where
   pub heading_rows : ok ≡ true → r.number ≡ 0 → counted rows r.count ≡ heading ok r
   unfolding heading
   heading_rows e n = rw (e, eq-eqb r.number 0 n)
+
+-- by what was asked for and found
+module _ {f : Option (Result RowRun Refusal)} where
+  pub none_found : f ≡ None → bad_line ≡ heading (is_some f) (found f)
+  none_found e = rw e (heading_bad false (found None) refl)
+
+  pub refusal_found : {r : Refusal} → f ≡ Some (Err r) → counted refused (number r) ≡ heading (is_some f) (found f)
+  refusal_found {r} e = rw e (heading_refused true (found (Some (Err r))) refl (some_number r))
+
+  pub rows_found : {r : RowRun} → f ≡ Some (Ok r) → counted rows r.count ≡ heading (is_some f) (found f)
+  rows_found {r} e = rw e (heading_rows true (found (Some (Ok r))) refl refl)
 
 -- ---- the first row, and those below it
 pub rows_first : (t : Corners) (y : ℤ) (n : ℕ) → 0 < n → row_lines t y n ≡ row_line t y ++ row_lines t (y +ℤ pos 1) (n - 1)
@@ -85,17 +91,7 @@ rows_append t y (suc m) n =
     row = rw (as_mk y) (simp mks (mk_eq _ _ _ _ (omega arith)))
 
 -- ---- the report in parts
-pub first_part_is : (v : Vertices) (r : RowRange) {end : ℕ} {z : ℤ} → r ≡ rows_of v → end ≡ 0 + length (heading v.ok r) → z ≡ r.first
-    → ◌≡◌ {A = Part} (record { end = end; first = z; left = r.count }) (first_part v)
-first_part_is v r {end} {z} e f g = λ i. record { end = size i; first = row i; left = (e i).count }
-  where
-    size : end ≡ length (heading v.ok (rows_of v))
-    size = omega (arith, f, ap (λ (q : RowRange). length (heading v.ok q)) e)
-
-    row : z ≡ (rows_of v).first
-    row = g ∙ ap (λ (q : RowRange). q.first) e
-
-pub next_part_is : (v : Vertices) (p : Part) {end n : ℕ} {z : ℤ} → end ≡ 0 + length (part_text v p) → z ≡ p.first +ℤ pos n → n ≡ min p.left 1024
+pub next_part_is : (v : Option Corners) (p : Part) {end n : ℕ} {z : ℤ} → end ≡ 0 + length (part_text v p) → z ≡ p.first +ℤ pos n → n ≡ min p.left 1024
     → ◌≡◌ {A = Part} (record { end = end; first = z; left = p.left - n }) (next_part v p)
 next_part_is v p {end} {n} {z} f g e = λ i. record { end = size i; first = row i; left = p.left - e i }
   where
@@ -106,16 +102,16 @@ next_part_is v p {end} {n} {z} f g e = λ i. record { end = size i; first = row 
     row = g ∙ ap (λ (k : ℕ). p.first +ℤ pos k) e
 
 -- a part, and what is behind it
-pub part_goes : (v : Vertices) (p : Part) → row_lines (corners_of v) p.first p.left ≡ part_text v p ++ row_lines (corners_of v) (next_part v p).first (next_part v p).left
-part_goes v p = ap (row_lines (corners_of v) p.first) count ∙ rows_append (corners_of v) p.first (min p.left 1024) (p.left - min p.left 1024)
+pub part_goes : (v : Option Corners) (p : Part) → row_lines (corners_or_zero v) p.first p.left ≡ part_text v p ++ row_lines (corners_or_zero v) (next_part v p).first (next_part v p).left
+part_goes v p = ap (row_lines (corners_or_zero v) p.first) count ∙ rows_append (corners_or_zero v) p.first (min p.left 1024) (p.left - min p.left 1024)
   where
     count : p.left ≡ min p.left 1024 + (p.left - min p.left 1024)
     count = omega arith
 
 -- as many parts as there are rows are enough
-pub parts_are : (v : Vertices) (n : ℕ) (p : Part) → p.left ≤ n → parts v n p ≡ row_lines (corners_of v) p.first p.left
-parts_are v zero p h = sym (rows_none (corners_of v) p.first p.left h)
+pub parts_are : (v : Option Corners) (n : ℕ) (p : Part) → p.left ≤ n → parts v n p ≡ row_lines (corners_or_zero v) p.first p.left
+parts_are v zero p h = sym (rows_none (corners_or_zero v) p.first p.left h)
 parts_are v (suc n) p h = ap (λ (l : List ℕ). part_text v p ++ l) (parts_are v n (next_part v p) (omega arith)) ∙ sym (part_goes v p)
 
-pub all_parts : (v : Vertices) → heading v.ok (rows_of v) ++ parts v (rows_of v).count (first_part v) ≡ report v
-all_parts v = ap (λ (l : List ℕ). heading v.ok (rows_of v) ++ l) (parts_are v (rows_of v).count (first_part v) (omega arith))
+pub all_parts : (v : Option Corners) → heading (is_some v) (rows_of v) ++ parts v (rows_of v).count (first_part v) ≡ report v
+all_parts v = ap (λ (l : List ℕ). heading (is_some v) (rows_of v) ++ l) (parts_are v (rows_of v).count (first_part v) (omega arith))

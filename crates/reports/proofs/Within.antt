@@ -19,7 +19,7 @@ use Rattle.geometry.specs.declared.Point.{Point}
 use Rattle.geometry.specs.Answer.{span}
 use Rattle.geometry.specs.Bound.{Coord, in_bounds}
 use Rattle.geometry.proofs.Bound.{coord_size, coord_fits}
-use Rattle.triangle.specs.declared.Columns.{Columns}
+use Rattle.geometry.specs.declared.Columns.{Columns}
 use Rattle.triangle.specs.declared.RowRange.{RowRange}
 use Rattle.refusals.specs.First.{first}
 use Rattle.triangle.specs.Answer.{vertex_tests, rows_answer}
@@ -30,11 +30,12 @@ use Rattle.triangle.proofs.Refusals.{Accepted, is_accepted, sorted_bounded}
 use Rattle.triangle.proofs.Spans.{Spans}
 use Rattle.triangle.proofs.Triangle.{p1, p2, p3, flat, contained_decides, row_spans, last_row}
 use Rattle.triangle.proofs.Box.{box_left, box_right}
-use Rattle.text.specs.declared.Vertices.{Vertices}
+use Rattle.std.specs.Prelude.{Option, Some, None}
+use Rattle.std.specs.Option.{is_some}
 use Rattle.text.proofs.Showing.{zero_fits, triple_short, counted_short}
-use Rattle.text.specs.Words.{bad_line, counted}
+use Rattle.text.specs.Words.{counted}
 use Rattle.readers.specs.declared.figures.Corners.{Corners}
-use Rattle.readers.specs.Figures.{corners_of}
+use Rattle.readers.specs.Figures.{corners_or_zero}
 use Rattle.reports.specs.Words.{refused, rows}
 use Rattle.reports.specs.Corners.{corners_refusal}
 use Rattle.reports.specs.Spans.{rows_of, heading, row_of, row_line, row_lines, report}
@@ -122,29 +123,26 @@ module _ (v1 v2 v3 : Point) (a : Accepted v1 v2 v3) where
       one_more : first_row v1 v2 v3 +ℤ pos (row_count v1 v2 v3) ≡ (p3 v1 v2 v3).1 +ℤ pos 1
       one_more = more (p3 v1 v2 v3).1 (first_row v1 v2 v3 +ℤ pos (row_count v1 v2 v3)) (last_row v1 v2 v3)
 
-abbrev asked : Corners → Bool → ℕ → RowRange
-asked t ok n = cond ok (rows_answer n (first_row t.a t.b t.c) (row_count t.a t.b t.c)) (rows_answer 0 (pos 0) 0)
+abbrev asked : Corners → ℕ → RowRange
+asked t n = rows_answer n (first_row t.a t.b t.c) (row_count t.a t.b t.c)
 
-pub rows_below : (v : Vertices) → ((rows_of v).first +ℤ pos (rows_of v).count) ≤ℤ pos 131072
+pub rows_below : (v : Option Corners) → ((rows_of v).first +ℤ pos (rows_of v).count) ≤ℤ pos 131072
 unfolding rows_of
-rows_below v = by (corners_of v) v.ok (corners_refusal (corners_of v)) refl
+rows_below None = nat_le (omega arith)
+rows_below (Some t) = by (corners_refusal t) refl
   where
-    none : (pos 0 +ℤ pos 0) ≤ℤ pos 131072
-    none = nat_le (omega arith)
+    by : (n : ℕ) → corners_refusal t ≡ n → ((asked t n).first +ℤ pos (asked t n).count) ≤ℤ pos 131072
+    by zero e = rows_end t.a t.b t.c (is_accepted t.a t.b t.c e)
+    by (suc n) e = nat_le (omega arith)
 
-    by : (t : Corners) (ok : Bool) (n : ℕ) → corners_refusal t ≡ n → ((asked t ok n).first +ℤ pos (asked t ok n).count) ≤ℤ pos 131072
-    by t true zero e = rows_end t.a t.b t.c (is_accepted t.a t.b t.c e)
-    by t true (suc n) e = none
-    by t false n e = none
-
-pub first_fits : (v : Vertices) → SFits w32 (rows_of v).first
+pub first_fits : (v : Option Corners) → SFits w32 (rows_of v).first
 unfolding rows_of first_row
-first_fits v = by (corners_of v) v.ok (corners_refusal (corners_of v)) refl
+first_fits None = zero_fits
+first_fits (Some t) = by (corners_refusal t) refl
   where
-    by : (t : Corners) (ok : Bool) (n : ℕ) → corners_refusal t ≡ n → SFits w32 (asked t ok n).first
-    by t true zero e = coord_fits (sorted_bounded t.a t.b t.c _ refl (is_accepted t.a t.b t.c e)).first.y
-    by t true (suc n) e = zero_fits
-    by t false n e = zero_fits
+    by : (n : ℕ) → corners_refusal t ≡ n → SFits w32 (asked t n).first
+    by zero e = coord_fits (sorted_bounded t.a t.b t.c _ refl (is_accepted t.a t.b t.c e)).first.y
+    by (suc n) e = zero_fits
 
 -- ---- and they are few, so the first line is at most 19 bytes long
 rows_few : (v1 v2 v3 : Point) → Accepted v1 v2 v3 → row_count v1 v2 v3 ≤ 262145
@@ -161,30 +159,30 @@ refusal_few v1 v2 v3 = by (not (in_bounds v1 && (in_bounds v2 && in_bounds v3)))
     by true = omega arith
     by false = omega arith
 
-pub heading_short : (v : Vertices) → length (heading v.ok (rows_of v)) ≤ 19
+pub heading_short : (v : Option Corners) → length (heading (is_some v) (rows_of v)) ≤ 19
 unfolding rows_of heading
-heading_short v = by (corners_of v) v.ok (corners_refusal (corners_of v)) refl
+heading_short None = omega arith
+heading_short (Some t) = by (corners_refusal t) refl
   where
-    by : (t : Corners) (ok : Bool) (n : ℕ) → corners_refusal t ≡ n
-        → length (cond ok (cond (eqb (asked t ok n).number 0) (counted rows (asked t ok n).count) (counted refused (asked t ok n).number)) bad_line) ≤ 19
-    by t true zero e =
+    by : (n : ℕ) → corners_refusal t ≡ n
+        → length (cond (eqb (asked t n).number 0) (counted rows (asked t n).count) (counted refused (asked t n).number)) ≤ 19
+    by zero e =
         let few : row_count t.a t.b t.c ≤ 262145 = rows_few t.a t.b t.c (is_accepted t.a t.b t.c e) in
         omega (arith, counted_short rows (row_count t.a t.b t.c) (record { fits = omega arith }))
-    by t true (suc n) e =
+    by (suc n) e =
         rw (ne_eqb (suc n) 0 (λ q. omega arith))
         (omega (arith, counted_short refused (suc n) (record { fits = omega (arith, refusal_few t.a t.b t.c) })))
-    by t false n e = omega arith
 
 -- a report's length fits a machine number
-pub report_short : (v : Vertices) → length (report v) ≤ 100000000000
+pub report_short : (v : Option Corners) → length (report v) ≤ 100000000000
 report_short v =
     let y = (rows_of v).first in
     let n = (rows_of v).count in
     omega (
       arith,
-      length-append (heading v.ok (rows_of v)) (row_lines (corners_of v) y n),
+      length-append (heading (is_some v) (rows_of v)) (row_lines (corners_or_zero v) y n),
       heading_short v,
-      rows_short (corners_of v) y n (first_fits v) (rows_below v),
+      rows_short (corners_or_zero v) y n (first_fits v) (rows_below v),
       part y n n (omega arith) (rows_below v),
       fits_dn w32 y (first_fits v),
     )

@@ -1,38 +1,49 @@
 // What the programs report of their input: the spans of a triangle, and how many samples lie inside one.
 #![tactic(auto)]
 
+ghost use Rattle.std.specs.Prelude.{◌≡◌};
+ghost use Rattle.reports.specs.declared.Trouble.TheVariants.{Refused};
+
 mod minutes;
 mod spans;
 
-pub use minutes::{inside_one, is_counting, no_lines, take_line, take_lines, write_count};
+pub use minutes::{is_inside, write_count};
 use readers::Corners;
+use refusals::Refusal;
 pub use spans::{first_part, next_part, rows_of};
 
-// What `minutes` counts: the samples inside the wedge, and all of them. Else 0 and 0, and one of three: the number of the refusal, that there are too many
-// samples, or which line is bad, counted from 1, and which of its fields: 0, where it has another number of fields or is longer than 128 bytes.
+// The samples inside the wedge, and all of them.
 #[derive(Clone, Copy)]
-pub struct Count {
-    pub number: u32,
-    pub long: bool,
-    pub bad: u64,
-    pub field: u32,
+pub struct Samples {
     pub inside: u32,
-    pub samples: u32,
+    pub all: u32,
 }
 
-// Where counting stands between two lines: whether there was a first one, the wedge that it is, and the count so far.
+// What ends a count: the wedge's refusal, that there are too many samples, or which line is bad, counted from 1, and which of its fields: 0, where
+// it has another number of fields or is longer than 128 bytes.
 #[derive(Clone, Copy)]
-pub struct Tally {
-    pub begun: bool,
-    pub wedge: Corners,
-    pub count: Count,
+pub enum Trouble {
+    Refused(Refusal),
+    TooLong,
+    Bad { line: u64, field: u32 },
 }
 
-// How far a part of the input is counted, and the count then.
+impl From<Refusal> for Trouble {
+    ghost from_gives = { λ refusal e. e ≡ Refused refusal };
+
+    fn from(refusal: Refusal) -> Self {
+        Trouble::Refused(refusal)
+    }
+}
+
+// What `minutes` counts, or what went wrong first.
+pub type Count = Result<Samples, Trouble>;
+
+// Where counting stands between two lines: before the first one, or behind it, with the wedge that it is and the count so far.
 #[derive(Clone, Copy)]
-pub struct Taken {
-    pub next: usize,
-    pub tally: Tally,
+pub enum Tally {
+    Fresh,
+    Begun { wedge: Corners, count: Count },
 }
 
 // A part of what `spans` reports: how many bytes it has, and how many rows are left behind it, from `first` on.

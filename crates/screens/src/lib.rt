@@ -2,12 +2,12 @@
 #![tactic(auto)]
 
 ghost use Rattle.std.specs.Prelude.{◌≡◌, ◌≤◌, length};
-ghost use Rattle.screens.specs.Screen.{start, next_screen, frame_turn, preset_call, read_reply, image_size_reply, lit_reply, response};
+ghost use Rattle.screens.specs.Screen.{start, last_screen, frame_turn, preset_call, read_reply, image_size_reply, lit_reply, response};
 
 use calls::draw;
 use frames::Frame;
-use protocol::{Reply, Value};
-use readers::{ends_at, ends_within, next_point, place_in};
+use protocol::Reply;
+use readers::{is_word, last_u32, line_end, next_point};
 
 // The description, and how many bytes of the buffer are lent to drawing calls.
 #[derive(Clone, Copy)]
@@ -26,110 +26,80 @@ pub fn first_screen() -> Screen
     }
 }
 
-// What a line leaves of the screen, and what it is answered.
+// What a line leaves of the screen, and what it is answered; none, if it is no request.
 #[derive(Clone, Copy)]
 pub struct Turn {
     pub screen: Screen,
-    pub reply: Reply,
-}
-
-// What reading a description finds.
-#[derive(Clone, Copy)]
-pub struct Described {
-    pub ok: bool,
-    pub screen: Screen,
+    pub reply: Option<Reply>,
 }
 
 // The description at `at`, which has to be the rest of the line.
-fn next_screen(said: &[u8], at: usize) -> Described
-    ensures { result ≡ next_screen said.now at }
+fn last_screen(said: &[u8], at: usize) -> Option<Screen>
+    ensures { result ≡ last_screen said.now at }
 {
-    let width = text::next_u32(said, at);
-    let height = text::next_u32(said, width.next);
-    let depth = text::next_u32(said, height.next);
-    let order = text::next_u32(said, depth.next);
-    let lent = text::next_u32(said, order.next);
-    let distance = text::next_u32(said, lent.next);
-    let frame = Frame::new(
-        width.value,
-        height.value,
-        depth.value,
-        order.value == 1,
-        distance.value,
-    );
-    let screen = Screen {
+    let (width, at) = text::next_u32(said, at)?;
+    let (height, at) = text::next_u32(said, at)?;
+    let (depth, at) = text::next_u32(said, at)?;
+    let (order, at) = text::next_u32(said, at)?;
+    let (lent, at) = text::next_u32(said, at)?;
+    let (distance, at) = text::next_u32(said, at)?;
+    line_end(said, at)?;
+    if order > 1 || lent > 65536 {
+        return None;
+    }
+    let frame = Frame::new(width, height, depth, order == 1, distance);
+    Some(Screen {
         frame,
-        lent: lent.value as usize,
-    };
-    if order.value > 1 {
-        return Described { ok: false, screen };
-    }
-    Described {
-        ok: ends_within(said, distance.next, lent.value, 65536),
-        screen,
-    }
+        lent: lent as usize,
+    })
 }
 
 fn frame(said: &[u8], at: usize, memory: &mut [u8], screen: Screen) -> Turn
     ensures { (result, memory.new) ≡ frame_turn said.now at screen memory.old }
 {
-    let found = next_screen(said, at);
-    if !found.ok {
+    let Some(after) = last_screen(said, at) else {
         return Turn {
             screen,
-            reply: Reply::Bad,
+            reply: None,
         };
-    }
+    };
     packing::set_all(memory, 0);
-    let after = found.screen;
-    let size = framebuffer::buffer_size_bpp(after.frame);
+    let reply = Some(framebuffer::buffer_size_bpp(after.frame).into());
     Turn {
         screen: after,
-        reply: Reply::One(size.number, Value::Natural(size.bytes)),
+        reply,
     }
 }
 
 // Inside the library: every byte of a buffer set to the value.
-pub fn preset(said: &[u8], at: usize, memory: &mut [u8]) -> Reply
+pub fn preset(said: &[u8], at: usize, memory: &mut [u8]) -> Option<Reply>
     ensures { (result, memory.new) ≡ preset_call said.now at memory.old }
 {
-    let v = text::next_u32(said, at);
-    if !ends_within(said, v.next, v.value, 255) {
-        return Reply::Bad;
-    }
-    packing::set_all(memory, v.value as u8);
-    Reply::Number(0)
+    let v = last_u32(said, at, 255)?;
+    packing::set_all(memory, v as u8);
+    Some(Reply::Number(0))
 }
 
-fn read(said: &[u8], at: usize, buf: &[u8], frame: Frame) -> Reply
+fn read(said: &[u8], at: usize, buf: &[u8], frame: Frame) -> Option<Reply>
     ensures { result ≡ read_reply said.now at frame buf.now }
 {
-    let place = next_point(said, at);
-    if !ends_at(said, place.next) {
-        return Reply::Bad;
-    }
-    let found = framebuffer::pixel(buf, frame, place.point);
-    Reply::One(found.number, Value::Natural(found.colour))
+    let (p, at) = next_point(said, at)?;
+    line_end(said, at)?;
+    Some(framebuffer::pixel(buf, frame, p).into())
 }
 
-fn image_size(said: &[u8], at: usize, frame: Frame) -> Reply
+fn image_size(said: &[u8], at: usize, frame: Frame) -> Option<Reply>
     ensures { result ≡ image_size_reply said.now at frame }
 {
-    if !ends_at(said, at) {
-        return Reply::Bad;
-    }
-    let size = netpbm::image_size(frame);
-    Reply::One(size.number, Value::Natural(size.bytes))
+    line_end(said, at)?;
+    Some(netpbm::image_size(frame).into())
 }
 
-fn lit(said: &[u8], at: usize, buf: &[u8], frame: Frame) -> Reply
+fn lit(said: &[u8], at: usize, buf: &[u8], frame: Frame) -> Option<Reply>
     ensures { result ≡ lit_reply said.now at frame buf.now }
 {
-    if !ends_at(said, at) {
-        return Reply::Bad;
-    }
-    let found = lights::lit(buf, frame);
-    Reply::One(found.number, Value::Natural(found.count))
+    line_end(said, at)?;
+    Some(lights::lit(buf, frame).into())
 }
 
 // Inside the library: does what the line says that starts with the word, all but those on the file and those that show bytes. Calls are made on the lent part of
@@ -139,21 +109,21 @@ pub fn respond(word: &[u8], said: &[u8], at: usize, memory: &mut [u8], screen: S
     ensures { (result, memory.new) ≡ response word.now said.now at screen memory.old }
 {
     let lent = screen.lent;
-    match place_in(b"frame\tpreset\tread\timagesize\tlit", word) {
-        0 => frame(said, at, memory, screen),
-        1 => {
+    match word {
+        w if is_word(w, b"frame") => frame(said, at, memory, screen),
+        w if is_word(w, b"preset") => {
             let reply = preset(said, at, memory);
             Turn { screen, reply }
         }
-        2 => {
+        w if is_word(w, b"read") => {
             let reply = read(said, at, &memory[..lent], screen.frame);
             Turn { screen, reply }
         }
-        3 => {
+        w if is_word(w, b"imagesize") => {
             let reply = image_size(said, at, screen.frame);
             Turn { screen, reply }
         }
-        4 => {
+        w if is_word(w, b"lit") => {
             let reply = lit(said, at, &memory[..lent], screen.frame);
             Turn { screen, reply }
         }

@@ -6,7 +6,7 @@ ghost use Rattle.session.specs.Lines.{answered, after_all};
 
 use files::take_turn;
 use protocol::{dump, write_bad, write_reply};
-use readers::place_in;
+use readers::is_word;
 use screens::Screen;
 
 // What a line leaves: the screen, and how far the output is filled.
@@ -43,22 +43,20 @@ pub fn answer_line(
     }
     let end = text::find(said, b'\t');
     let word = &said[..end];
-    match place_in(b"dump\tfile", word) {
-        0 => {
+    match word {
+        w if is_word(w, b"dump") => {
             let filled = dump(said, end + 1, memory, out, at);
             Answered { screen, at: filled }
         }
-        1 => {
+        w if is_word(w, b"file") => {
             let filled = dump(said, end + 1, file, out, at);
             Answered { screen, at: filled }
         }
         _ => {
             let turn = take_turn(word, said, end + 1, memory, file, screen);
-            let after = turn.screen;
-            let reply = turn.reply;
-            let filled = write_reply(out, at, reply);
+            let filled = write_reply(out, at, turn.reply);
             Answered {
-                screen: after,
+                screen: turn.screen,
                 at: filled,
             }
         }
@@ -82,16 +80,10 @@ pub fn answer_lines(
     let mut next = from;
     let mut filled = at;
     let mut current = screen;
+    // No `for` over `split_inclusive`: its last line may lack an LF, and how far the input is read would be counted by hand all the same.
     loop {
         let end = text::part_end(input, next, b'\n');
-        if end == input.len() {
-            return Progress {
-                next,
-                screen: current,
-                at: filled,
-            };
-        }
-        if !text::has_room(out.len(), filled, 8193) {
+        if end == input.len() || !text::has_room(out.len(), filled, 8193) {
             return Progress {
                 next,
                 screen: current,

@@ -6,14 +6,14 @@ use mathlib.Core.Bool.{true}
 use Rattle.whole.proofs.Determined.{One, same}
 use Rattle.streams.specs.State.{written, emptied}
 use Rattle.streams.specs.Refill.{whole}
-use Rattle.streams.proofs.start.Reads as start
-use Rattle.streams.proofs.goes_on.Reads as goes_on
-use Rattle.streams.proofs.stands_at.Reads as stands_at
-use Rattle.streams.proofs.has_line.Reads as has_line
-use Rattle.streams.proofs.has_last.Reads as has_last
-use Rattle.streams.proofs.flush.Reads as flush
-use Rattle.streams.proofs.empty.Reads as empty
-use Rattle.streams.proofs.refill.Reads as refill
+use Rattle.streams.proofs.State.start.Reads as start
+use Rattle.streams.proofs.State.goes_on.Reads as goes_on
+use Rattle.streams.proofs.State.stands_at.Reads as stands_at
+use Rattle.streams.proofs.State.has_line.Reads as has_line
+use Rattle.streams.proofs.State.has_last.Reads as has_last
+use Rattle.streams.proofs.State.flush.Reads as flush
+use Rattle.streams.proofs.State.empty.Reads as empty
+use Rattle.streams.proofs.State.refill.Reads as refill
 
 pub start_one : One start.Post
 start_one κs args r q s t = same
@@ -32,12 +32,12 @@ has_last_one κs args r q s t = same
 
 -- ---- a write
 pub flush_one : (κs : _) (args : _) (r q : _) (s t : _) → flush.Post κs args r s → flush.Post κs args q t → r.unwritten ≡ q.unwritten → r ≡ q
-flush_one κs args r q s t h k e = h ∙ ap (written args.1.1.0) e ∙ sym k
+flush_one κs args r q s t h k e = h ∙ ap (written args.0) e ∙ sym k
 
 pub empty_one : (κs : _) (args : _) (r q : _) (s t : _) → empty.Post κs args r s → empty.Post κs args q t → r.unwritten ≡ q.unwritten → r ≡ q
-empty_one κs args r q s t h k e = h ∙ ap (emptied args.1.1.0) e ∙ sym k
+empty_one κs args r q s t h k e = h ∙ ap (emptied args.0) e ∙ sym k
 
 -- ---- a read
-pub refill_one : (κs : _) (args : _) (r q : _) (s t : _) → refill.Post κs args r s → refill.Post κs args q t → whole args.1.0.now args.1.1.0 ≡ true
-    → (r ≡ q) × (s.1.0.now ≡ t.1.0.now)
+pub refill_one : (κs : _) (args : _) (r q : _) (s t : _) → refill.Post κs args r s → refill.Post κs args q t → whole args.1.1.0.now args.0 ≡ true
+    → (r ≡ q) × (s.1.1.0.now ≡ t.1.1.0.now)
 refill_one κs args r q s t h k e = (same (h.stays e).0 (k.stays e).0, same (h.stays e).1 (k.stays e).1)

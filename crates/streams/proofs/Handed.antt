@@ -1,8 +1,8 @@
 -- What a program hands to `write` is what its input, handled line by line, asks for. Assumes nothing.
 use mathlib.Core.Path.{◌≡◌, refl, sym, ap, ap₂, subst, ◌∙◌}
-use mathlib.Core.Bool.{Bool, true, false, cond, not, ◌&&◌, true≢false}
+use mathlib.Core.Bool.{Bool, true, false, cond}
 use mathlib.Core.List.{List, [], ◌∷◌, ◌++◌, append_assoc, append-nil}
-use Prim.Native.Nat.{ℕ, ◌+◌, ◌-◌, ◌≤◌, ◌<◌}
+use Prim.Native.Nat.{ℕ, zero, suc, ◌+◌, ◌-◌, ◌≤◌, ◌<◌}
 use native.Mathlib.Omega.{arith}
 use lib.Dec.{ltb}
 use lib.ListN.{length, take, drop, length-take, length-drop, take-append-drop, drop_of_length-le}
@@ -13,9 +13,11 @@ use Rattle.text.specs.Lines.{line_end, each, over}
 use Rattle.text.proofs.Parting.{until_within}
 use Rattle.text.proofs.Streaming.{first_line_lem, until_take, over_cut}
 use Rattle.text.proofs.Writing.{drop_take}
+use Rattle.std.specs.Prelude.{Option, Some, None, unwrap_or}
+use Rattle.streams.specs.declared.Input.TheVariants.{More, End}
 use Rattle.streams.specs.declared.State.{State}
-use Rattle.streams.specs.State.{stands_at, emptied, written, last_is}
-use Rattle.streams.specs.Refill.{whole, rest, ReadOn, Refilled}
+use Rattle.streams.specs.State.{has_ended, stands_at, emptied, written, last_is}
+use Rattle.streams.specs.Refill.{whole, rest, hope, ReadOn, Refilled}
 use Rattle.streams.specs.Run.{Ran, begun, turn, Ended}
 use Rattle.streams.specs.Handed.{flushed, brought, handed, came, handed_all, came_all}
 use Rattle.streams.proofs.Answers.{refilled_at}
@@ -38,8 +40,13 @@ no_line input st e =
     let there : List ℕ = take st.end input in
     omega (arith, ltb-false (line_end there st.next) st.end e, until_within 10 (ahead input st), length-drop st.next there, length-take st.end input)
 
+none_came : (read : Option ℕ) → hope read ≡ End → unwrap_or read 0 ≡ 0
+none_came (Some zero) e = refl
+none_came (Some (suc n)) e = cc
+none_came None e = refl
+
 module _ (input : List ℕ) (st r : State) (after : List ℕ) (o : ReadOn input st r after) where
-  ends_at : r.end ≡ length (rest input st) + o.count
+  ends_at : r.end ≡ length (rest input st) + unwrap_or o.read 0
   ends_at = ap (λ (q : State). q.end) o.state
 
   ahead_is : ahead after r ≡ take r.end after
@@ -52,16 +59,16 @@ module _ (input : List ℕ) (st r : State) (after : List ℕ) (o : ReadOn input 
       ∙ take-append-drop n (take r.end after) ∙ sym ahead_is
 
   -- none came
-  ended : r.more ≡ false → rest input st ≡ ahead after r
+  ended : r.input ≡ End → rest input st ≡ ahead after r
   ended e =
-      let none : o.count ≡ 0 = omega (arith, ltb-false 0 o.count (sym (ap (λ (q : State). q.more) o.state) ∙ e)) in
+      let none : unwrap_or o.read 0 ≡ 0 = none_came o.read (sym (ap (λ (q : State). q.input) o.state) ∙ e) in
       let same : length (rest input st) ≡ r.end = omega (arith, ends_at, none) in
       sym o.kept ∙ ap (λ (k : ℕ). take k after) same ∙ sym ahead_is
 
-written_more : (st : State) (failed : Bool) → (written st failed).more ≡ st.more
-written_more st failed = by (ltb st.at 32768)
+written_input : (st : State) (failed : Bool) → (written st failed).input ≡ st.input
+written_input st failed = by (ltb st.at 32768)
   where
-    by : (t : Bool) → (cond t st (emptied st failed)).more ≡ st.more
+    by : (t : Bool) → (cond t st (emptied st failed)).input ≡ st.input
     by true = refl
     by false = refl
 
@@ -70,9 +77,9 @@ abbrev last_or_none : {O : Type 0} → State → ℕ → O → O → Bool → St
 last_or_none st at done o t = cond t (stands_at st st.end at, done) (st, o)
 
 pub last_or_none_lem : {O : Type 0} (st : State) (at : ℕ) (done o : O) (t : Bool)
-    → ((last_or_none st at done o t).0.more ≡ st.more) × ((last_or_none st at done o t).0.unread ≡ st.unread)
-last_or_none_lem st at done o true = (refl, refl)
-last_or_none_lem st at done o false = (refl, refl)
+    → (last_or_none st at done o t).0.input ≡ st.input
+last_or_none_lem st at done o true = refl
+last_or_none_lem st at done o false = refl
 
 module _ {O S : Type 0} (bytes : O → List ℕ) (lines last : List ℕ → State → O → State × O) (first : O) (f : S → List ℕ → S) (view : List ℕ → ℕ → O → S) where
   -- the program does with its lines what f does. `view` is how far it is with that: by what was handed over, up to where the output's buffer is filled behind
@@ -86,12 +93,12 @@ module _ {O S : Type 0} (bytes : O → List ℕ) (lines last : List ℕ → Stat
     pub goes : (before input more : List ℕ) (st : State) (o : O) → (lines input st o).0.at ≤ length (bytes (lines input st o).1)
         → over f (view before st.at o) (ahead input st ++ more)
         ≡ over f (view before (lines input st o).0.at (lines input st o).1) (ahead input (lines input st o).0 ++ more)
-    pub keeps : (input : List ℕ) (st : State) (o : O) → (lines input st o).0.more ≡ st.more
+    pub keeps : (input : List ℕ) (st : State) (o : O) → (lines input st o).0.input ≡ st.input
     -- the last line, or none
     pub ends : (before input : List ℕ) (st : State) (o : O) → (last input st o).0.at ≤ length (bytes (last input st o).1) → last_is st ≡ true
         → view before (last input st o).0.at (last input st o).1 ≡ f (view before st.at o) (last_line input st)
     pub stays : (before input : List ℕ) (st : State) (o : O) → last_is st ≡ false → view before (last input st o).0.at (last input st o).1 ≡ view before st.at o
-    pub last_keeps : (input : List ℕ) (st : State) (o : O) → ((last input st o).0.more ≡ st.more) × ((last input st o).0.unread ≡ st.unread)
+    pub last_keeps : (input : List ℕ) (st : State) (o : O) → (last input st o).0.input ≡ st.input
 
   module _ (h : Follows) where
     -- ---- a turn
@@ -118,11 +125,13 @@ module _ {O S : Type 0} (bytes : O → List ℕ) (lines last : List ℕ → Stat
               over_cut f 128 h.enough s (ahead input st) (b ++ more) (no_line input st e)
               ∙ ap (over f s) (sym (append_assoc (rest input st) b more) ∙ ap (λ (l : List ℕ). l ++ more) (joined input st r after (g.reads e)))
 
-      read_open : st.more ≡ true → r.more ≡ false → Open (ahead after r) × (r.end ≤ length after)
+      read_open : st.input ≡ More → r.input ≡ End → Open (ahead after r) × (r.end ≤ length after)
       read_open m e = by (whole input st) refl
         where
           by : (t : Bool) → whole input st ≡ t → Open (ahead after r) × (r.end ≤ length after)
-          by true w = absurd (true≢false (sym m ∙ sym (ap (λ (q : State). q.more) (g.stays w).0) ∙ e))
+          by true w =
+              let still : r.input ≡ st.input = ap (λ (q : State). q.input) (g.stays w).0 in
+              absurd (cc)
           by false w =
               let o = g.reads w in (
                 subst Open (ended input st r after o e) (until_take 10 (ahead input st) 129 (no_line input st w)),
@@ -145,10 +154,10 @@ module _ {O S : Type 0} (bytes : O → List ℕ) (lines last : List ℕ → Stat
         ∙ read_step input w r after g (view (t ++ flushed m.0 (bytes m.1)) w.at m.1) more
         ∙ ap (λ (k : ℕ). over f (view (t ++ flushed m.0 (bytes m.1)) k m.1) (ahead after r ++ more)) (sym (refilled_at input w r after g))
 
-    run_open : (st : State) (input : List ℕ) (o : O) → Ran bytes lines first st input o → st.more ≡ false → Open (ahead input st) × (st.end ≤ length input)
-    run_open _ _ _ (begun input) e = absurd (true≢false e)
+    run_open : (st : State) (input : List ℕ) (o : O) → Ran bytes lines first st input o → st.input ≡ End → Open (ahead input st) × (st.end ≤ length input)
+    run_open _ _ _ (begun input) e = absurd (cc)
     run_open _ _ _ (turn st input o failed r after ran on fits g) e =
-        read_open input (written (lines input st o).0 failed) r after g (written_more (lines input st o).0 failed ∙ h.keeps input st o ∙ (still_goes st on).0) e
+        read_open input (written (lines input st o).0 failed) r after g (written_input (lines input st o).0 failed ∙ h.keeps input st o ∙ (still_goes st on).0) e
 
     -- ---- one line alone
     one_alone : (s : S) (l : List ℕ) → Open l → 0 < length l → over f s l ≡ f s l
@@ -163,11 +172,8 @@ module _ {O S : Type 0} (bytes : O → List ℕ) (lines last : List ℕ → Stat
       abbrev at_last : State × O
       at_last = last input e.st e.left
 
-      pub same_more : r.more ≡ e.st.more
-      same_more = ap (λ (q : State). q.more) e.done ∙ (h.last_keeps input e.st e.left).0
-
-      pub same_unread : r.unread ≡ e.st.unread
-      same_unread = ap (λ (q : State). q.unread) e.done ∙ (h.last_keeps input e.st e.left).1
+      pub same_input : r.input ≡ e.st.input
+      same_input = ap (λ (q : State). q.input) e.done ∙ h.last_keeps input e.st e.left
 
       all_moved : view (handed e.ran) at_last.0.at at_last.1 ≡ view (handed_all e) 0 at_last.1
       all_moved =
@@ -175,30 +181,22 @@ module _ {O S : Type 0} (bytes : O → List ℕ) (lines last : List ℕ → Stat
           ∙ ap (λ (l : List ℕ). view (handed e.ran ++ take at_last.0.at l) 0 at_last.1) (sym e.leaves)
 
       -- if its input was not read to the end: what was handed over is what the lines up to there ask for, whatever else was to come
-      pub cut_short : (not r.more && not r.unread) ≡ false → (more : List ℕ)
+      pub cut_short : has_ended r.input ≡ false → (more : List ℕ)
           → over f (view [] 0 first) (came_all e ++ more) ≡ over f (view (handed_all e) 0 at_last.1) (ahead input e.st ++ more)
       cut_short early more =
           run_said e.st input e.left e.ran more
           ∙ ap (λ (s : S). over f s (ahead input e.st ++ more)) (sym (h.stays (handed e.ran) input e.st e.left no_last) ∙ all_moved)
         where
-          none : (a b c : Bool) → (not a && not b) ≡ false → (not a && (not b && c)) ≡ false
-          none true b c q = refl
-          none false true c q = refl
-          none false false c q = absurd (true≢false q)
-
           no_last : last_is e.st ≡ false
-          no_last = none e.st.more e.st.unread (ltb e.st.next e.st.end) (rw (same_more, same_unread) at early)
+          no_last = rw (rw same_input at early)
 
       -- if it was read to the end
-      module _ (no_more : r.more ≡ false) (no-failure : r.unread ≡ false) where
-        pub ended_more : e.st.more ≡ false
-        ended_more = sym (same_more) ∙ no_more
-
-        pub all_read : e.st.unread ≡ false
-        all_read = sym (same_unread) ∙ no-failure
+      module _ (to_end : r.input ≡ End) where
+        pub ended_input : e.st.input ≡ End
+        ended_input = sym same_input ∙ to_end
 
         is_last : last_is e.st ≡ ltb e.st.next e.st.end
-        is_last = rw (ended_more, all_read)
+        is_last = rw ended_input
 
         at_end : over f (view (handed e.ran) e.st.at e.left) (ahead input e.st)
             ≡ view (handed e.ran) at_last.0.at at_last.1
@@ -211,7 +209,7 @@ module _ {O S : Type 0} (bytes : O → List ℕ) (lines last : List ℕ → Stat
             line = ahead input e.st
 
             line_open : Open line × (e.st.end ≤ length input)
-            line_open = run_open e.st input e.left e.ran ended_more
+            line_open = run_open e.st input e.left e.ran ended_input
 
             size_of : length line ≡ e.st.end - e.st.next
             size_of = omega (arith, length-drop e.st.next (take e.st.end input), length-take e.st.end input, line_open.1)

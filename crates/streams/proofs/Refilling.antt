@@ -2,16 +2,13 @@
 use mathlib.Core.Path.{◌≡◌, refl, sym, ap, ◌∙◌}
 use mathlib.Core.Bool.{Bool, true, false, true≢false}
 use mathlib.Core.List.{List}
-use Prim.Native.Nat.{ℕ, ◌+◌, ◌≤◌, ◌<◌}
+use Prim.Native.Nat.{ℕ, ◌+◌, ◌≤◌}
 use native.Mathlib.Omega.{arith}
-use lib.Dec.{ltb}
 use lib.ListN.{length, take, drop}
 use lib.Seq.{sets, sets-eq, take_at, length-take-le}
-use borrow.Author.Tests.{lt-ltb, le-ltb}
-use Rattle.text.specs.Lines.{line_end}
 use Rattle.streams.specs.declared.State.{State}
 use Rattle.streams.specs.State.{Within}
-use Rattle.streams.specs.Refill.{whole, turned, ReadOn, Refilled}
+use Rattle.streams.specs.Refill.{whole, ReadOn, Refilled}
 
 -- the part of the input's buffer that is filled
 pub there_is : (input : List ℕ) (st : State) → Within st → length input ≡ 65536 → length (take st.end input) ≡ st.end
@@ -21,17 +18,9 @@ there_is input st w h = length-take-le st.end input (omega (arith, w.most, h))
 pub front : (l s : List ℕ) → length s ≤ length l → take (length s) (sets l 0 s) ≡ s
 front l s h = ap (take (length s)) (sets-eq s l 0 (omega arith)) ∙ take_at s (drop (0 + length s) l) (length s) refl
 
--- a turn with and without a read
-module _ (input : List ℕ) (st : State) (end : ℕ) (is : end ≡ line_end (take st.end input) st.next) where
-  pub stayed : end < st.end → Refilled input st (turned st) input
-  stayed h =
-      let w : whole input st ≡ true = ap (λ (k : ℕ). ltb k st.end) (sym is) ∙ lt-ltb end st.end h in
-      record { stays = λ e. (refl, refl); reads = λ e. absurd (true≢false (sym w ∙ e)) }
-
-  pub did_read : (r : State) (after : List ℕ) → st.end ≤ end → ReadOn input st r after → Refilled input st r after
-  did_read r after h o =
-      let w : whole input st ≡ false = ap (λ (k : ℕ). ltb k st.end) (sym is) ∙ le-ltb end st.end h in
-      record { stays = λ e. absurd (true≢false (sym e ∙ w)); reads = λ e. o }
+-- a turn with a read
+pub did_read : (input : List ℕ) (st r : State) (after : List ℕ) → whole input st ≡ false → ReadOn input st r after → Refilled input st r after
+did_read input st r after w o = record { stays = λ e. absurd (true≢false (sym e ∙ w)); reads = λ e. o }
 
 -- the program stays within the input's buffer
 pub refilled_within : (input : List ℕ) (st r : State) (after : List ℕ) → Within st → Refilled input st r after → Within r

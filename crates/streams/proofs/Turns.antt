@@ -7,22 +7,24 @@ use native.Mathlib.Omega.{arith}
 use lib.Dec.{ltb}
 use lib.ListN.{length}
 use borrow.Author.Tests.{ltb-true}
+use Rattle.streams.specs.declared.Input.{Input}
+use Rattle.streams.specs.declared.Input.TheVariants.{More, End, Unread}
 use Rattle.streams.specs.declared.State.{State}
-use Rattle.streams.specs.State.{Within, Standing, started, goes_on, written, emptied}
+use Rattle.streams.specs.State.{Within, Standing, may_come, started, goes_on, written}
 use Rattle.streams.specs.Refill.{whole, Refilled}
-use Rattle.streams.specs.Run.{Ran, begun, turn, Ended}
+use Rattle.streams.specs.Run.{Ran, begun, turn}
 use Rattle.streams.proofs.Refilling.{refilled_within}
 use Rattle.streams.proofs.Answers.{written_half, written_within, written_turns, refilled_at}
 
 -- ---- turns
-pub still_goes : (st : State) → goes_on st ≡ true → (st.more ≡ true) × (0 < st.turns)
-still_goes st e = by st.unread st.unwritten st.more e
+pub still_goes : (st : State) → goes_on st ≡ true → (st.input ≡ More) × (0 < st.turns)
+still_goes st e = by st.input st.unwritten e
   where
-    by : (a b c : Bool) → not a && (not b && (c && ltb 0 st.turns)) ≡ true → (c ≡ true) × (0 < st.turns)
-    by false false true q = (refl, ltb-true 0 st.turns q)
-    by false false false q = absurd (false≢true q)
-    by false true c q = absurd (false≢true q)
-    by true b c q = absurd (false≢true q)
+    by : (i : Input) (b : Bool) → may_come i && (not b && ltb 0 st.turns) ≡ true → (i ≡ More) × (0 < st.turns)
+    by More false q = (refl, ltb-true 0 st.turns q)
+    by More true q = absurd (false≢true q)
+    by End b q = absurd (false≢true q)
+    by Unread b q = absurd (false≢true q)
 
 pub some_turns : (st : State) → goes_on st ≡ true → 0 < st.turns
 some_turns st e = (still_goes st e).1
@@ -71,9 +73,6 @@ module _ {O : Type 0} (out : O → List ℕ) (Sound : O → Type 0) where
       may_read = (is_within, omega (arith, turns_left, some_turns st on), g.stands.input_size)
 
       module _ (r : State) (after : List ℕ) (h : Refilled input w r after) where
-        pub turns_fewer : r.turns < st.turns
-        turns_fewer = omega (arith, refilled_turns input w r after h, turns_left, some_turns st on)
-
         pub going_on : length after ≡ length input → Going r after p.1
         going_on same =
             let q : Refilled input (written p.0 w.unwritten) r after = subst (λ (x : State). Refilled input x r after) f h in
@@ -89,17 +88,3 @@ module _ {O : Type 0} (out : O → List ℕ) (Sound : O → Type 0) where
                   (turn st input o w.unwritten r after g.ran on (subst (λ (x : State × O). x.0.at ≤ length (out x.1)) e k.filled)
                   (subst (λ (x : State × O). Refilled input (written x.0 w.unwritten) r after) e q));
             }
-
-    -- at the end
-    pub over : (last : List ℕ → State → O → State × O) (st : State) (input : List ℕ) (o : O) → Going st input o → goes_on st ≡ false
-        → (p : State × O) → p ≡ last input st o → p.0.at ≤ length (out p.1) → (r : State) → r ≡ emptied p.0 r.unwritten → Ended out lines last first r input (out p.1)
-    over last st input o g off p e k r f =
-        record {
-          st = st;
-          left = o;
-          ran = g.ran;
-          over = off;
-          leaves = ap (λ (x : State × O). out x.1) e;
-          fits = subst (λ (x : State × O). x.0.at ≤ length (out p.1)) e k;
-          done = f ∙ ap (λ (x : State × O). emptied x.0 r.unwritten) e;
-        }

@@ -1,6 +1,8 @@
 -- What a program keeps of its input's buffer and reads behind it.
-use Rattle.std.specs.Prelude.{◌≡◌, Bool, true, false, List, ℕ, ◌+◌, ◌-◌, ◌≤◌, ltb, length, take}
+use Rattle.std.specs.Prelude.{◌≡◌, Bool, true, false, List, ℕ, zero, suc, ◌+◌, ◌-◌, ◌≤◌, ltb, length, take, Option, Some, None, unwrap_or}
 use Rattle.text.specs.Lines.{line_end, kept_part}
+use Rattle.streams.specs.declared.Input.{Input}
+use Rattle.streams.specs.declared.Input.TheVariants.{More, End, Unread}
 use Rattle.streams.specs.declared.State.{State}
 
 -- a line that LF ends is left
@@ -9,25 +11,29 @@ whole input st = ltb (line_end (take st.end input) st.next) st.end
 
 -- a turn less
 abbrev pub turned : State → State
-turned st = record { next = st.next; end = st.end; at = st.at; more = st.more; unread = st.unread; unwritten = st.unwritten; turns = st.turns - 1 }
+turned st = record st { turns = st.turns - 1 }
 
 -- of a line that LF does not end yet the first 129 bytes are kept: no good line is longer
 abbrev pub rest : List ℕ → State → List ℕ
 rest input st = kept_part input st.next st.end 129
 
--- so many bytes came behind them: none at the end of the input, and none if the read failed
-abbrev pub came : List ℕ → State → ℕ → Bool → State
-came input st count failed =
-    record { next = 0; end = length (rest input st) + count; at = st.at; more = ltb 0 count; unread = failed; unwritten = st.unwritten; turns = st.turns - 1 }
+-- what is to be hoped after a read of so many bytes, which are none at the end of the input, or after one that failed
+abbrev pub hope : Option ℕ → Input
+hope (Some zero) = End
+hope (Some (suc n)) = More
+hope None = Unread
 
--- a read: how many bytes came, and which, is left open
+-- so many bytes came behind what was kept, and none if the read failed
+abbrev pub came : List ℕ → State → Option ℕ → State
+came input st read = record st { next = 0; end = length (rest input st) + unwrap_or read 0; input = hope read; turns = st.turns - 1 }
+
+-- a read: how many bytes came, or whether it failed, and which bytes, is left open
 pub record ReadOn (input : List ℕ) (st r : State) (after : List ℕ) : Type 0 where
-  pub count : ℕ
-  pub state : r ≡ came input st count r.unread
-  pub room : length (rest input st) + count ≤ 65536
-  pub there : length (rest input st) + count ≤ length after
+  pub read : Option ℕ
+  pub state : r ≡ came input st read
+  pub room : length (rest input st) + unwrap_or read 0 ≤ 65536
+  pub there : length (rest input st) + unwrap_or read 0 ≤ length after
   pub kept : take (length (rest input st)) after ≡ rest input st
-  pub none : r.unread ≡ true → count ≡ 0
 
 -- it is made if no line is left
 pub record Refilled (input : List ℕ) (st r : State) (after : List ℕ) : Type 0 where

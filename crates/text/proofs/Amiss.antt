@@ -1,46 +1,51 @@
 -- Laws of what is wrong with a line: how many fields it has and which is no number, counted field by field. Assumes nothing.
-use mathlib.Core.Path.{◌≡◌, sym, ap, ◌∙◌}
+use mathlib.Core.Path.{◌≡◌, refl, ap, ◌∙◌}
 use mathlib.Core.Bool.{Bool, true, false, cond}
 use mathlib.Core.List.{List, [], ◌∷◌}
-use Prim.Native.Nat.{ℕ, suc, ◌+◌, ◌-◌, ◌≤◌, ◌<◌}
+use Prim.Native.Nat.{ℕ, suc, ◌+◌, ◌≤◌, ◌<◌}
 use native.Mathlib.Omega.{arith}
 use lib.Dec.{eqb}
-use lib.ListN.{length, take, drop}
+use lib.ListN.{length, take}
 use borrow.Author.Tests.{le-leb, lt-leb, eq-eqb, ne_eqb}
+use Rattle.std.specs.Prelude.{filter}
+use Rattle.std.specs.Option.{is_some}
+use Rattle.std.specs.List.{onto_first, slice_split, prefix_len}
 use Rattle.text.specs.Read.{read_i32}
-use Rattle.text.specs.declared.Signed.{Signed}
-use Rattle.text.specs.Fields.{on_first, fields, field_at, field_end, first_bad, bad_field}
-use Rattle.text.proofs.Parting.{fields_from, from_past, from_field, part_end_within}
-use Rattle.text.proofs.Numbers.{field_is}
+use Rattle.text.specs.Fields.{until, on_first, fields, first_bad, bad_field}
+use Rattle.text.proofs.Parting.{fields_from, first_field}
 
--- ---- a field more
-module _ (line : List ℕ) (at end : ℕ) (h : at ≤ length line) (e : end ≡ field_end line at) where
-  one_more : fields_from line at ≡ field_at line at ∷ fields_from line (end + 1)
-  one_more = from_field line at h ∙ ap (λ (k : ℕ). field_at line at ∷ fields_from line (k + 1)) (sym e)
+-- ---- there is a field more than there are tabs
+pub tabs_and_one : (s : List ℕ) → length (filter (λ b. eqb b 9) s) + 1 ≡ length (fields s)
+tabs_and_one [] = refl
+tabs_and_one (b ∷ s) = by (eqb b 9) (fields s) (tabs_and_one s) (ap length (first_field s))
+  where
+    by : (t : Bool) (fs : List (List ℕ)) → length (filter (λ b. eqb b 9) s) + 1 ≡ length fs → length fs ≡ suc (length (fields_from s (until 9 s + 1)))
+        → length (cond t (b ∷ filter (λ b. eqb b 9) s) (filter (λ b. eqb b 9) s)) + 1 ≡ length (cond t ([] ∷ fs) (on_first b fs))
+    by true fs h k = omega arith
+    by false [] h k = omega arith
+    by false (f ∷ fs) h k = omega arith
 
-  pub next_within : end + 1 ≤ length line + 1
-  next_within = omega (arith, part_end_within 9 line at h)
+-- ---- the fields are the parts that `split` gives, and those in front that are numbers stand before the first that is none
+pub parts_are : (s : List ℕ) → slice_split (λ b. eqb b 9) s ≡ fields s
+parts_are [] = refl
+parts_are (b ∷ s) =
+    ap (λ (fs : List (List ℕ)). cond (eqb b 9) ([] ∷ fs) (onto_first b fs)) (parts_are s) ∙ ap (λ (fs : List (List ℕ)). cond (eqb b 9) ([] ∷ fields s) fs) (same (fields s))
+  where
+    same : (fs : List (List ℕ)) → onto_first b fs ≡ on_first b fs
+    same [] = refl
+    same (f ∷ fs) = refl
 
-  pub count_more : length (fields_from line at) ≡ suc (length (fields_from line (end + 1)))
-  count_more = ap length one_more
+abbrev pub is_number : List ℕ → Bool
+is_number f = is_some (read_i32 f)
 
-  module _ (r : Signed) (q : r ≡ read_i32 (take (end - at) (drop at line))) where
-    ok_is : (read_i32 (field_at line at)).ok ≡ r.ok
-    ok_is = ap (λ (s : Signed). s.ok) (sym (q ∙ ap read_i32 (field_is line at end e)))
-
-    pub bad_here : r.ok ≡ false → first_bad (fields_from line at) ≡ 1
-    bad_here b = ap first_bad one_more ∙ ap (λ (t : Bool). cond t (suc (first_bad (fields_from line (end + 1)))) 1) (ok_is ∙ b)
-
-    pub bad_behind : r.ok ≡ true → first_bad (fields_from line at) ≡ suc (first_bad (fields_from line (end + 1)))
-    bad_behind b = ap first_bad one_more ∙ ap (λ (t : Bool). cond t (suc (first_bad (fields_from line (end + 1)))) 1) (ok_is ∙ b)
-
--- ---- none left
-module _ (line : List ℕ) (at : ℕ) (h : length line < at) where
-  pub count_none : length (fields_from line at) ≡ 0
-  count_none = ap length (from_past line at h)
-
-  pub bad_none : first_bad (fields_from line at) ≡ 1
-  bad_none = ap first_bad (from_past line at h)
+pub behind_numbers : (fs : List (List ℕ)) → length (take (prefix_len is_number fs) fs) + 1 ≡ first_bad fs
+behind_numbers [] = refl
+behind_numbers (f ∷ fs) = by (is_number f) (behind_numbers fs)
+  where
+    by : (t : Bool) → length (take (prefix_len is_number fs) fs) + 1 ≡ first_bad fs
+        → length (take (cond t (1 + prefix_len is_number fs) 0) (f ∷ fs)) + 1 ≡ cond t (suc (first_bad fs)) 1
+    by true e = let one : 1 + prefix_len is_number fs ≡ suc (prefix_len is_number fs) = omega arith in rw one (omega (arith, e))
+    by false e = refl
 
 -- ---- there are at most as many fields as bytes, and one
 few_fields : (s : List ℕ) → length (fields s) ≤ length s + 1
@@ -54,7 +59,7 @@ few_fields (b ∷ s) = by (eqb b 9) (fields s) (few_fields s)
 
 bad_most : (fs : List (List ℕ)) → first_bad fs ≤ length fs + 1
 bad_most [] = omega arith
-bad_most (f ∷ fs) = by (read_i32 f).ok (bad_most fs)
+bad_most (f ∷ fs) = by (is_some (read_i32 f)) (bad_most fs)
   where
     by : (t : Bool) → first_bad fs ≤ length fs + 1 → cond t (suc (first_bad fs)) 1 ≤ suc (length fs) + 1
     by true h = omega arith

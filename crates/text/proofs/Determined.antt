@@ -1,5 +1,8 @@
 -- Each public contract of this crate determines its answer, and the buffer afterwards: any two results that it allows of the same arguments are equal.
 -- `Post` is the contract as the source states it. Assumes nothing.
+use Prim.Native.Nat.{ℕ}
+use mir.Syntax.{w64}
+use mir.Val.{Fits}
 use Rattle.whole.proofs.Determined.{One, OneText, same, both}
 use Rattle.text.proofs.read.read_digits.Reads as read_digits
 use Rattle.text.proofs.read.read_u32.Reads as read_u32
@@ -7,12 +10,10 @@ use Rattle.text.proofs.read.read_signed.Reads as read_signed
 use Rattle.text.proofs.read.read_i32.Reads as read_i32
 use Rattle.text.proofs.parts.find.Reads as find
 use Rattle.text.proofs.parts.part_end.Reads as part_end
-use Rattle.text.proofs.parts.first_vertices.Reads as first_vertices
+use Rattle.text.proofs.parts.first_numbers.Reads as first_numbers
 use Rattle.text.proofs.fields.next_u32.Reads as next_u32
 use Rattle.text.proofs.fields.next_i32.Reads as next_i32
-use Rattle.text.proofs.fields.no_vertices.Reads as no_vertices
-use Rattle.text.proofs.fields.read_place.Reads as read_place
-use Rattle.text.proofs.fields.read_vertices.Reads as read_vertices
+use Rattle.text.proofs.fields.read_numbers.Reads as read_numbers
 use Rattle.text.proofs.write.digit_count.Reads as digit_count
 use Rattle.text.proofs.write.has_room.Reads as has_room
 use Rattle.text.proofs.write.write_u32.Reads as write_u32
@@ -46,8 +47,8 @@ find_one κs args r q s t = same
 pub part_end_one : One part_end.Post
 part_end_one κs args r q s t = same
 
-pub first_vertices_one : One first_vertices.Post
-first_vertices_one κs args r q s t = same
+pub first_numbers_one : (n : ℕ) (h : Fits w64 n) → One (first_numbers.Post n h)
+first_numbers_one n h κs args r q s t = same
 
 pub next_u32_one : One next_u32.Post
 next_u32_one κs args r q s t = same
@@ -55,14 +56,8 @@ next_u32_one κs args r q s t = same
 pub next_i32_one : One next_i32.Post
 next_i32_one κs args r q s t = same
 
-pub no_vertices_one : One no_vertices.Post
-no_vertices_one κs args r q s t = same
-
-pub read_place_one : One read_place.Post
-read_place_one κs args r q s t = same
-
-pub read_vertices_one : One read_vertices.Post
-read_vertices_one κs args r q s t = same
+pub read_numbers_one : (n : ℕ) (h : Fits w64 n) → One (read_numbers.Post n h)
+read_numbers_one n h κs args r q s t = same
 
 pub bad_field_one : One bad_field.Post
 bad_field_one κs args r q s t h k = same h.0 k.0

@@ -1,88 +1,84 @@
 -- Worked examples: what is a number and what is none, how numbers are written, and how a line is parted. Each is computed. Assumes nothing.
 use mathlib.Core.Path.{◌≡◌, refl}
-use mathlib.Core.Bool.{true, false}
 use mathlib.Core.List.{[], ◌∷◌}
 use lib.IntN.{pos, negsuc}
-use Rattle.text.specs.declared.Signed.{Signed}
-use Rattle.text.specs.Read.{unsigned, read_digits, read_u32, read_signed, read_i32}
+use Rattle.std.specs.Prelude.{Some, None}
+use Rattle.text.specs.Read.{read_digits, read_u32, read_signed, read_i32}
 use Rattle.text.specs.Fields.{fields, lines}
 use Rattle.text.specs.Show.{shown, shown_signed, triple}
 
-abbrev no : Signed
-no = record { ok = false; value = pos 0 }
-
 -- ---- numbers: -0, 0000000007, 2147483647, -2147483648
-minus_zero : read_i32 (45 ∷ 48 ∷ []) ≡ record { ok = true; value = pos 0 }
+minus_zero : read_i32 (45 ∷ 48 ∷ []) ≡ Some (pos 0)
 unfolding read_signed read_digits
 minus_zero = refl
 
-zeros_seven : read_i32 (48 ∷ 48 ∷ 48 ∷ 48 ∷ 48 ∷ 48 ∷ 48 ∷ 48 ∷ 48 ∷ 55 ∷ []) ≡ record { ok = true; value = pos 7 }
+zeros_seven : read_i32 (48 ∷ 48 ∷ 48 ∷ 48 ∷ 48 ∷ 48 ∷ 48 ∷ 48 ∷ 48 ∷ 55 ∷ []) ≡ Some (pos 7)
 unfolding read_signed read_digits
 zeros_seven = refl
 
-largest : read_i32 (50 ∷ 49 ∷ 52 ∷ 55 ∷ 52 ∷ 56 ∷ 51 ∷ 54 ∷ 52 ∷ 55 ∷ []) ≡ record { ok = true; value = pos 2147483647 }
+largest : read_i32 (50 ∷ 49 ∷ 52 ∷ 55 ∷ 52 ∷ 56 ∷ 51 ∷ 54 ∷ 52 ∷ 55 ∷ []) ≡ Some (pos 2147483647)
 unfolding read_signed read_digits
 largest = refl
 
-least : read_i32 (45 ∷ 50 ∷ 49 ∷ 52 ∷ 55 ∷ 52 ∷ 56 ∷ 51 ∷ 54 ∷ 52 ∷ 56 ∷ []) ≡ record { ok = true; value = negsuc 2147483647 }
+least : read_i32 (45 ∷ 50 ∷ 49 ∷ 52 ∷ 55 ∷ 52 ∷ 56 ∷ 51 ∷ 54 ∷ 52 ∷ 56 ∷ []) ≡ Some (negsuc 2147483647)
 unfolding read_signed read_digits
 least = refl
 
 -- ---- none: nothing, -, --1, +1, 2147483648, eleven digits, a space, CR or NUL behind a digit
-nothing : read_i32 [] ≡ no
+nothing : read_i32 [] ≡ None
 unfolding read_signed
 nothing = refl
 
-minus_alone : read_i32 (45 ∷ []) ≡ no
+minus_alone : read_i32 (45 ∷ []) ≡ None
 unfolding read_signed read_digits
 minus_alone = refl
 
-minus_twice : read_i32 (45 ∷ 45 ∷ 49 ∷ []) ≡ no
+minus_twice : read_i32 (45 ∷ 45 ∷ 49 ∷ []) ≡ None
 unfolding read_signed read_digits
 minus_twice = refl
 
-plus : read_i32 (43 ∷ 49 ∷ []) ≡ no
+plus : read_i32 (43 ∷ 49 ∷ []) ≡ None
 unfolding read_signed read_digits
 plus = refl
 
-too_large : read_i32 (50 ∷ 49 ∷ 52 ∷ 55 ∷ 52 ∷ 56 ∷ 51 ∷ 54 ∷ 52 ∷ 56 ∷ []) ≡ no
+too_large : read_i32 (50 ∷ 49 ∷ 52 ∷ 55 ∷ 52 ∷ 56 ∷ 51 ∷ 54 ∷ 52 ∷ 56 ∷ []) ≡ None
 unfolding read_signed read_digits
 too_large = refl
 
-eleven : read_i32 (48 ∷ 48 ∷ 48 ∷ 48 ∷ 48 ∷ 48 ∷ 48 ∷ 48 ∷ 48 ∷ 48 ∷ 49 ∷ []) ≡ no
+eleven : read_i32 (48 ∷ 48 ∷ 48 ∷ 48 ∷ 48 ∷ 48 ∷ 48 ∷ 48 ∷ 48 ∷ 48 ∷ 49 ∷ []) ≡ None
 unfolding read_signed read_digits
 eleven = refl
 
-space : read_i32 (49 ∷ 32 ∷ []) ≡ no
+space : read_i32 (49 ∷ 32 ∷ []) ≡ None
 unfolding read_signed read_digits
 space = refl
 
-carriage_return : read_i32 (49 ∷ 13 ∷ []) ≡ no
+carriage_return : read_i32 (49 ∷ 13 ∷ []) ≡ None
 unfolding read_signed read_digits
 carriage_return = refl
 
-nul : read_i32 (49 ∷ 0 ∷ []) ≡ no
+nul : read_i32 (49 ∷ 0 ∷ []) ≡ None
 unfolding read_signed read_digits
 nul = refl
 
 -- ---- unsigned: 4294967295 is the last, and a minus is none; four digits where four are the limit
-last_unsigned : read_u32 (52 ∷ 50 ∷ 57 ∷ 52 ∷ 57 ∷ 54 ∷ 55 ∷ 50 ∷ 57 ∷ 53 ∷ []) ≡ unsigned true 4294967295
+last_unsigned : read_u32 (52 ∷ 50 ∷ 57 ∷ 52 ∷ 57 ∷ 54 ∷ 55 ∷ 50 ∷ 57 ∷ 53 ∷ []) ≡ Some 4294967295
 unfolding read_digits
 last_unsigned = refl
 
-one_more : read_u32 (52 ∷ 50 ∷ 57 ∷ 52 ∷ 57 ∷ 54 ∷ 55 ∷ 50 ∷ 57 ∷ 54 ∷ []) ≡ unsigned false 0
+one_more : read_u32 (52 ∷ 50 ∷ 57 ∷ 52 ∷ 57 ∷ 54 ∷ 55 ∷ 50 ∷ 57 ∷ 54 ∷ []) ≡ None
 unfolding read_digits
 one_more = refl
 
-no_minus : read_u32 (45 ∷ 48 ∷ []) ≡ unsigned false 0
+no_minus : read_u32 (45 ∷ 48 ∷ []) ≡ None
 unfolding read_digits
 no_minus = refl
 
-four : read_digits 4 9999 (50 ∷ 48 ∷ 52 ∷ 56 ∷ []) ≡ unsigned true 2048
+four : read_digits 4 9999 (50 ∷ 48 ∷ 52 ∷ 56 ∷ []) ≡ Some 2048
 unfolding read_digits
 four = refl
 
-five : read_digits 4 9999 (48 ∷ 50 ∷ 48 ∷ 52 ∷ 56 ∷ []) ≡ unsigned false 0
+five : read_digits 4 9999 (48 ∷ 50 ∷ 48 ∷ 52 ∷ 56 ∷ []) ≡ None
 unfolding read_digits
 five = refl
 

@@ -1,20 +1,20 @@
 -- Laws of fields put together: parting and joining undo each other, and a line is as long as its fields. Assumes nothing.
-use mathlib.Core.Path.{◌≡◌, refl, sym, ap, subst, ◌∙◌}
-use mathlib.Core.Bool.{Bool, true, false, cond, ◌&&◌, false≢true}
+use mathlib.Core.Path.{◌≡◌, refl, sym, ap, ◌∙◌}
+use mathlib.Core.Bool.{Bool, true, false, cond, ◌&&◌}
 use mathlib.Core.List.{List, [], ◌∷◌, ◌++◌}
 use Prim.Native.Nat.{ℕ, zero, suc, ◌+◌, ◌*◌, ◌≤◌, ◌<◌, min}
 use native.Mathlib.Omega.{arith}
 use lib.Dec.{leb, eqb}
-use lib.IntN.{pos}
-use lib.ListN.{length, take, get_or, length-take}
+use lib.IntN.{ℤ, pos}
+use lib.ListN.{length, take, length-take}
 use lib.Seq.{take-take}
-use borrow.Author.Tests.{leb-true, leb-false, eqb-true, eqb-false}
+use borrow.Author.Tests.{leb-true, leb-false, eqb-true}
 use Rattle.text.specs.Digits.{all_digits, digits_value}
-use Rattle.text.specs.Read.{plain, negated, read_digits, read_signed, read_i32}
-use Rattle.text.specs.Fields.{until, on_first, fields, joined_behind, joined, number, numbers, exactly, read_vertices}
+use Rattle.std.specs.Prelude.{Option, Some, None, option_map, option_and_then}
+use Rattle.std.specs.Bool.{then_some}
+use Rattle.text.specs.Read.{negated, read_digits, read_signed, read_i32}
+use Rattle.text.specs.Fields.{until, on_first, fields, joined_behind, joined, numbers, read_numbers}
 use Rattle.text.specs.Lines.{first_line}
-use Rattle.text.proofs.And.{and_second}
-use Rattle.text.proofs.Numbers.{exactly_numbers, numbers_less, no_vertices_lem}
 use Rattle.text.proofs.Parting.{fields_from, first_field, until_within}
 
 -- ---- joining what was parted
@@ -79,57 +79,58 @@ line_total (b ∷ s) = at (eqb b 9) refl (fields s) (first_field s) (line_total 
     at false e fs p h = rw (e, p) (omega (arith, ap total (sym p) ∙ h))
 
 -- ---- a line of k numbers has at most 12 bytes for each, less one
-digits_short : (most : ℕ) (s : List ℕ) → (read_digits 10 most s).ok ≡ true → length s ≤ 10
+digits_short : (most : ℕ) (s : List ℕ) (n : ℕ) → read_digits 10 most s ≡ Some n → length s ≤ 10
 unfolding read_digits
-digits_short most s e = by (leb 1 (length s)) (leb (length s) 10) refl e
+digits_short most s n e = by (leb 1 (length s)) (leb (length s) 10) refl e
   where
-    by : (a b : Bool) → leb (length s) 10 ≡ b → a && (b && (all_digits s && leb (digits_value s) most)) ≡ true → length s ≤ 10
+    by : (a b : Bool) → leb (length s) 10 ≡ b → then_some (a && (b && (all_digits s && leb (digits_value s) most))) (digits_value s) ≡ Some n → length s ≤ 10
     by true true q e = leb-true (length s) 10 q
-    by true false q e = absurd (false≢true e)
-    by false b q e = absurd (false≢true e)
+    by true false q e = cc
+    by false b q e = cc
 
-number_short : (s : List ℕ) → (read_i32 s).ok ≡ true → length s ≤ 11
+number_short : (s : List ℕ) (z : ℤ) → read_i32 s ≡ Some z → length s ≤ 11
 unfolding read_signed
-number_short [] e = omega arith
-number_short (b ∷ s) e = by (eqb b 45) e
+number_short [] z e = omega arith
+number_short (b ∷ s) z e = by (eqb b 45) e
   where
-    by : (t : Bool) → (cond t (negated (read_digits 10 2147483648 s)) (plain (read_digits 10 2147483647 (b ∷ s)))).ok ≡ true → suc (length s) ≤ 11
-    by true e = omega (arith, digits_short 2147483648 s e)
-    by false e = omega (arith, digits_short 2147483647 (b ∷ s) e)
+    short : (l : List ℕ) (f : ℕ → ℤ) (r : Option ℕ) → ((n : ℕ) → r ≡ Some n → length l ≤ 10) → option_map f r ≡ Some z → length l ≤ 10
+    short l f None h e = cc
+    short l f (Some n) h e = h n refl
 
-each_number : (k : ℕ) (fs : List (List ℕ)) → numbers k fs ≡ true → (i : ℕ) → i < k → (number fs i).ok ≡ true
-each_number zero fs e i h = absurd (omega arith)
-each_number (suc k) fs e i h = at (eqb i k) refl (each_number k fs (numbers_less k fs e) i)
+    by : (t : Bool) → cond t (option_map negated (read_digits 10 2147483648 s)) (option_map pos (read_digits 10 2147483647 (b ∷ s))) ≡ Some z → suc (length s) ≤ 11
+    by true e = omega (arith, short s negated (read_digits 10 2147483648 s) (digits_short 2147483648 s) e)
+    by false e = omega (arith, short (b ∷ s) pos (read_digits 10 2147483647 (b ∷ s)) (digits_short 2147483647 (b ∷ s)) e)
+
+numbers_total : (fs : List (List ℕ)) (zs : List ℤ) → numbers fs ≡ Some zs → total fs ≤ length fs * 12
+numbers_total [] zs e = omega arith
+numbers_total (f ∷ fs) zs e = by (read_i32 f) (numbers fs) (number_short f) (numbers_total fs) e
   where
-    at : (t : Bool) → eqb i k ≡ t → (i < k → (number fs i).ok ≡ true) → (number fs i).ok ≡ true
-    at true q r = subst (λ (j : ℕ). (number fs j).ok ≡ true) (sym (eqb-true i k q)) (and_second (numbers k fs) (number fs k).ok e)
-    at false q r = r (omega (arith, eqb-false i k q))
+    by : (r : Option ℤ) (rs : Option (List ℤ)) → ((z : ℤ) → r ≡ Some z → length f ≤ 11) → ((zs : List ℤ) → rs ≡ Some zs → total fs ≤ length fs * 12)
+        → option_and_then (λ z. option_map (λ zs. z ∷ zs) rs) r ≡ Some zs → length f + 1 + total fs ≤ suc (length fs) * 12
+    by None rs h k e = cc
+    by (Some z) None h k e = cc
+    by (Some z) (Some zs) h k e = omega (arith, h z refl, k zs refl)
 
-total_short : (fs : List (List ℕ)) → ((i : ℕ) → i < length fs → length (get_or fs i []) ≤ 11) → total fs ≤ length fs * 12
-total_short [] h = omega arith
-total_short (f ∷ fs) h = omega (arith, h 0 (omega arith), total_short fs (λ i l. h (suc i) (omega arith)))
-
-pub numbers_line : (k : ℕ) (line : List ℕ) → exactly k (fields line) ≡ true → length line + 1 ≤ k * 12
-numbers_line k line e =
-    let all : length (fields line) ≡ k = eqb-true (length (fields line)) k (and_second (numbers k (fields line)) (eqb (length (fields line)) k) e) in
-    let n : numbers k (fields line) ≡ true = exactly_numbers k (fields line) e in
-    omega (
-      arith,
-      line_total line,
-      total_short (fields line) (λ i h. number_short (get_or (fields line) i []) (each_number k (fields line) n i (omega arith))),
-      ap (λ (m : ℕ). m * 12) all,
-    )
+pub numbers_line : (k : ℕ) (line : List ℕ) (zs : List ℤ) → read_numbers k (fields line) ≡ Some zs → length line + 1 ≤ k * 12
+unfolding read_numbers
+numbers_line k line zs e = by (eqb (length (fields line)) k) refl e
+  where
+    by : (t : Bool) → eqb (length (fields line)) k ≡ t → cond t (numbers (fields line)) None ≡ Some zs → length line + 1 ≤ k * 12
+    by true q e =
+        let n : length (fields line) ≡ k = eqb-true (length (fields line)) k q in
+        omega (arith, line_total line, numbers_total (fields line) zs e, ap (λ (m : ℕ). m * 12) n)
+    by false q e = cc
 
 -- so a longer one is none
-pub too_long_lem : (k : ℕ) (line : List ℕ) → k * 12 ≤ length line → exactly k (fields line) ≡ false
-too_long_lem k line h = by (exactly k (fields line)) refl
+pub too_long_lem : (k : ℕ) (line : List ℕ) → k * 12 ≤ length line → read_numbers k (fields line) ≡ None
+too_long_lem k line h = by (read_numbers k (fields line)) (numbers_line k line)
   where
-    by : (t : Bool) → exactly k (fields line) ≡ t → exactly k (fields line) ≡ false
-    by true e = absurd (omega (arith, numbers_line k line e))
-    by false e = e
+    by : (r : Option (List ℤ)) → ((zs : List ℤ) → r ≡ Some zs → length line + 1 ≤ k * 12) → r ≡ None
+    by None q = refl
+    by (Some zs) q = absurd (omega (arith, q zs refl))
 
 -- so a line that was cut off behind its 72nd byte says as little as the whole of it
-pub first_cut : (n : ℕ) (s : List ℕ) → 72 ≤ n → read_vertices (fields (first_line (take n s))) ≡ read_vertices (fields (first_line s))
+pub first_cut : (n : ℕ) (s : List ℕ) → 72 ≤ n → read_numbers 6 (fields (first_line (take n s))) ≡ read_numbers 6 (fields (first_line s))
 first_cut n s h = by (leb (until 10 s) n) refl
   where
     until_cut : (n : ℕ) (s : List ℕ) → until 10 (take n s) ≡ min n (until 10 s)
@@ -144,14 +145,14 @@ first_cut n s h = by (leb (until 10 s) n) refl
     cut : first_line (take n s) ≡ take (min n (until 10 s)) s
     cut = ap (λ (k : ℕ). take k (take n s)) (until_cut n s) ∙ take-take (min n (until 10 s)) n s (omega arith)
 
-    long : (l : List ℕ) → 72 ≤ length l → record { ok = false; x1 = pos 0; y1 = pos 0; x2 = pos 0; y2 = pos 0; x3 = pos 0; y3 = pos 0 } ≡ read_vertices (fields l)
-    long l k = no_vertices_lem (fields l) (too_long_lem 6 l (omega arith))
+    long : (l : List ℕ) → 72 ≤ length l → read_numbers 6 (fields l) ≡ None
+    long l k = too_long_lem 6 l (omega arith)
 
-    by : (t : Bool) → leb (until 10 s) n ≡ t → read_vertices (fields (first_line (take n s))) ≡ read_vertices (fields (first_line s))
+    by : (t : Bool) → leb (until 10 s) n ≡ t → read_numbers 6 (fields (first_line (take n s))) ≡ read_numbers 6 (fields (first_line s))
     by true e =
         let k : min n (until 10 s) ≡ until 10 s = omega (arith, leb-true (until 10 s) n e) in
-        ap (λ (l : List ℕ). read_vertices (fields l)) (cut ∙ ap (λ (k : ℕ). take k s) k)
+        ap (λ (l : List ℕ). read_numbers 6 (fields l)) (cut ∙ ap (λ (k : ℕ). take k s) k)
     by false e =
         let u : n < until 10 s = leb-false (until 10 s) n e in
-        sym (long (first_line (take n s)) (omega (arith, ap length cut, length-take (min n (until 10 s)) s, until_within 10 s)))
-        ∙ long (first_line s) (omega (arith, length-take (until 10 s) s, until_within 10 s))
+        long (first_line (take n s)) (omega (arith, ap length cut, length-take (min n (until 10 s)) s, until_within 10 s))
+        ∙ sym (long (first_line s) (omega (arith, length-take (until 10 s) s, until_within 10 s)))

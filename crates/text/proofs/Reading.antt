@@ -9,19 +9,22 @@ use native.Mathlib.Omega.{arith}
 use lib.Dec.{leb, eqb, lit<}
 use lib.IntN.{ℤ, pos, neg_ℤ, ◌-ℤ◌}
 use lib.ListN.{length, take, drop, get_or, drop_of_length-le}
-use lib.Seq.{drop-cons, take_all}
-use borrow.Author.Tests.{leb-true, leb-false, le-leb, lt-leb, eq-eqb, ne_eqb}
+use lib.Pointwise.{pointwise}
+use lib.Seq.{drop-cons}
+use borrow.Author.Tests.{leb-true, leb-false, le-leb, lt-leb}
 use mir.Syntax.{w32, w64}
 use mir.Val.{Fits, SFits, to_z, of_z}
 use mir.Facts.{to_z-of_z, to_z_pos}
+use Rattle.std.specs.Prelude.{Option, Some, None, option_map}
+use Rattle.std.proofs.lemmas.Option.{same_Some}
 use Rattle.whole.proofs.Machine.{Has, fits, back, at_most, wide_nat, minus_of}
-use Rattle.text.proofs.And.{and_false, and_second}
-use Rattle.text.specs.declared.Unsigned.{Unsigned}
+use Rattle.text.proofs.And.{and_false, and_first, and_second}
 use Rattle.text.specs.Digits.{is_digit, all_digits, with_digit, value_from, digits_value}
-use Rattle.text.specs.Read.{unsigned, read_digits, plain, negated, read_u32, read_signed, read_i32}
+use Rattle.std.specs.Bool.{then_some}
+use Rattle.text.specs.Read.{read_digits, negated, read_u32, read_signed, read_i32}
 
 -- ---- nothing was read
-none_left : (a : Bool) (v : ℕ) → unsigned false 0 ≡ unsigned (a && false) v
+none_left : (a : Bool) (v : ℕ) → None ≡ then_some (a && false) v
 none_left a v = rw (and_false a)
 
 -- ---- which bytes are digits
@@ -50,12 +53,12 @@ pub fitting_most : (most v b : ℕ) → fitting most v b ≡ true → with_digit
 unfolding fitting
 fitting_most most v b e = leb-true (with_digit v b) most (and_second (is_digit b) (leb (with_digit v b) most) e)
 
-abbrev pub scanned : ℕ → ℕ → List ℕ → Unsigned
-scanned most v [] = unsigned true v
-scanned most v (b ∷ s) = cond (fitting most v b) (scanned most (with_digit v b) s) (unsigned false 0)
+abbrev pub scanned : ℕ → ℕ → List ℕ → Option ℕ
+scanned most v [] = Some v
+scanned most v (b ∷ s) = cond (fitting most v b) (scanned most (with_digit v b) s) None
 
 -- it is the number that the digits are
-pub scanned_is : (most v : ℕ) (s : List ℕ) → v ≤ most → scanned most v s ≡ unsigned (all_digits s && leb (value_from v s) most) (value_from v s)
+pub scanned_is : (most v : ℕ) (s : List ℕ) → v ≤ most → scanned most v s ≡ then_some (all_digits s && leb (value_from v s) most) (value_from v s)
 unfolding fitting
 scanned_is most v [] h = rw (le-leb v most h)
 scanned_is most v (b ∷ s) h = by (is_digit b) (leb (with_digit v b) most) refl refl (scanned_is most (with_digit v b) s)
@@ -64,8 +67,8 @@ scanned_is most v (b ∷ s) h = by (is_digit b) (leb (with_digit v b) most) refl
     past k = le_trans k (value_grows (with_digit v b) s)
 
     by : (d l : Bool) → is_digit b ≡ d → leb (with_digit v b) most ≡ l
-        → (with_digit v b ≤ most → scanned most (with_digit v b) s ≡ unsigned (all_digits s && leb (value_from (with_digit v b) s) most) (value_from (with_digit v b) s))
-        → scanned most v (b ∷ s) ≡ unsigned ((is_digit b && all_digits s) && leb (value_from (with_digit v b) s) most) (value_from (with_digit v b) s)
+        → (with_digit v b ≤ most → scanned most (with_digit v b) s ≡ then_some (all_digits s && leb (value_from (with_digit v b) s) most) (value_from (with_digit v b) s))
+        → scanned most v (b ∷ s) ≡ then_some ((is_digit b && all_digits s) && leb (value_from (with_digit v b) s) most) (value_from (with_digit v b) s)
     by false l p q r = rw p
     by true true p q r = rw (p, q) (r (leb-true (with_digit v b) most q))
     by true false p q r = rw (p, q, lt-leb (value_from (with_digit v b) s) most (past (leb-false (with_digit v b) most q))) (none_left (all_digits s) _)
@@ -74,11 +77,11 @@ pub read_is : (limit most : ℕ) (s : List ℕ) → 1 ≤ length s → length s 
 unfolding read_digits
 read_is limit most s h k = rw (le-leb 1 (length s) h, le-leb (length s) limit k) (scanned_is most 0 s (omega arith))
 
-pub read_empty : (limit most : ℕ) (s : List ℕ) → length s ≡ 0 → unsigned false 0 ≡ read_digits limit most s
+pub read_empty : (limit most : ℕ) (s : List ℕ) → length s ≡ 0 → None ≡ read_digits limit most s
 unfolding read_digits
 read_empty limit most s h = rw h
 
-pub read_long : (limit most : ℕ) (s : List ℕ) → limit < length s → unsigned false 0 ≡ read_digits limit most s
+pub read_long : (limit most : ℕ) (s : List ℕ) → limit < length s → None ≡ read_digits limit most s
 unfolding read_digits
 read_long limit most s h = rw (lt-leb (length s) limit h) (none_left (leb 1 (length s)) _)
 
@@ -87,52 +90,48 @@ module _ (most v : ℕ) (s : List ℕ) (i : ℕ) (h : i < length s) where
   pub scan_goes : fitting most v (get_or s i 0) ≡ true → scanned most v (drop i s) ≡ scanned most (with_digit v (get_or s i 0)) (drop (i + 1) s)
   scan_goes e = rw (drop-cons s i 0 h, e, add-one)
 
-  pub scan_stops : fitting most v (get_or s i 0) ≡ false → scanned most v (drop i s) ≡ unsigned false 0
+  pub scan_stops : fitting most v (get_or s i 0) ≡ false → scanned most v (drop i s) ≡ None
   scan_stops e = rw (drop-cons s i 0 h, e)
 
-pub scan_ends : (most v : ℕ) (s : List ℕ) (i : ℕ) → length s ≤ i → scanned most v (drop i s) ≡ unsigned true v
+pub scan_ends : (most v : ℕ) (s : List ℕ) (i : ℕ) → length s ≤ i → scanned most v (drop i s) ≡ Some v
 scan_ends most v s i h = rw (drop_of_length-le s h)
 
 -- ---- what an answer says
-pub ok_is : (r : Unsigned) (f : Bool) (v : ℕ) → r ≡ unsigned f v → r.ok ≡ f
-ok_is r f v e = ap (λ (u : Unsigned). u.ok) e
+pub only_yes : {A : Type 0} (t : Bool) (v w : A) → then_some t v ≡ Some w → (t ≡ true) × (v ≡ w)
+only_yes true v w e = (refl, cc)
+only_yes false v w e = cc
 
-pub value_is : (r : Unsigned) (f : Bool) (v : ℕ) → r ≡ unsigned f v → r.ok ≡ true → r.value ≡ v
-value_is r f v e o = ap (λ (u : Unsigned). u.value) e ∙ rw (sym (ok_is r f v e) ∙ o)
-
-pub none_is : (r : Unsigned) (f : Bool) (v : ℕ) → r ≡ unsigned f v → r.ok ≡ false → r ≡ unsigned false 0
-none_is r f v e o = e ∙ rw (sym (ok_is r f v e) ∙ o)
+pub only_no : {A : Type 0} (t : Bool) (v : A) → then_some t v ≡ None → t ≡ false
+only_no true v e = cc
+only_no false v e = refl
 
 -- ---- a number that is read is at most `most`
-pub read_most : (limit most : ℕ) (s : List ℕ) (r : Unsigned) → r ≡ read_digits limit most s → r.value ≤ most
+pub read_most : (limit most : ℕ) (s : List ℕ) (n : ℕ) → read_digits limit most s ≡ Some n → n ≤ most
 unfolding read_digits
-read_most limit most s r e =
-    subst (λ (u : Unsigned). u.value ≤ most) (sym e) (by (leb 1 (length s)) (leb (length s) limit) (all_digits s) (leb (digits_value s) most) refl)
+read_most limit most s n e = by (leb 1 (length s)) (leb (length s) limit) (all_digits s) (leb (digits_value s) most) refl e
   where
-    by : (a b c d : Bool) → leb (digits_value s) most ≡ d → (unsigned (a && (b && (c && d))) (digits_value s)).value ≤ most
-    by true true true true q = leb-true (digits_value s) most q
-    by true true true false q = omega arith
-    by true true false d q = omega arith
-    by true false c d q = omega arith
-    by false b c d q = omega arith
+    by : (a b c d : Bool) → leb (digits_value s) most ≡ d → then_some (a && (b && (c && d))) (digits_value s) ≡ Some n → n ≤ most
+    by true true true true q e = omega (arith, leb-true (digits_value s) most q, (only_yes true (digits_value s) n e).1)
+    by true true true false q e = cc
+    by true true false d q e = cc
+    by true false c d q e = cc
+    by false b c d q e = cc
 
 -- ---- with a sign
-pub signed_empty : (limit : ℕ) (s : List ℕ) → length s ≡ 0 → plain (unsigned false 0) ≡ read_signed limit s
+pub signed_minus : (limit : ℕ) (s : List ℕ) → pointwise eqb (take 1 s) (45 ∷ []) ≡ true → option_map negated (read_digits limit 2147483648 (drop 1 s)) ≡ read_signed limit s
 unfolding read_signed
-signed_empty limit [] h = refl
-signed_empty limit (b ∷ s) h = absurd (omega arith)
+signed_minus limit [] h = cc
+signed_minus limit (b ∷ s) h = rw (and_first (eqb b 45) true h)
 
-pub signed_minus : (limit : ℕ) (s : List ℕ) (r : Unsigned) → 0 < length s → get_or s 0 0 ≡ 45
-    → r ≡ read_digits limit 2147483648 (take (length s - 1) (drop 1 s)) → negated r ≡ read_signed limit s
+pub signed_plain : (limit : ℕ) (s : List ℕ) → pointwise eqb (take 1 s) (45 ∷ []) ≡ false → option_map pos (read_digits limit 2147483647 s) ≡ read_signed limit s
 unfolding read_signed
-signed_minus limit [] r h e q = absurd (omega arith)
-signed_minus limit (b ∷ s) r h e q =
-    rw (eq-eqb b 45 e) (ap negated (q ∙ ap (read_digits limit 2147483648) (take_all (suc (length s) - 1) s (omega arith))))
-
-pub signed_plain : (limit : ℕ) (s : List ℕ) (r : Unsigned) → (get_or s 0 0 ≡ 45 → ⊥) → r ≡ read_digits limit 2147483647 s → plain r ≡ read_signed limit s
-unfolding read_signed
-signed_plain limit [] r n q = ap plain (q ∙ sym (read_empty limit 2147483647 [] refl))
-signed_plain limit (b ∷ s) r n q = rw (ne_eqb b 45 n) (ap plain q)
+signed_plain limit [] h = ap (option_map pos) (sym (read_empty limit 2147483647 [] refl))
+signed_plain limit (b ∷ s) h = by (eqb b 45) h
+  where
+    by : (t : Bool) → t && true ≡ false
+        → option_map pos (read_digits limit 2147483647 (b ∷ s)) ≡ cond t (option_map negated (read_digits limit 2147483648 s)) (option_map pos (read_digits limit 2147483647 (b ∷ s)))
+    by true e = cc
+    by false e = refl
 
 -- ---- the machine's negation of a number that was read, down to the least `i32`
 neg_fits : (n : ℕ) → n ≤ 2147483648 → SFits w32 (neg_ℤ (pos n))
@@ -152,18 +151,26 @@ module _ (n : ℕ) (h : n ≤ 2147483648) where
   pub minus_is : to_z w32 (of_z w32 (to_z w64 (of_z w64 (pos 0 -ℤ to_z w64 n)))) ≡ neg_ℤ (pos n)
   minus_is = ap (λ (z : ℤ). to_z w32 (of_z w32 z)) (back negation).is ∙ to_z-of_z (neg_fits n h)
 
-pub plain_is : (limit : ℕ) (s : List ℕ) (r : Unsigned) → r ≡ read_digits limit 2147483647 s → record { ok = r.ok; value = to_z w32 r.value } ≡ plain r
-plain_is limit s r e = ap (λ (z : ℤ). record { ok = r.ok; value = z }) (to_z_pos w32 (omega (arith, read_most limit 2147483647 s r e)))
+pub plain_is : (n : ℕ) → n ≤ 2147483647 → to_z w32 n ≡ pos n
+plain_is n h = to_z_pos w32 (omega arith)
 
 -- ---- what is read is held by 32 bits
-pub i32_fits : (s : List ℕ) → SFits w32 (read_i32 s).value
+pub i32_fits : (s : List ℕ) (z : ℤ) → read_i32 s ≡ Some z → SFits w32 z
 unfolding read_signed
-i32_fits [] = record { sfits = lit< tt }
-i32_fits (b ∷ s) = by (eqb b 45)
+i32_fits [] z e = cc
+i32_fits (b ∷ s) z e = by (eqb b 45) e
   where
-    by : (t : Bool) → SFits w32 (cond t (negated (read_digits 10 2147483648 s)) (plain (read_digits 10 2147483647 (b ∷ s)))).value
-    by true = neg_fits _ (read_most 10 2147483648 s _ refl)
-    by false = record { sfits = omega (arith, read_most 10 2147483647 (b ∷ s) (read_digits 10 2147483647 (b ∷ s)) refl) }
+    minus : (r : Option ℕ) → ((n : ℕ) → r ≡ Some n → n ≤ 2147483648) → option_map negated r ≡ Some z → SFits w32 z
+    minus None h e = cc
+    minus (Some n) h e = subst (SFits w32) (same_Some (neg_ℤ (pos n)) z e) (neg_fits n (h n refl))
 
-pub u32_fits : (s : List ℕ) → Fits w32 (read_u32 s).value
-u32_fits s = record { fits = omega (arith, read_most 10 4294967295 s (read_u32 s) refl) }
+    plain : (r : Option ℕ) → ((n : ℕ) → r ≡ Some n → n ≤ 2147483647) → option_map pos r ≡ Some z → SFits w32 z
+    plain None h e = cc
+    plain (Some n) h e = subst (SFits w32) (same_Some (pos n) z e) (record { sfits = omega (arith, h n refl) })
+
+    by : (t : Bool) → cond t (option_map negated (read_digits 10 2147483648 s)) (option_map pos (read_digits 10 2147483647 (b ∷ s))) ≡ Some z → SFits w32 z
+    by true e = minus (read_digits 10 2147483648 s) (read_most 10 2147483648 s) e
+    by false e = plain (read_digits 10 2147483647 (b ∷ s)) (read_most 10 2147483647 (b ∷ s)) e
+
+pub u32_fits : (s : List ℕ) (n : ℕ) → read_u32 s ≡ Some n → Fits w32 n
+u32_fits s n e = record { fits = omega (arith, read_most 10 4294967295 s n e) }

@@ -2,15 +2,16 @@
 use mathlib.Core.Path.{◌≡◌, refl, sym, ap, ◌∙◌}
 use mathlib.Core.Bool.{Bool, true, false, ◌&&◌, false≢true, true≢false}
 use mathlib.Core.List.{List, [], ◌∷◌, ◌++◌}
-use Prim.Native.Nat.{ℕ, zero, suc, ◌+◌, ◌/◌, ◌≤◌, ◌<◌, ◌^◌}
+use Prim.Native.Nat.{ℕ, zero, suc, ◌+◌, ◌*◌, ◌/◌, ◌≤◌, ◌<◌, ◌^◌, max}
 use native.Mathlib.Nat.{le_trans, pow-suc}
 use native.Mathlib.Numerals.{add-one}
 use native.Mathlib.Omega.{arith}
-use lib.Dec.{leb, ltb, lit≤, lit<}
+use lib.Pointwise.{pointwise}
+use lib.Dec.{leb, ltb, eqb, lit≤, lit<}
 use lib.IntN.{ℤ, pos, negsuc, nat_abs}
 use lib.Signed.{◌≤ℤ◌, ◌<ℤ◌}
-use lib.ListN.{length, get_or, length-append}
-use borrow.Author.Tests.{ltb-true, ltb-false, lt-ltb, le-ltb, le-leb}
+use lib.ListN.{length, take, length-append}
+use borrow.Author.Tests.{ltb-true, ltb-false, lt-ltb, le-ltb, le-leb, ne_eqb}
 use mir.Syntax.{w32, w64}
 use mir.Val.{Fits, SFits}
 use Rattle.whole.proofs.Difference.{lt_nat}
@@ -19,7 +20,8 @@ use Rattle.text.proofs.Reading.{digit_yes, signed_plain}
 use Rattle.text.proofs.Writing.{triple_parts}
 use Rattle.text.specs.Words.{numbered, counted}
 use Rattle.text.specs.Show.{last_digit, shown_by, shown, last_digits, shown_signed, number_field, triple}
-use Rattle.text.specs.Read.{unsigned, read_digits, read_u32, read_signed, read_i32, negated}
+use Rattle.std.specs.Prelude.{Some, option_map}
+use Rattle.text.specs.Read.{read_digits, read_u32, read_signed, read_i32, negated}
 
 -- ---- turns to spare change nothing
 enough : (f g n : ℕ) → n ≤ f → n ≤ g → shown_by f n ≡ shown_by g n
@@ -107,6 +109,24 @@ shown_most (suc k) n h = at (ltb n 10) refl (shown_most k (n / 10))
     at true e r = rw (shown_one n (ltb-true n 10 e)) (omega arith)
     at false e r = rw (shown_more n (ltb-false n 10 e), length-append) (omega (arith, r (part (ltb-false n 10 e))))
 
+ten_some : (k : ℕ) → 1 ≤ 10 ^ k
+ten_some zero = omega arith
+ten_some (suc k) = omega (arith, pow-suc 10 k, ten_some k)
+
+shown_least : (k n : ℕ) → 10 ^ k ≤ n → k + 1 ≤ length (shown n)
+shown_least zero n h = shown_some n
+shown_least (suc k) n h = at (rw pow-suc at h) (shown_least k (n / 10))
+  where
+    at : 10 ^ k * 10 ≤ n → (10 ^ k ≤ n / 10 → k + 1 ≤ length (shown (n / 10))) → suc k + 1 ≤ length (shown n)
+    at h r = rw (shown_more n (omega (arith, ten_some k)), length-append) (omega (arith, r (omega arith)))
+
+-- a digit for each power of ten that is no larger than the number, or than 1
+pub shown_powers : (n k m : ℕ) → m ≡ max n 1 → 10 ^ k ≤ m → m < 10 * 10 ^ k → k + 1 ≡ length (shown n)
+unfolding shown
+shown_powers zero zero m e h l = refl
+shown_powers zero (suc k) m e h l = absurd (omega (arith, ten_some k, pow-suc 10 k))
+shown_powers (suc n) k m e h l = omega (arith, shown_least k (suc n) (omega arith), shown_most k (suc n) (omega (arith, pow-suc 10 k)))
+
 -- a 32-bit number has at most ten digits, and one sign before them
 pub shown_ten : (n : ℕ) → n < 2 ^ 32 → length (shown n) ≤ 10
 shown_ten n h = shown_most 9 n (le_trans h (lit≤ tt))
@@ -127,27 +147,27 @@ shown_last n = by_digits (λ (n : ℕ). shown n ≡ last_digits (length (shown n
         ∙ ap (λ (k : ℕ). last_digits k n) (sym (ap length (shown_more n h) ∙ length-append (shown (n / 10)) (last_digit n ∷ []) ∙ add-one (length (shown (n / 10)))))
 
 -- ---- what is written reads back
-pub reads_back : (most n : ℕ) → n ≤ most → n < 2 ^ 32 → read_digits 10 most (shown n) ≡ unsigned true n
+pub reads_back : (most n : ℕ) → n ≤ most → n < 2 ^ 32 → read_digits 10 most (shown n) ≡ Some n
 unfolding read_digits
 reads_back most n h k =
     let long : leb (length (shown n)) 10 ≡ true = le-leb (length (shown n)) 10 (shown_ten n k) in
     let some : leb 1 (length (shown n)) ≡ true = le-leb 1 (length (shown n)) (shown_some n) in
     rw (some, long, shown_digits n, shown_value n, le-leb n most h)
 
-pub reads_back_u32 : (n : ℕ) → Fits w32 n → read_u32 (shown n) ≡ unsigned true n
+pub reads_back_u32 : (n : ℕ) → Fits w32 n → read_u32 (shown n) ≡ Some n
 reads_back_u32 n f = reads_back 4294967295 n (omega (arith, f.fits)) f.fits
 
 -- the first digit is no minus
-no_minus : (s : List ℕ) → 1 ≤ length s → all_digits s ≡ true → get_or s 0 0 ≡ 45 → ⊥
-no_minus [] h e q = omega arith
-no_minus (b ∷ s) h e q = true≢false (sym e ∙ rw q)
+no_minus : (s : List ℕ) → all_digits s ≡ true → pointwise eqb (take 1 s) (45 ∷ []) ≡ false
+no_minus [] e = refl
+no_minus (b ∷ s) e = rw (ne_eqb b 45 (λ q. true≢false (sym e ∙ rw q)))
 
-pub reads_back_i32 : (z : ℤ) → SFits w32 z → read_i32 (shown_signed z) ≡ record { ok = true; value = z }
+pub reads_back_i32 : (z : ℤ) → SFits w32 z → read_i32 (shown_signed z) ≡ Some z
 unfolding read_signed
 reads_back_i32 (pos n) f =
-    sym (signed_plain 10 (shown n) (unsigned true n) (no_minus (shown n) (shown_some n) (shown_digits n))
-    (sym (reads_back 2147483647 n (omega (arith, f.sfits)) (omega (arith, f.sfits)))))
-reads_back_i32 (negsuc n) f = ap negated (reads_back 2147483648 (suc n) f.sfits (omega (arith, f.sfits)))
+    sym (signed_plain 10 (shown n) (no_minus (shown n) (shown_digits n)))
+    ∙ ap (option_map pos) (reads_back 2147483647 n (omega (arith, f.sfits)) (omega (arith, f.sfits)))
+reads_back_i32 (negsuc n) f = ap (option_map negated) (reads_back 2147483648 (suc n) f.sfits (omega (arith, f.sfits)))
 
 -- ---- by the sign
 pub shown_minus : (z : ℤ) → z <ℤ pos 0 → shown_signed z ≡ 45 ∷ shown (nat_abs z)

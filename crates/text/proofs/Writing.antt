@@ -3,16 +3,19 @@ use mathlib.Core.Path.{◌≡◌, refl, sym, ap, ap₂, subst, ◌∙◌}
 use mathlib.Core.Bool.{Bool, true, false}
 use mathlib.Core.List.{List, [], ◌∷◌, ◌++◌}
 use Prim.Native.Nat.{ℕ, zero, suc, ◌+◌, ◌-◌, ◌/◌, ◌≤◌, ◌<◌, min}
-use native.Mathlib.Nat.{le_of_lt, zero-sub, sub-zero, suc-sub-suc}
-use native.Mathlib.Numerals.{add-one}
+use native.Mathlib.Nat.{zero-sub, sub-zero, suc-sub-suc}
 use native.Mathlib.Omega.{arith}
 use lib.Dec.{leb}
 use lib.IntN.{ℤ}
-use lib.ListN.{length, get_or, take, drop, set, length-append, length-take, length-drop, drop_of_length-le}
-use lib.Seq.{sets, set_comm, drop-cons, get_or-set_other, get_or-drop, take-suc, take-nil, take-take, take_all, length-take-le}
+use lib.ListN.{length, take, drop, set, length-append, length-take, length-drop}
+use lib.Seq.{sets, paste, set_comm, take-nil, take-take, take_all, length-take-le}
 use borrow.Author.Tests.{leb-true, leb-false}
 use mir.Syntax.{w32}
 use mir.Val.{to_z, of_z}
+use borrow.Rule.Slice.PartMut.{put_mid}
+use Rattle.std.specs.List.{copy_within}
+use Rattle.std.proofs.lemmas.List.Edits.{sets-eq}
+use Rattle.std.proofs.lemmas.Slice.{put_mid-paste}
 use Rattle.text.specs.Lines.{kept_part}
 use Rattle.text.specs.Show.{last_digit, last_digits, number_field, triple}
 
@@ -44,7 +47,6 @@ put_digits_lem at (suc k) n buf =
     ∙ ap (λ (j : ℕ). set (sets buf at (last_digits k (n / 10))) (at + j) (last_digit n)) (sym (last_count k (n / 10)))
     ∙ sym (sets_append buf at (last_digits k (n / 10)) (last_digit n ∷ []))
 
--- ---- a turn of each loop
 pub put_turn : (at i n : ℕ) (buf : List ℕ) → 0 < i → put_digits at (i - 1) (n / 10) (set buf (at + (i - 1)) (last_digit n)) ≡ put_digits at i n buf
 put_turn at zero n buf h = absurd (omega arith)
 put_turn at (suc i) n buf h = rw (one_less i)
@@ -56,11 +58,16 @@ pub put_end : (at i n : ℕ) (buf : List ℕ) → i ≤ 0 → put_digits at i n 
 put_end at zero n buf h = refl
 put_end at (suc i) n buf h = absurd (omega arith)
 
-pub copy_turn : (buf s : List ℕ) (at i : ℕ) → i < length s → sets (set buf (at + i) (get_or s i 0)) (at + (i + 1)) (drop (i + 1) s) ≡ sets buf (at + i) (drop i s)
-copy_turn buf s at i h = rw (drop-cons s i 0 h) (ap₂ (λ (j k : ℕ). sets (set buf (at + i) (get_or s i 0)) j (drop k s)) (omega arith) (add-one i))
+-- ---- bytes that std copies
+paste_sets : (buf : List ℕ) (at : ℕ) (s : List ℕ) (n : ℕ) → n ≤ length s → at + n ≤ length buf → paste buf at s n ≡ sets buf at (take n s)
+paste_sets buf at s n h k =
+    let e : length (take n s) ≡ n = length-take-le n s h in
+    sym (sets-eq (take n s) buf at (omega arith) ∙ ap (λ (m : ℕ). take at buf ++ take n s ++ drop (at + m) buf) e)
 
-pub copy_end : (buf s : List ℕ) (at i : ℕ) → length s ≤ i → sets buf (at + i) (drop i s) ≡ buf
-copy_end buf s at i h = rw (drop_of_length-le s h)
+pub copied_over : (buf : List ℕ) (at : ℕ) (s t : List ℕ) → t ≡ s → at + length s ≤ length buf → put_mid at (at + length s - at) buf t ≡ sets buf at s
+copied_over buf at s t e h =
+    put_mid-paste at (at + length s - at) buf t s (length s) e (omega arith) refl
+    ∙ paste_sets buf at s (length s) (omega arith) h ∙ ap (sets buf at) (take_all (length s) s (omega arith))
 
 -- ---- what writing s leaves and answers, and the same of two parts
 abbrev pub Wrote : List ℕ → ℕ → List ℕ → ℕ → List ℕ → Type 0
@@ -97,25 +104,6 @@ triple_parts a b c stop =
 pub wrote_byte : (buf : List ℕ) (at : ℕ) (s : List ℕ) (b : ℕ) {p : ℕ} {mid : List ℕ} → Wrote buf at s p mid → Wrote buf at (s ++ (b ∷ [])) (p + 1) (set mid p b)
 wrote_byte buf at s b {p} {mid} a = wrote_then buf at s (b ∷ []) a (refl, refl)
 
--- ---- bytes moved to the front
-sets_above : (l : List ℕ) (i : ℕ) (s : List ℕ) (j d : ℕ) → i + length s ≤ j → get_or (sets l i s) j d ≡ get_or l j d
-sets_above l i [] j d h = refl
-sets_above l i (b ∷ s) j d h = sets_above (set l i b) (suc i) s j d (omega arith) ∙ get_or-set_other l i j b d (λ e. omega arith)
-
--- the next byte of those to be moved is still where it was
-pub shift_turn : (l : List ℕ) (from i : ℕ) → from + i < length l
-    → set (sets l 0 (take i (drop from l))) i (get_or (sets l 0 (take i (drop from l))) (from + i) 0) ≡ sets l 0 (take (i + 1) (drop from l))
-shift_turn l from i h =
-    let inside : i < length (drop from l) = omega (arith, length-drop from l) in
-    let count : length (take i (drop from l)) ≡ i = length-take-le i (drop from l) (le_of_lt inside) in
-    ap (λ (x : ℕ). set (sets l 0 (take i (drop from l))) i x) (sets_above l 0 (take i (drop from l)) (from + i) 0 (omega (arith, count)) ∙ sym (get_or-drop from l i 0))
-    ∙ ap (λ (k : ℕ). set (sets l 0 (take i (drop from l))) k (get_or (drop from l) i 0)) (place count)
-    ∙ sym (sets_append l 0 (take i (drop from l)) (get_or (drop from l) i 0 ∷ []))
-    ∙ ap (sets l 0) (sym (take-suc (drop from l) i 0 inside) ∙ ap (λ (k : ℕ). take k (drop from l)) (sym (add-one i)))
-  where
-    place : length (take i (drop from l)) ≡ i → i ≡ 0 + length (take i (drop from l))
-    place c = omega arith
-
 -- ---- what is kept of a buffer's part
 pub drop_take : (k n : ℕ) (l : List ℕ) → drop k (take n l) ≡ take (n - k) (drop k l)
 drop_take zero n l = ap (λ (m : ℕ). take m l) (sym (sub-zero n))
@@ -139,3 +127,10 @@ kept_is buf from end most h = sym (ap (take most) (drop_take from end buf) ∙ t
 
 pub kept_count : (buf : List ℕ) (from end most : ℕ) → end ≤ length buf → min (end - from) most ≡ length (kept_part buf from end most)
 kept_count buf from end most h = rw (length-take, length-drop, length-take) (omega arith)
+
+pub moved_down : (buf : List ℕ) (from n : ℕ) → from + n ≤ length buf → copy_within buf from (from + n) 0 ≡ sets buf 0 (take n (drop from buf))
+moved_down buf from n h =
+    ap (paste buf 0 (drop from buf)) count ∙ paste_sets buf 0 (drop from buf) n (omega (arith, length-drop from buf)) (omega arith)
+  where
+    count : from + n - from ≡ n
+    count = omega arith

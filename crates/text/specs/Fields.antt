@@ -1,11 +1,7 @@
 -- Lines and their fields: 01, the last part of "Known small answers": fields are parted by tabs, a line ends at LF or at the end of input.
-use Rattle.std.specs.Prelude.{Bool, true, false, cond, ◌&&◌, List, [], ◌∷◌, ◌++◌, ℕ, zero, suc, ◌+◌, leb, eqb, pos, length, take, drop, get_or}
+use Rattle.std.specs.Prelude.{cond, ◌&&◌, List, [], ◌∷◌, ◌++◌, ℕ, suc, ◌+◌, ℤ, leb, eqb, length, take, drop, Option, Some, None, option_map, option_and_then}
+use Rattle.std.specs.Option.{is_some}
 use Rattle.text.specs.Read.{read_u32, read_i32}
-use Rattle.text.specs.declared.Signed.{Signed}
-use Rattle.text.specs.declared.NextI32.{NextI32}
-use Rattle.text.specs.declared.NextU32.{NextU32}
-use Rattle.text.specs.declared.Place.{Place}
-use Rattle.text.specs.declared.Vertices.{Vertices}
 
 -- how many bytes stand before the first `stop`: all, where there is none
 abbrev pub until : ℕ → List ℕ → ℕ
@@ -27,55 +23,37 @@ abbrev pub lines : List ℕ → List (List ℕ)
 lines [] = []
 lines (b ∷ s) = cond (eqb b 10) ([] ∷ lines s) (on_first b (lines s))
 
--- ---- a place in a line: that of a field's first byte; the line's length and 1 behind its last field; and 2 once a field was not what was asked for
+-- ---- a place in a line: that of a field's first byte; behind its last field, the line's length and 1
 abbrev pub field_at : List ℕ → ℕ → List ℕ
 field_at line at = take (until 9 (drop at line)) (drop at line)
 
 abbrev pub field_end : List ℕ → ℕ → ℕ
 field_end line at = at + until 9 (drop at line)
 
-abbrev pub next_place : Bool → List ℕ → ℕ → ℕ
-next_place good line at = cond good (field_end line at + 1) (length line + 2)
+-- what the field at a place is read as, and the place of the next field; nothing, where it is none of these
+abbrev pub next_by : {A : Type 0} → (List ℕ → Option A) → List ℕ → ℕ → Option (A × ℕ)
+next_by read line at = option_map (λ v. (v, field_end line at + 1)) (read (field_at line at))
 
-unfoldable pub next_u32 : List ℕ → ℕ → NextU32
-next_u32 line at = record { value = (read_u32 (field_at line at)).value; next = next_place (read_u32 (field_at line at)).ok line at }
+unfoldable pub next_u32 : List ℕ → ℕ → Option (ℕ × ℕ)
+next_u32 line at = next_by read_u32 line at
 
-unfoldable pub next_i32 : List ℕ → ℕ → NextI32
-next_i32 line at = record { value = (read_i32 (field_at line at)).value; next = next_place (read_i32 (field_at line at)).ok line at }
+unfoldable pub next_i32 : List ℕ → ℕ → Option (ℤ × ℕ)
+next_i32 line at = next_by read_i32 line at
 
 -- ---- lines of signed numbers
-abbrev pub number : List (List ℕ) → ℕ → Signed
-number fs k = read_i32 (get_or fs k [])
+-- each field's number, if each is one
+abbrev pub numbers : List (List ℕ) → Option (List ℤ)
+numbers [] = Some []
+numbers (f ∷ fs) = option_and_then (λ z. option_map (λ zs. z ∷ zs) (numbers fs)) (read_i32 f)
 
--- the first k fields are numbers
-abbrev pub numbers : ℕ → List (List ℕ) → Bool
-numbers zero fs = true
-numbers (suc k) fs = numbers k fs && (number fs k).ok
-
--- they are, and there are no others
-abbrev pub exactly : ℕ → List (List ℕ) → Bool
-exactly k fs = numbers k fs && eqb (length fs) k
-
--- the two coordinates of a place, the six of three vertices; zeros where the line is another
-unfoldable pub read_place : List (List ℕ) → Place
-read_place fs =
-    cond (exactly 2 fs)
-    (record { ok = true; x = (number fs 0).value; y = (number fs 1).value })
-    (record { ok = false; x = pos 0; y = pos 0 })
-
-abbrev pub no_vertices : Vertices
-no_vertices = record { ok = false; x1 = pos 0; y1 = pos 0; x2 = pos 0; y2 = pos 0; x3 = pos 0; y3 = pos 0 }
-
-unfoldable pub read_vertices : List (List ℕ) → Vertices
-read_vertices fs =
-    cond (exactly 6 fs)
-    (record { ok = true; x1 = (number fs 0).value; y1 = (number fs 1).value; x2 = (number fs 2).value; y2 = (number fs 3).value; x3 = (number fs 4).value; y3 = (number fs 5).value })
-    no_vertices
+-- the numbers that a line is, if they are k
+unfoldable pub read_numbers : ℕ → List (List ℕ) → Option (List ℤ)
+read_numbers k fs = cond (eqb (length fs) k) (numbers fs) None
 
 -- which of the fields is no number, counted from 1: the first such; one past the last, where there is none
 abbrev pub first_bad : List (List ℕ) → ℕ
 first_bad [] = 1
-first_bad (f ∷ fs) = cond (read_i32 f).ok (suc (first_bad fs)) 1
+first_bad (f ∷ fs) = cond (is_some (read_i32 f)) (suc (first_bad fs)) 1
 
 -- what is wrong with a line that is not k numbers: which field, or 0 where there are not k fields or more than 128 bytes
 unfoldable pub bad_field : ℕ → List ℕ → ℕ

@@ -1,5 +1,5 @@
 // Writing text into a lent buffer, from a place on. Each function answers the next place, and leaves every byte but its own as it was.
-ghost use Rattle.std.specs.Prelude.{◌≡◌, ◌+◌, ◌≤◌, leb, nat_abs, length, set};
+ghost use Rattle.std.specs.Prelude.{◌≡◌, ◌+◌, ◌≤◌, leb, length, set};
 ghost use Rattle.std.proofs.lemmas.List.Edits.{sets};
 ghost use Rattle.text.specs.Words.{bad_line, numbered, counted};
 ghost use Rattle.text.specs.Show.{shown, last_digits, shown_signed, number_field, triple};
@@ -8,23 +8,14 @@ ghost use Rattle.text.specs.Show.{shown, last_digits, shown_signed, number_field
 pub fn has_room(length: usize, at: usize, most: usize) -> bool
     ensures { result ≡ leb (at + most) length }
 {
-    if length < most {
-        return false;
-    }
-    at <= length - most
+    at.checked_add(most).is_some_and(|end| end <= length)
 }
 
 // Inside the library: how many digits the text of `v` has.
 pub fn digit_count(v: u64) -> usize
     ensures { result ≡ length (shown v) }
 {
-    let mut rest = v;
-    let mut count = 1;
-    while rest >= 10 {
-        rest /= 10;
-        count += 1;
-    }
-    count
+    v.max(1).ilog10() as usize + 1
 }
 
 // The last `count` digits of `v`, from the last on.
@@ -33,9 +24,7 @@ fn put_digits(buf: &mut [u8], at: usize, count: usize, v: u64)
     ensures { buf.new ≡ sets buf.old at (last_digits count v) }
 {
     let mut rest = v;
-    let mut i = count;
-    while i > 0 {
-        i -= 1;
+    for i in (0..count).rev() {
         buf[at + i] = b'0' + (rest % 10) as u8;
         rest /= 10;
     }
@@ -59,22 +48,12 @@ pub fn write_u32(buf: &mut [u8], at: usize, v: u32) -> usize
     write_u64(buf, at, v as u64)
 }
 
-// How far `v` is from 0.
-fn magnitude(v: i32) -> u32
-    ensures { result ≡ nat_abs v }
-{
-    if v < 0 {
-        return -(v as i64) as u32;
-    }
-    v as u32
-}
-
 // Inside the library: the text of `v`, a minus first where it is negative.
 pub fn write_i32(buf: &mut [u8], at: usize, v: i32) -> usize
     requires { at + length (shown_signed v) ≤ length buf.old }
     ensures { (result ≡ at + length (shown_signed v)) × (buf.new ≡ sets buf.old at (shown_signed v)) }
 {
-    let digits = magnitude(v);
+    let digits = v.unsigned_abs();
     if v < 0 {
         buf[at] = b'-';
         return write_u32(buf, at + 1, digits);
@@ -87,12 +66,9 @@ pub fn write_bytes(buf: &mut [u8], at: usize, s: &[u8]) -> usize
     requires { at + length s.now ≤ length buf.old }
     ensures { (result ≡ at + length s.now) × (buf.new ≡ sets buf.old at s.now) }
 {
-    let mut i = 0;
-    while i < s.len() {
-        buf[at + i] = s[i];
-        i += 1;
-    }
-    at + i
+    let end = at + s.len();
+    buf[at..end].copy_from_slice(s);
+    end
 }
 
 // The byte `b`.

@@ -49,7 +49,7 @@ or_true : (a : Bool) → a || true ≡ true
 or_true true = refl
 or_true false = refl
 
-pub or_false : (a : Bool) → a || false ≡ a
+or_false : (a : Bool) → a || false ≡ a
 or_false true = refl
 or_false false = refl
 

@@ -21,7 +21,7 @@ use Rattle.line.specs.Line.{toward, wide, high, steep, major, x_moves, point_at,
 use Rattle.line.proofs.Lengths.{major_by, x_by, y_by}
 use Rattle.line.proofs.Moves.{moves_minor}
 use Rattle.line.proofs.Points.{stay, has_decides}
-use Rattle.triangle.specs.declared.Columns.{Columns}
+use Rattle.geometry.specs.declared.Columns.{Columns}
 use Rattle.triangle.specs.Row.{hull, in_span, line_columns}
 use Rattle.triangle.proofs.Edge.{edge_rows, no_gap}
 use Rattle.triangle.proofs.Spans.{Spans, line_spans}

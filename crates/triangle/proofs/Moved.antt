@@ -14,7 +14,7 @@ use Rattle.geometry.specs.Place.{before, moved}
 use Rattle.line.specs.Line.{HasPoint, has_point}
 use Rattle.line.proofs.Points.{has_moved, has_same, has_decides}
 use Rattle.triangle.specs.declared.Sorted.{Sorted}
-use Rattle.triangle.specs.declared.Columns.{Columns}
+use Rattle.geometry.specs.declared.Columns.{Columns}
 use Rattle.geometry.proofs.Place.{Before, before_decides}
 use Rattle.triangle.specs.Order.{three, placed, sorted}
 use Rattle.triangle.specs.Triangle.{none_below, none_above, is_flat, is_inside, on_edge, contained}

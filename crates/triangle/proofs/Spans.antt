@@ -18,7 +18,7 @@ use Rattle.geometry.specs.declared.Point.{Point}
 use Rattle.geometry.specs.Extreme.{lesser, greater}
 use Rattle.geometry.proofs.Extreme.{Extremes, extremes}
 use Rattle.line.specs.Line.{point_at, points, HasPoint}
-use Rattle.triangle.specs.declared.Columns.{Columns}
+use Rattle.geometry.specs.declared.Columns.{Columns}
 use Rattle.triangle.proofs.Run.{Run}
 use Rattle.triangle.proofs.Enclosed.{Enclosed}
 use Rattle.triangle.specs.Row.{extended, hull, in_span, columns_to, line_columns}

@@ -6,7 +6,7 @@ use Rattle.geometry.specs.declared.Point.{Point}
 use Rattle.geometry.specs.Extreme.{lesser, greater}
 use Rattle.line.specs.Line.{point_at, points}
 use Rattle.triangle.specs.declared.Sorted.{Sorted}
-use Rattle.triangle.specs.declared.Columns.{Columns}
+use Rattle.geometry.specs.declared.Columns.{Columns}
 use Rattle.triangle.specs.Order.{sorted}
 use Rattle.triangle.specs.Triangle.{is_flat}
 

@@ -1,42 +1,47 @@
 // Triangles: whether a pixel is contained, the columns of a row, and the rows. Vertices may come in any order, lie on one line or coincide.
 #![tactic(auto)]
 
-ghost use Rattle.std.specs.Prelude.{◌≡◌, cond, not, ◌&&◌, ◌||◌, ◌<◌, ◌≤◌, min, pos, neg_ℤ, nat_abs, ◌+ℤ◌, ◌≤ℤ◌};
+ghost use Rattle.std.specs.Prelude.{◌≡◌, cond, not, ◌&&◌, ◌||◌, ◌<◌, ◌≤◌, min, pos, neg_ℤ, nat_abs, ◌+ℤ◌, ◌≤ℤ◌, OnOk};
 ghost use Rattle.whole.specs.Equal.{eq_z};
 ghost use Rattle.refusals.specs.First.{first};
+ghost use Rattle.refusals.specs.Refusal.{as_number};
 ghost use Rattle.geometry.specs.Place.{area_doubled};
 ghost use Rattle.geometry.specs.Bound.{Bounded};
-ghost use Rattle.geometry.specs.Answer.{verdict, span};
+ghost use Rattle.geometry.specs.Answer.{verdict, as_verdict, span, as_span};
 ghost use Rattle.triangle.specs.Order.{placed, sorted, Down};
 ghost use Rattle.triangle.specs.Triangle.{none_below, none_above, on_edge, is_flat, contained};
 ghost use Rattle.line.specs.Reach.{reach};
 ghost use Rattle.triangle.specs.Offsets.{first_offset, last_offset};
 ghost use Rattle.triangle.specs.Row.{extended, hull, line_columns, edge_columns, row_span, first_row, row_count};
 ghost use Rattle.triangle.specs.Box.{is_beyond, outside_box};
-ghost use Rattle.triangle.specs.Answer.{vertex_tests, rows_answer};
+ghost use Rattle.triangle.specs.Answer.{vertex_tests, rows_answer, as_rows};
 
-use geometry::{Point, Span, Verdict};
+use geometry::{Columns, Point};
+use refusals::Refusal;
 
 // The vertices by y, then x.
-#[derive(Clone, Copy)]
+#[derive(Debug, Clone, Copy, PartialEq, Eq, Hash)]
 pub struct Sorted {
     pub p1: Point,
     pub p2: Point,
     pub p3: Point,
 }
 
-// A span of columns: the first, and one past the last; empty if they are the same.
-#[derive(Clone, Copy)]
-pub struct Columns(pub i32, pub i32);
-
 // A stretch of columns, counted from an edge's start: the first and the last.
-#[derive(Clone, Copy)]
+#[derive(Debug, Clone, Copy, PartialEq, Eq, Hash)]
 struct Stretch {
     first: u32,
     last: u32,
 }
 
-// The rows of a triangle: the first, and how many. With a refusal its number, and 0 and 0.
+// The rows of a triangle: the first, and how many.
+#[derive(Clone, Copy)]
+pub struct RowRun {
+    pub first: i32,
+    pub count: u32,
+}
+
+// The rows of a triangle, as C is handed them; with a refusal its number, and 0 and 0.
 #[repr(C)]
 #[derive(Clone, Copy)]
 pub struct RowRange {
@@ -45,14 +50,36 @@ pub struct RowRange {
     pub count: u32,
 }
 
-// Inside the library: 5 where a vertex is out of bounds, else 0.
-pub fn refusal(v1: Point, v2: Point, v3: Point) -> u32
-    ensures { result ≡ first (vertex_tests v1 v2 v3) }
-{
-    if !(geometry::in_bounds(v1) & (geometry::in_bounds(v2) & geometry::in_bounds(v3))) {
-        return 5;
+impl From<Result<RowRun, Refusal>> for RowRange {
+    ghost from_gives = { λ answer r. r ≡ as_rows answer };
+
+    fn from(answer: Result<RowRun, Refusal>) -> Self {
+        match answer {
+            Ok(rows) => RowRange {
+                number: 0,
+                first: rows.first,
+                count: rows.count,
+            },
+            Err(refusal) => RowRange {
+                number: refusal.number(),
+                first: 0,
+                count: 0,
+            },
+        }
     }
-    0
+}
+
+// Inside the library: whether a triangle is accepted; it is refused where a vertex is out of bounds.
+#[tactic(auto, unfolding(crate::specs::Answer::vertex_tests))]
+pub fn accept(v1: Point, v2: Point, v3: Point) -> Result<(), Refusal>
+    ensures number { as_number result ≡ first (vertex_tests v1 v2 v3) }
+    ensures accepted { OnOk result (Bounded v1 × Bounded v2 × Bounded v3) }
+{
+    if geometry::in_bounds(v1) & (geometry::in_bounds(v2) & geometry::in_bounds(v3)) {
+        Ok(())
+    } else {
+        Err(Refusal::OutOfBounds)
+    }
 }
 
 // Inside the library: twice the signed area of p, a, b, by differences and products of 64 bits. Each difference is taken from p, which changes no
@@ -80,24 +107,24 @@ pub fn is_solid(v1: Point, v2: Point, v3: Point) -> bool
 fn place(a: Point, b: Point, c: Point) -> Sorted
     ensures { result ≡ placed a b c }
 {
-    if geometry::in_order(c, a) {
-        return Sorted {
+    if c <= a {
+        Sorted {
             p1: c,
             p2: a,
             p3: b,
-        };
-    }
-    if geometry::in_order(c, b) {
-        return Sorted {
+        }
+    } else if c <= b {
+        Sorted {
             p1: a,
             p2: c,
             p3: b,
-        };
-    }
-    Sorted {
-        p1: a,
-        p2: b,
-        p3: c,
+        }
+    } else {
+        Sorted {
+            p1: a,
+            p2: b,
+            p3: c,
+        }
     }
 }
 
@@ -105,23 +132,18 @@ fn place(a: Point, b: Point, c: Point) -> Sorted
 pub fn sorted_yx(v1: Point, v2: Point, v3: Point) -> Sorted
     ensures { result ≡ sorted v1 v2 v3 }
 {
-    if geometry::in_order(v1, v2) {
-        return place(v1, v2, v3);
+    if v1 <= v2 {
+        place(v1, v2, v3)
+    } else {
+        place(v2, v1, v3)
     }
-    place(v2, v1, v3)
 }
 
 // Whether x lies beyond a, b and c, on one side of all three.
 fn beyond(x: i32, a: i32, b: i32, c: i32) -> bool
     ensures { result ≡ is_beyond x a b c }
 {
-    if x < a {
-        return x < b && x < c;
-    }
-    if a < x {
-        return b < x && c < x;
-    }
-    false
+    (x < a && x < b && x < c) || (a < x && b < x && c < x)
 }
 
 // Whether p lies outside the bounding box of the vertices.
@@ -135,20 +157,14 @@ fn outside(v1: Point, v2: Point, v3: Point, p: Point) -> bool
 fn none_below(a: i64, b: i64, c: i64) -> bool
     ensures { result ≡ none_below a b c }
 {
-    if 0 <= a {
-        return 0 <= b && 0 <= c;
-    }
-    false
+    0 <= a && 0 <= b && 0 <= c
 }
 
 // Whether a, b, c are all at least 0, and not all 0.
 fn one_side(a: i64, b: i64, c: i64) -> bool
     ensures { result ≡ none_below a b c && not (eq_z ((a +ℤ b) +ℤ c) (pos 0)) }
 {
-    if none_below(a, b, c) {
-        return (a != 0) | ((b != 0) | (c != 0));
-    }
-    false
+    none_below(a, b, c) && ((a != 0) | ((b != 0) | (c != 0)))
 }
 
 // Whether a, b, c are all at least 0 or all at most 0, and not all 0.
@@ -156,10 +172,7 @@ fn same_side(a: i64, b: i64, c: i64) -> bool
     requires { (nat_abs a ≤ 549755813888) × (nat_abs b ≤ 549755813888) × (nat_abs c ≤ 549755813888) }
     ensures { result ≡ (none_below a b c || none_above a b c) && not (eq_z ((a +ℤ b) +ℤ c) (pos 0)) }
 {
-    if one_side(a, b, c) {
-        return true;
-    }
-    one_side(-a, -b, -c)
+    one_side(a, b, c) || one_side(-a, -b, -c)
 }
 
 // Whether p is a point of one of the three edges.
@@ -167,13 +180,7 @@ fn on_edge(t: Sorted, p: Point) -> bool
     requires { Bounded t.p1 × Bounded t.p2 × Bounded t.p3 }
     ensures { result ≡ on_edge t.p1 t.p2 t.p3 p }
 {
-    if line::meets(t.p1, t.p2, p) {
-        return true;
-    }
-    if line::meets(t.p1, t.p3, p) {
-        return true;
-    }
-    line::meets(t.p2, t.p3, p)
+    line::meets(t.p1, t.p2, p) || line::meets(t.p1, t.p3, p) || line::meets(t.p2, t.p3, p)
 }
 
 // Whether an accepted triangle contains p. A pixel outside the box is answered before any product, which keeps the areas of the others small; most of those
@@ -199,39 +206,25 @@ fn holds(v1: Point, v2: Point, v3: Point, p: Point) -> bool
 }
 
 // Whether the triangle contains p: any pixel may be asked.
-pub fn contains(v1: Point, v2: Point, v3: Point, p: Point) -> Verdict
-    ensures { result ≡ verdict (first (vertex_tests v1 v2 v3)) (contained v1 v2 v3 p) }
+pub fn contains(v1: Point, v2: Point, v3: Point, p: Point) -> Result<bool, Refusal>
+    ensures { as_verdict result ≡ verdict (first (vertex_tests v1 v2 v3)) (contained v1 v2 v3 p) }
 {
-    let number = refusal(v1, v2, v3);
-    if number != 0 {
-        return Verdict { number, yes: false };
-    }
-    Verdict {
-        number: 0,
-        yes: holds(v1, v2, v3, p),
-    }
+    accept(v1, v2, v3)?;
+    Ok(holds(v1, v2, v3, p))
 }
 
 // The first row of a triangle, and how many it has.
-pub fn rows(v1: Point, v2: Point, v3: Point) -> RowRange
-    ensures { result ≡ rows_answer (first (vertex_tests v1 v2 v3)) (first_row v1 v2 v3) (row_count v1 v2 v3) }
+pub fn rows(v1: Point, v2: Point, v3: Point) -> Result<RowRun, Refusal>
+    ensures { as_rows result ≡ rows_answer (first (vertex_tests v1 v2 v3)) (first_row v1 v2 v3) (row_count v1 v2 v3) }
 {
-    let number = refusal(v1, v2, v3);
-    if number != 0 {
-        return RowRange {
-            number,
-            first: 0,
-            count: 0,
-        };
-    }
+    accept(v1, v2, v3)?;
     let t = sorted_yx(v1, v2, v3);
     let top = t.p1;
     let bottom = t.p3;
-    RowRange {
-        number: 0,
+    Ok(RowRun {
         first: top.1,
         count: (bottom.1 - top.1) as u32 + 1,
-    }
+    })
 }
 
 // The last column on a row of an edge that is wider than high, counted from its start.
@@ -240,10 +233,7 @@ fn last_on(wide: u32, high: u32, row: u32) -> u32
     ensures { result ≡ min wide (reach wide high row) }
 {
     let last = line::reach_of(wide, high, row);
-    if last < wide as u64 {
-        return last as u32;
-    }
-    wide
+    last.min(wide as u64) as u32
 }
 
 // The columns of an edge's points on one of its rows, in any direction.
@@ -252,21 +242,21 @@ fn stretch_on(wide: u32, high: u32, row: u32) -> Stretch
     ensures { (result.first ≡ first_offset wide high row) × (result.last ≡ last_offset wide high row) }
 {
     if high == 0 {
-        return Stretch {
+        Stretch {
             first: 0,
             last: wide,
-        };
-    }
-    if wide <= high {
+        }
+    } else if wide <= high {
         let moves = line::moves_at(high, 2 * wide, row);
-        return Stretch {
+        Stretch {
             first: moves,
             last: moves,
-        };
-    }
-    Stretch {
-        first: line::first_with(wide, high, row),
-        last: last_on(wide, high, row),
+        }
+    } else {
+        Stretch {
+            first: line::first_with(wide, high, row),
+            last: last_on(wide, high, row),
+        }
     }
 }
 
@@ -276,9 +266,10 @@ fn offset(rightward: bool, right: u32, left: u32) -> i32
     ensures { result ≡ cond rightward (pos right) (neg_ℤ (pos left)) }
 {
     if rightward {
-        return right as i32;
+        right as i32
+    } else {
+        -(left as i32)
     }
-    -(left as i32)
 }
 
 // Inside the library: the columns of the points on row y of an edge that runs down.
@@ -290,13 +281,10 @@ pub fn bresenham_intersection(start: Point, end: Point, y: i32) -> Columns
     let top = start.1;
     let far = end.0;
     let bottom = end.1;
-    if y < top {
+    if y < top || bottom < y {
         return Columns(0, 0);
     }
-    if bottom < y {
-        return Columns(0, 0);
-    }
-    let wide = line::distance(x, far) as u32;
+    let wide = far.abs_diff(x);
     let high = (bottom - top) as u32;
     let row = (y - top) as u32;
     let s = stretch_on(wide, high, row);
@@ -310,14 +298,12 @@ fn extend(a: Columns, b: Columns) -> Columns
     ensures { result ≡ extended a b }
 {
     if a.0 == a.1 {
-        return b;
+        b
+    } else if b.0 == b.1 {
+        a
+    } else {
+        Columns(a.0.min(b.0), a.1.max(b.1))
     }
-    if b.0 == b.1 {
-        return a;
-    }
-    let first = geometry::lesser(a.0, b.0);
-    let past = geometry::greater(a.1, b.1);
-    Columns(first, past)
 }
 
 // Inside the library: the span of row y, of sorted vertices.
@@ -335,21 +321,9 @@ pub fn scanline_intersection(t: Sorted, y: i32) -> Columns
 }
 
 // The columns of row y of the triangle: any row may be asked.
-pub fn row_span(v1: Point, v2: Point, v3: Point, y: i32) -> Span
-    ensures { result ≡ span (first (vertex_tests v1 v2 v3)) (row_span v1 v2 v3 y).0 (row_span v1 v2 v3 y).1 }
+pub fn row_span(v1: Point, v2: Point, v3: Point, y: i32) -> Result<Columns, Refusal>
+    ensures { as_span result ≡ span (first (vertex_tests v1 v2 v3)) (row_span v1 v2 v3 y).0 (row_span v1 v2 v3 y).1 }
 {
-    let number = refusal(v1, v2, v3);
-    if number != 0 {
-        return Span {
-            number,
-            start: 0,
-            end: 0,
-        };
-    }
-    let c = scanline_intersection(sorted_yx(v1, v2, v3), y);
-    Span {
-        number: 0,
-        start: c.0,
-        end: c.1,
-    }
+    accept(v1, v2, v3)?;
+    Ok(scanline_intersection(sorted_yx(v1, v2, v3), y))
 }

@@ -6,3 +6,4 @@ pub mod Sizes
 pub mod Decides
 pub mod Tests
 pub mod Determined
+pub mod Compared

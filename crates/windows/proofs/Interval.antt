@@ -12,7 +12,7 @@ use Rattle.whole.specs.Interval.{between}
 use Rattle.whole.proofs.Decides.{decides_one, decides_map, decides_le, decides_lt}
 use Rattle.whole.proofs.Difference.{as_mk, mks, mk_eq, eq_mk, le_nat, lt_nat, nat_le, nat_lt}
 use Rattle.whole.proofs.Tests.{same_test, lt_or_ge}
-use Rattle.windows.specs.declared.Steps.{Steps}
+use Rattle.std.specs.declared.ops.Range.{Range}
 use Rattle.windows.specs.Window.{clipped}
 use Rattle.windows.specs.Interval.{on_from, Held}
 use Rattle.windows.proofs.Clips.{nearest, clip_bounds, from_le, past_gt}
@@ -74,8 +74,8 @@ both_swap false true = refl
 both_swap false false = refl
 
 -- ---- the steps, upwards and downwards
-module _ (a : ℤ) (low high count : ℕ) {t : Steps} where
-  pub held_up : t.from ≡ clipped (pos low -ℤ a) 0 count → t.past ≡ clipped (pos high -ℤ a) 0 count → Held a true low high count t
+module _ (a : ℤ) (low high count : ℕ) {t : Range ℕ} where
+  pub held_up : t.start ≡ clipped (pos low -ℤ a) 0 count → t.end ≡ clipped (pos high -ℤ a) 0 count → Held a true low high count t
   held_up from past =
       record {
         first = rw from (clip_bounds (pos low -ℤ a) 0 count (omega arith)).1;
@@ -84,7 +84,7 @@ module _ (a : ℤ) (low high count : ℕ) {t : Steps} where
         ends = λ k few. rw past (near_lt (pos high -ℤ a) few ∙ up_past a (pos high) (pos k));
       }
 
-  pub held_down : t.from ≡ clipped (pos 1 -ℤ (pos high -ℤ a)) 0 count → t.past ≡ clipped (pos 1 -ℤ (pos low -ℤ a)) 0 count → Held a false low high count t
+  pub held_down : t.start ≡ clipped (pos 1 -ℤ (pos high -ℤ a)) 0 count → t.end ≡ clipped (pos 1 -ℤ (pos low -ℤ a)) 0 count → Held a false low high count t
   held_down from past =
       record {
         first = rw from (clip_bounds (pos 1 -ℤ (pos high -ℤ a)) 0 count (omega arith)).1;
@@ -95,10 +95,10 @@ module _ (a : ℤ) (low high count : ℕ) {t : Steps} where
 
 -- ---- they are those at which the coordinate lies there
 -- whether k is one of the steps
-abbrev pub is_step : Steps → ℕ → Bool
-is_step t k = leb t.from k && ltb k t.past
+abbrev pub is_step : Range ℕ → ℕ → Bool
+is_step t k = leb t.start k && ltb k t.end
 
-pub held_exactly : {a : ℤ} (grows : Bool) {low high count : ℕ} {t : Steps} → Held a grows low high count t
+pub held_exactly : {a : ℤ} (grows : Bool) {low high count : ℕ} {t : Range ℕ} → Held a grows low high count t
     → (k : ℕ) → k < count → is_step t k ≡ between (pos low) (pos high) (on_from grows a k)
 held_exactly true h k few = ap₂ ◌&&◌ (h.begins k few) (h.ends k few)
 held_exactly {a} false {low} {high} h k few =
@@ -114,19 +114,19 @@ one_end side apart {count} {p} {q} few more same = by (lt_or_ge p q) (lt_or_ge q
     by (inr l) (inl m) = absurd (apart q p m (sym (same q (omega arith))))
     by (inr l) (inr m) = omega arith
 
-pub one_interval : {count : ℕ} {t u : Steps} → t.from ≤ count → u.from ≤ count → t.past ≤ count → u.past ≤ count
-    → ((k : ℕ) → k < count → leb t.from k ≡ leb u.from k) → ((k : ℕ) → k < count → ltb k t.past ≡ ltb k u.past) → t ≡ u
+pub one_interval : {count : ℕ} {t u : Range ℕ} → t.start ≤ count → u.start ≤ count → t.end ≤ count → u.end ≤ count
+    → ((k : ℕ) → k < count → leb t.start k ≡ leb u.start k) → ((k : ℕ) → k < count → ltb k t.end ≡ ltb k u.end) → t ≡ u
 one_interval first also most too begins ends =
     let from = one_end leb (λ p q l e. true≢false (sym (le-leb p p (omega arith)) ∙ e ∙ lt-leb q p l)) first also begins in
     let past = one_end (λ p k. ltb k p) (λ p q l e. true≢false (sym (lt-ltb p q l) ∙ sym e ∙ le-ltb p p (omega arith))) most too ends in
-    λ i. record { from = from i; past = past i }
+    λ i. record { start = from i; end = past i }
 
-pub held_one : {a : ℤ} {grows : Bool} {low high count : ℕ} {t u : Steps} → Held a grows low high count t → Held a grows low high count u → t ≡ u
+pub held_one : {a : ℤ} {grows : Bool} {low high count : ℕ} {t u : Range ℕ} → Held a grows low high count t → Held a grows low high count u → t ≡ u
 held_one h g = one_interval h.first g.first h.most g.most (λ k few. h.begins k few ∙ sym (g.begins k few)) (λ k few. h.ends k few ∙ sym (g.ends k few))
 
 -- ---- steps before and after them are none of them
-pub step_before : (t : Steps) (k : ℕ) → k < t.from → is_step t k ≡ false
-step_before t k l = ap (λ (b : Bool). b && ltb k t.past) (lt-leb t.from k l)
+pub step_before : (t : Range ℕ) (k : ℕ) → k < t.start → is_step t k ≡ false
+step_before t k l = ap (λ (b : Bool). b && ltb k t.end) (lt-leb t.start k l)
 
-pub step_after : (t : Steps) (k : ℕ) → t.past ≤ k → is_step t k ≡ false
-step_after t k l = ap (λ (b : Bool). leb t.from k && b) (le-ltb k t.past l) ∙ both_swap (leb t.from k) false
+pub step_after : (t : Range ℕ) (k : ℕ) → t.end ≤ k → is_step t k ≡ false
+step_after t k l = ap (λ (b : Bool). leb t.start k && b) (le-ltb k t.end l) ∙ both_swap (leb t.start k) false

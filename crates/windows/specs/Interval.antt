@@ -1,7 +1,7 @@
 -- The steps of a walk that a rectangle holds: an interval, where a coordinate moves by one place at every step.
 use Rattle.std.specs.Prelude.{◌≡◌, Bool, cond, ℕ, ◌≤◌, ◌<◌, leb, ltb, ℤ, pos, negsuc, ◌+ℤ◌, ◌*ℤ◌}
 use Rattle.std.specs.Int.Signed.{le_z, lt_z}
-use Rattle.windows.specs.declared.Steps.{Steps}
+use Rattle.std.specs.declared.ops.Range.{Range}
 
 -- k places on from a, upwards or downwards
 abbrev pub on_from : Bool → ℤ → ℕ → ℤ
@@ -17,8 +17,8 @@ stays grows low high z = cond grows (lt_z z (pos high)) (le_z (pos low) z)
 
 -- t are, of the steps below count, exactly those at which a coordinate that begins at a lies from low to one before high: from the first at which it has come there
 -- to the last at which it stays. Each end is told by itself, so that one answer is meant where there is no such step too
-pub record Held (a : ℤ) (grows : Bool) (low high count : ℕ) (t : Steps) : Type 0 where
-  pub first : t.from ≤ count
-  pub most : t.past ≤ count
-  pub begins : (k : ℕ) → k < count → leb t.from k ≡ come grows low high (on_from grows a k)
-  pub ends : (k : ℕ) → k < count → ltb k t.past ≡ stays grows low high (on_from grows a k)
+pub record Held (a : ℤ) (grows : Bool) (low high count : ℕ) (t : Range ℕ) : Type 0 where
+  pub first : t.start ≤ count
+  pub most : t.end ≤ count
+  pub begins : (k : ℕ) → k < count → leb t.start k ≡ come grows low high (on_from grows a k)
+  pub ends : (k : ℕ) → k < count → ltb k t.end ≡ stays grows low high (on_from grows a k)

@@ -7,20 +7,15 @@ ghost use Rattle.geometry.specs.Bound.{Coord};
 ghost use Rattle.windows.specs.Window.{in_window, clipped, Small};
 ghost use Rattle.windows.specs.Interval.{Held};
 
+use std::ops::Range;
+
 // Inside the library: a rectangle of a frame, from column `left` and row `top` to one before `right` and `bottom`.
-#[derive(Clone, Copy)]
+#[derive(Debug, Clone, Copy, PartialEq, Eq, Hash)]
 pub struct Window {
     pub left: u32,
     pub top: u32,
     pub right: u32,
     pub bottom: u32,
-}
-
-// Inside the library: steps of a walk, from `from` to one before `past`.
-#[derive(Clone, Copy)]
-pub struct Steps {
-    pub from: u32,
-    pub past: u32,
 }
 
 // Inside the library: whether x lies from low to one before high.
@@ -46,31 +41,20 @@ pub fn clip(x: i32, low: u32, high: u32) -> u32
     requires { (low ≤ high) × (high ≤ 262144) }
     ensures { result ≡ clipped x low high }
 {
-    if x < low as i32 {
-        return low;
-    }
-    if x > high as i32 {
-        return high;
-    }
-    x as u32
+    x.clamp(low as i32, high as i32) as u32
 }
 
 // Inside the library: of the steps below count, each of which takes a coordinate one place on from a, upwards if it grows, those that take it to a place from low
 // to one before high.
-pub fn held(a: i32, grows: bool, low: u32, high: u32, count: u32) -> Steps
+pub fn held(a: i32, grows: bool, low: u32, high: u32, count: u32) -> Range<u32>
     requires { Coord a × (low ≤ 2048) × (high ≤ 2048) × (count ≤ 262144) }
     ensures { Held a grows low high count result }
 {
     let to_low = low as i32 - a;
     let to_high = high as i32 - a;
     if grows {
-        return Steps {
-            from: clip(to_low, 0, count),
-            past: clip(to_high, 0, count),
-        };
-    }
-    Steps {
-        from: clip(1 - to_high, 0, count),
-        past: clip(1 - to_low, 0, count),
+        clip(to_low, 0, count)..clip(to_high, 0, count)
+    } else {
+        clip(1 - to_high, 0, count)..clip(1 - to_low, 0, count)
     }
 }

@@ -1,16 +1,13 @@
--- `calls::line` hands on what the library answers and leaves, where the line ends behind the colour. Assumes nothing.
+-- `calls::line` hands on what the library answers and leaves of what the line asks for. Assumes nothing.
+use Rattle.readers.proofs.Readings.{unanswered, answered}
 use Rattle.calls.specs.Draw.{ends_call}
-use Rattle.calls.proofs.Calls.{calls}
+use Rattle.calls.proofs.Calls.{said_beside, is_drawn}
 use Rattle.calls.proofs.line.Goals as goal
 
-pub returns-then-not-ends_at : goal.returns-then-not-ends_at
+pub returns-in_err-start : goal.returns-in_err-start
 unfolding ends_call
-returns-then-not-ends_at c = search calls
-
-pub returns-then-trace : goal.returns-then-trace
-unfolding ends_call
-returns-then-trace c = rw c.if-trace.true (search calls)
+returns-in_err-start c = unanswered _ _ (said_beside _ c.from_residual.ensures) c.in_err-start.ensures
 
 pub returns : goal.returns
 unfolding ends_call
-returns c = rw c.if-trace.false (search calls)
+returns c = answered _ _ c.in_ok-start.ensures (is_drawn _ c.into.ensures c.draw_line.ensures)

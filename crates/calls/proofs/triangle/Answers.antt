@@ -1,16 +1,13 @@
--- `calls::triangle` hands on what the library answers and leaves, where the line ends behind the colour. Assumes nothing.
+-- `calls::triangle` hands on what the library answers and leaves of what the line asks for. Assumes nothing.
+use Rattle.readers.proofs.Readings.{unanswered, answered}
 use Rattle.calls.specs.Draw.{corners_call}
-use Rattle.calls.proofs.Calls.{calls}
+use Rattle.calls.proofs.Calls.{said_beside, is_drawn}
 use Rattle.calls.proofs.triangle.Goals as goal
 
-pub returns-then-not-ends_at : goal.returns-then-not-ends_at
+pub returns-in_err-t : goal.returns-in_err-t
 unfolding corners_call
-returns-then-not-ends_at c = search calls
-
-pub returns-then-outline : goal.returns-then-outline
-unfolding corners_call
-returns-then-outline c = rw c.if-outline.true (search calls)
+returns-in_err-t c = unanswered _ _ (said_beside _ c.from_residual.ensures) c.in_err-t.ensures
 
 pub returns : goal.returns
 unfolding corners_call
-returns c = rw c.if-outline.false (search calls)
+returns c = answered _ _ c.in_ok-t.ensures (is_drawn _ c.into.ensures c.draw_triangle.ensures)

@@ -1,20 +1,17 @@
 -- `chart::run` lends the part of the input that was read. Assumes nothing.
-use mathlib.Core.Path.{sym}
-use Prim.Native.Nat.{◌≤◌}
+use mathlib.Core.Path.{◌≡◌, sym}
 use native.Mathlib.Omega.{arith}
-use lib.ListN.{length}
+use lib.ListN.{length, take}
 use lib.Seq.{length-take-le}
 use Rattle.chart.proofs.run.Goals as goal
-use Rattle.chart.proofs.run.Goals.{After-read_all-came}
+use Rattle.chart.proofs.run.Goals.{Else-end-gt1048576}
 
 -- what was read is a part of the buffer
-part : (c : After-read_all-came) → c.read_all-came.result.end ≤ length c.read_all-came.new.input
-part c = omega (arith, c.read_all-came.ensures, c.read_all-came.auto.input)
+part : (c : Else-end-gt1048576) → c.in-Ok.end ≡ length (take c.in-Ok.end c.read_all.new.input)
+part c = sym (length-take-le c.in-Ok.end c.read_all.new.input (omega (arith, c.in-Ok.ensures, c.read_all.auto.input)))
 
 pub slice_bounds-tell-end-2 : goal.slice_bounds-tell-end-2
-slice_bounds-tell-end-2 c =
-    sym (length-take-le c.read_all-came.result.end c.read_all-came.new.input (part (goal.at.slice_bounds-tell-end-2 c).After-read_all-came))
+slice_bounds-tell-end-2 c = part c
 
 pub slice_bounds-say-end-2 : goal.slice_bounds-say-end-2
-slice_bounds-say-end-2 c =
-    sym (length-take-le c.read_all-came.result.end c.read_all-came.new.input (part (goal.at.slice_bounds-say-end-2 c).After-read_all-came))
+slice_bounds-say-end-2 c = part (goal.at.slice_bounds-say-end-2 c).Else-end-gt1048576

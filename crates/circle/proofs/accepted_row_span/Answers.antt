@@ -6,7 +6,6 @@ use mir.Facts.{to_z-of_z}
 use borrow.Author.Rules.{rules}
 use borrow.Author.Tests.{not-true, not-false}
 use Rattle.whole.proofs.Machine.{field_back}
-use Rattle.geometry.specs.Answer.{span}
 use Rattle.circle.specs.Circle.{box_row, in_box, span_start, span_end}
 use Rattle.circle.proofs.Spans.{first_column, no_start, no_end}
 use Rattle.circle.proofs.accepted_row_span.Goals as goal
@@ -25,7 +24,7 @@ asked c =
 pub returns-then-not-in_box : goal.returns-then-not-in_box
 returns-then-not-in_box c =
     let out = asked (goal.at.returns-then-not-in_box c).After-in_box ∙ not-true _ c.if-not-in_box.true-raw in
-    sym (ap₂ (span 0) (no_start c.args.topleft c.args.diameter c.args.y out) (no_end c.args.topleft c.args.diameter c.args.y out))
+    sym (ap₂ (λ a b. (a, b)) (no_start c.args.topleft c.args.diameter c.args.y out) (no_end c.args.topleft c.args.diameter c.args.y out))
 
 pub box_row_span-requires : goal.box_row_span-requires
 box_row_span-requires c =
@@ -33,4 +32,4 @@ box_row_span-requires c =
 
 pub returns : goal.returns
 returns c =
-    c.box_row_span.ensures ∙ ap (λ (y : ℤ). span 0 (span_start c.args.topleft c.args.diameter y) (span_end c.args.topleft c.args.diameter y)) (to_z-of_z c.ranges.y)
+    c.box_row_span.ensures ∙ ap (λ (y : ℤ). (span_start c.args.topleft c.args.diameter y, span_end c.args.topleft c.args.diameter y)) (to_z-of_z c.ranges.y)

@@ -2,9 +2,8 @@
 use mathlib.Core.Path.{◌≡◌, sym, ap, ap₂, ◌∙◌}
 use Prim.Native.Nat.{ℕ, ◌*◌, ◌-◌, ◌<◌, ◌≤◌}
 use native.Mathlib.Omega.{arith}
-use lib.IntN.{pos, ◌+ℤ◌}
+use lib.IntN.{ℤ, pos, ◌+ℤ◌}
 use mir.Facts.{to_z-of_z}
-use Rattle.geometry.specs.Answer.{span}
 use Rattle.geometry.specs.Bound.{Coord}
 use Rattle.circle.specs.Circle.{lead_of}
 use Rattle.circle.proofs.Refusals.{widest}
@@ -43,7 +42,7 @@ pub returns : goal.returns
 returns c =
     let a = c.args in
     let r = c.requires.1 in
-    ap₂ (span 0)
+    ap₂ {A = ℤ} {B = ℤ} (λ a b. (a, b))
     (after_is (left (goal.at.returns c).After-lead-skipped) c.lead-skipped.result (few (goal.at.returns c).After-lead-skipped) ∙ ap (λ (n : ℕ). a.topleft.0 +ℤ pos n) (skipped (goal.at.returns c).After-lead-skipped) ∙ sym (start_is a.topleft a.diameter a.y r))
     (after_is (left (goal.at.returns c).After-lead-skipped) (a.diameter - c.lead-skipped.result) (rest (goal.at.returns c).After-lead-skipped _) ∙ ap (λ (n : ℕ). a.topleft.0 +ℤ pos (a.diameter - n)) (skipped (goal.at.returns c).After-lead-skipped)
     ∙ sym (kept_is a.topleft a.diameter a.y r))

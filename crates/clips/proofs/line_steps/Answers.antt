@@ -11,8 +11,8 @@ returns-then-is_steep c =
     line_steps c.args.window c.args.start c.args.end true (sym c.is_steep.ensures ∙ c.if-is_steep.true)
     (held_read c.requires.1.0.y c.requires.1.1.y c.axis_steps.ensures)
 
-pub returns : goal.returns
+pub returns-else-is_steep : goal.returns-else-is_steep
 unfolding wide
-returns c =
+returns-else-is_steep c =
     line_steps c.args.window c.args.start c.args.end false (sym c.is_steep.ensures ∙ c.if-is_steep.false)
-    (held_read c.requires.1.0.x c.requires.1.1.x c.axis_steps-2.ensures)
+    (held_read c.requires.1.0.x c.requires.1.1.x c.axis_steps-else-is_steep.ensures)

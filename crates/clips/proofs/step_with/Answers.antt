@@ -6,7 +6,7 @@ use Rattle.clips.proofs.step_with.Goals as goal
 pub returns-then-minor-moved : goal.returns-then-minor-moved
 returns-then-minor-moved c = let a = c.args in step_past a.major a.minor a.moved c.if-minor-moved.true
 
-pub returns : goal.returns
-returns c =
+pub returns-else-minor-moved : goal.returns-else-minor-moved
+returns-else-minor-moved c =
     let a = c.args in
     subst (StepWith a.major a.minor a.moved) (sym c.first_with.ensures) (step_first a.major a.minor a.moved c.requires.1 c.if-minor-moved.false)

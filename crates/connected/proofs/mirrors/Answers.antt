@@ -14,12 +14,10 @@ use Rattle.connected.proofs.mirrors.Goals as goal
 field_fits : {z : ℤ} → Has w32 (to_z w32 (of_z w32 z)) z 1 → SFits w32 z
 field_fits h = sized h.size h.room
 
-pub returns-then-x-ne0 : goal.returns-then-x-ne0
-returns-then-x-ne0 c = λ s e h. eq_test (field_fits (xmajor_read h)) (field_fits (yminor_read h)) ∙ mirrors_x h (λ z. c.if-x-ne0.true (ap (of_z w32) z))
+pub returns-then-c-ne0 : goal.returns-then-c-ne0
+returns-then-c-ne0 c = λ s e h. eq_test (field_fits (xmajor_read h)) (field_fits (yminor_read h)) ∙ mirrors_x h (λ z. c.if-c-ne0.true (ap (of_z w32) z))
 
-pub returns : goal.returns
-returns c =
-    let s = c.before.before.before.before.before.before in
-    λ s' e h.
-    eq_test (field_fits (ymajor_read h)) (fits (minus_of (xminor_read h))) ∙ ap (eq_z s.args.c.ymajor) (minus_of (xminor_read h)).is
-    ∙ mirrors_y h (eq_bits (field_fits (xmajor_read h)) (sfits_lit {z = pos 0} tt) c.if-x-ne0.false)
+pub returns-else-c-ne0 : goal.returns-else-c-ne0
+returns-else-c-ne0 c = λ s e h.
+    eq_test (field_fits (ymajor_read h)) (fits (minus_of (xminor_read h))) ∙ ap (eq_z c.args.c.ymajor) (minus_of (xminor_read h)).is
+    ∙ mirrors_y h (eq_bits (field_fits (xmajor_read h)) (sfits_lit {z = pos 0} tt) c.if-c-ne0.false)

@@ -14,8 +14,8 @@ use Rattle.connected.proofs.points_before.Goals as goal
 pub overflow_add-result : goal.overflow_add-result
 overflow_add-result c = omega (arith, c.last_index.ensures, last_size c.requires.0 c.requires.1)
 
-pub overflow_add-result-2 : goal.overflow_add-result-2
-overflow_add-result-2 c =
+pub overflow_add-result-else-last_step-step : goal.overflow_add-result-else-last_step-step
+overflow_add-result-else-last_step-step c =
     let M = major c.args.start c.args.end in
     omega (
       arith,
@@ -27,8 +27,8 @@ overflow_add-result-2 c =
       minor_size c.requires.0 c.requires.1,
     )
 
-pub returns : goal.returns
-returns c =
+pub returns-else-last_step-step : goal.returns-else-last_step-step
+returns-else-last_step-step c =
     let a = c.args in
     ap (λ (n : ℕ). a.step + n) c.minor_moves.ensures ∙ sym (index_is a.start a.end a.step)
     ∙ sym (ap (λ (t : Bool). cond t (connected_points a.start a.end) (index_of a.start a.end a.step)) (le-ltb (major a.start a.end) a.step (omega (arith, c.last_step.ensures, c.if-last_step-step.false))))

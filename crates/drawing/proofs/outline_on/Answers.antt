@@ -1,13 +1,12 @@
--- `drawing::outline_on` answers its number, and where that is 0 draws the edges within the rectangle. Assumes nothing.
-use Rattle.triangle.proofs.Refusals.{is_accepted}
+-- `drawing::outline_on` where it is not refused draws the edges within the rectangle. Assumes nothing.
 use Rattle.painting.proofs.Brushes.{calls}
 use Rattle.drawing.proofs.outline_on.Goals as goal
 
-pub returns-then-number-ne0 : goal.returns-then-number-ne0
-returns-then-number-ne0 c = search calls
+pub returns-in_err-accept_triangle : goal.returns-in_err-accept_triangle
+returns-in_err-accept_triangle c = search (calls, c.in_err-accept_triangle.ensures.number)
 
 pub draw_edges-requires : goal.draw_edges-requires
-draw_edges-requires c = (search calls, is_accepted _ _ _ (search calls))
+draw_edges-requires c = (search (calls, c.in_ok-accept_triangle.ensures.number), c.in_ok-accept_triangle.ensures.accepted)
 
 pub returns : goal.returns
-returns c = search calls
+returns c = search (calls, c.in_ok-accept_triangle.ensures.number)

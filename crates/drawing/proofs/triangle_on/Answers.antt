@@ -1,13 +1,12 @@
--- `drawing::triangle_on` answers its number, and where that is 0 fills the rows within the rectangle. Assumes nothing.
-use Rattle.triangle.proofs.Refusals.{is_accepted}
+-- `drawing::triangle_on` where it is not refused fills the rows within the rectangle. Assumes nothing.
 use Rattle.painting.proofs.Brushes.{calls}
 use Rattle.drawing.proofs.triangle_on.Goals as goal
 
-pub returns-then-number-ne0 : goal.returns-then-number-ne0
-returns-then-number-ne0 c = search calls
+pub returns-in_err-accept_triangle : goal.returns-in_err-accept_triangle
+returns-in_err-accept_triangle c = search (calls, c.in_err-accept_triangle.ensures.number)
 
 pub fill_triangle-requires : goal.fill_triangle-requires
-fill_triangle-requires c = (search calls, is_accepted _ _ _ (search calls))
+fill_triangle-requires c = (search (calls, c.in_ok-accept_triangle.ensures.number), c.in_ok-accept_triangle.ensures.accepted)
 
 pub returns : goal.returns
-returns c = search calls
+returns c = search (calls, c.in_ok-accept_triangle.ensures.number)

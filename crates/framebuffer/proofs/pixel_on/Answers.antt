@@ -8,18 +8,17 @@ use mir.Syntax.{w32}
 use mir.Val.{to_z, of_z}
 use borrow.Author.Tests.{not-true, not-false}
 use Rattle.whole.proofs.Machine.{field_back}
-use Rattle.refusals.proofs.Answer.{not_done}
+use Rattle.refusals.specs.Refusal.{as_number}
 use Rattle.layout.specs.Layout.{get_pixel, shown}
 use Rattle.frames.specs.Answer.{read}
 use Rattle.frames.specs.Canvas.{keeps, behind, read_on}
 use Rattle.windows.specs.Window.{in_window}
-use Rattle.frames.proofs.Calls.{behind_0}
+use Rattle.frames.proofs.Calls.{behind_0, refused_read_on}
 use Rattle.framebuffer.proofs.pixel_on.Goals as goal
 use Rattle.framebuffer.proofs.pixel_on.Goals.{After-holds, After-struct_told-2-1}
 
-pub returns-then-number-ne0 : goal.returns-then-number-ne0
-unfolding read_on
-returns-then-number-ne0 c = simp (not_done c.if-number-ne0.true)
+pub returns-in_err-canvas : goal.returns-in_err-canvas
+returns-in_err-canvas c = refused_read_on c.args.canvas c.args.p c.args.buf.now _ _ c.from_residual.ensures (sym (ap as_number c.in_err-canvas.was))
 
 -- the coordinates, as the code reads them, and whether the rectangle holds them
 module _ (c : After-struct_told-2-1) where
@@ -34,10 +33,10 @@ held c = sym (c.holds.ensures ∙ ap₂ (in_window c.args.canvas.window) (across
 
 -- so the place is in the rectangle, or 8 is answered
 number : (c : After-holds) (t : Bool) → c.holds.result ≡ t
-    → (let a = c.args in cond (not t) 8 0 ≡ behind a.canvas.number ((8, not (in_window a.canvas.window a.p.0 a.p.1)) ∷ []))
+    → (let a = c.args in cond (not t) 8 0 ≡ behind (as_number a.canvas.judged) ((8, not (in_window a.canvas.window a.p.0 a.p.1)) ∷ []))
 number c t e =
     let a = c.args in
-    behind_0 a.canvas.number ((8, not (in_window a.canvas.window a.p.0 a.p.1)) ∷ []) c.if-number-ne0.false (ap (λ (t : Bool). cond (not t) 8 0) (sym (held c ∙ e)))
+    behind_0 (as_number a.canvas.judged) ((8, not (in_window a.canvas.window a.p.0 a.p.1)) ∷ []) (ap as_number c.in_ok-canvas.was) (ap (λ (t : Bool). cond (not t) 8 0) (sym (held c ∙ e)))
 
 pub returns-then-not-holds : goal.returns-then-not-holds
 unfolding read_on

@@ -4,6 +4,7 @@ use mathlib.Core.Bool.{false}
 use native.Mathlib.Omega.{arith}
 use lib.ListN.{length}
 use borrow.Author.Tests.{ne_eqb}
+use Rattle.refusals.specs.declared.Refusal.TheVariants.{BadDepth}
 use Rattle.layout.specs.Packed.{good_depth}
 use Rattle.frames.proofs.Refusals.{no_depth_lem}
 use Rattle.frames.proofs.Calls.{refused_pixel}
@@ -13,8 +14,15 @@ use Rattle.framebuffer.proofs.set_pixel.Goals as goal
 pub returns-in_default : goal.returns-in_default
 returns-in_default c =
     let a = c.args in
-    let n = c.in_default.in_default-own.rest in
-    let bad : good_depth a.frame.depth ≡ false =
-    simp
-    (ne_eqb _ 1 n.0.0.0.0.0.0.1, ne_eqb _ 2 n.0.0.0.0.0.1, ne_eqb _ 4 n.0.0.0.0.1, ne_eqb _ 8 n.0.0.0.1, ne_eqb _ 16 n.0.0.1, ne_eqb _ 24 n.0.1, ne_eqb _ 32 n.1) in
-    refused_pixel a.frame a.p a.colour a.buf.now (no_depth_lem a.frame (length a.buf.now) bad) (λ z. omega arith)
+    let d = a.frame.depth in
+    let bad : good_depth d ≡ false =
+    simp (
+      ne_eqb d 1 (λ e. omega arith),
+      ne_eqb d 2 (λ e. omega arith),
+      ne_eqb d 4 (λ e. omega arith),
+      ne_eqb d 8 (λ e. omega arith),
+      ne_eqb d 16 (λ e. omega arith),
+      ne_eqb d 24 (λ e. omega arith),
+      ne_eqb d 32 (λ e. omega arith),
+    ) in
+    refused_pixel a.frame a.p a.colour a.buf.now BadDepth (no_depth_lem a.frame (length a.buf.now) bad)

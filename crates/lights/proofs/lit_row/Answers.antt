@@ -5,27 +5,33 @@ use native.Mathlib.Omega.{arith}
 use lib.Bits.{bit_and}
 use lib.Count.{ones}
 use lib.ListN.{get_or}
+use Rattle.layout.proofs.Bytes.{Bytes}
 use Rattle.lights.specs.Bits.{lit_bits}
-use Rattle.lights.proofs.Ones.{rest_more, bits_none}
+use Rattle.lights.proofs.Ones.{ones_lit, rest_more}
 use Rattle.lights.proofs.lit_row.Goals as goal
 use Rattle.lights.proofs.lit_row.Goals.{After-ones_of-sum}
 
--- the whole bytes
-counted : (c : After-ones_of-sum) → (let a = c.args in c.ones_of-sum.result ≡ lit_bits (a.n / 8 * 8) a.bytes.now)
-counted c = omega (arith, bits_none c.args.bytes.now, c.ones_of-sum.ensures)
+module _ (c : After-ones_of-sum) where
+  bytes : Bytes c.args.row.now
+  bytes i = (c.type_inv.row i).fits
+
+  -- the whole bytes
+  counted : (let a = c.args in c.ones_of-sum.result ≡ lit_bits (a.n / 8 * 8) a.row.now)
+  counted = c.ones_of-sum.ensures ∙ ones_lit c.args.row.now bytes (c.args.n / 8) (omega arith)
 
 pub returns-then-rest-eq0 : goal.returns-then-rest-eq0
 returns-then-rest-eq0 c =
     let a = c.args in
     let e : a.n / 8 * 8 ≡ a.n = omega arith in
-    counted (goal.at.returns-then-rest-eq0 c).After-ones_of-sum ∙ ap (λ (k : ℕ). lit_bits k a.bytes.now) e
+    counted (goal.at.returns-then-rest-eq0 c).After-ones_of-sum ∙ ap (λ (k : ℕ). lit_bits k a.row.now) e
 
 -- and the rest
-pub returns : goal.returns
-returns c =
+pub returns-else-rest-eq0 : goal.returns-else-rest-eq0
+returns-else-rest-eq0 c =
     let a = c.args in
-    let b = a.bytes.now in
+    let b = a.row.now in
+    let s = (goal.at.returns-else-rest-eq0 c).After-ones_of-sum in
     let e : a.n / 8 * 8 + a.n % 8 ≡ a.n = omega arith in
-    ap (λ (k : ℕ). k + ones (bit_and (get_or b (a.n / 8) 0) (255 - c.bits_from.result))) (counted (goal.at.returns c).After-ones_of-sum)
-    ∙ rest_more b (a.n / 8) (c.shared_slice_known-2-1.given (a.n / 8)).fits (a.n % 8) (omega arith) c.bits_from.ensures
+    ap (λ (k : ℕ). k + ones (bit_and (get_or b (a.n / 8) 0) (255 - c.bits_from.result))) (counted s)
+    ∙ rest_more b (a.n / 8) (bytes s (a.n / 8)) (a.n % 8) (omega arith) c.bits_from.ensures
     ∙ ap (λ (k : ℕ). lit_bits k b) e

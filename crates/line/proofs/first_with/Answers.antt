@@ -21,5 +21,5 @@ overflow_add-result c = let s = c.args in omega (arith, first (goal.at.overflow_
 pub overflow_cast-result : goal.overflow_cast-result
 overflow_cast-result c = let s = c.args in omega (arith, first (goal.at.overflow_cast-result c).After-reach_of, from_wide s.major s.minor s.moved (omega arith) (omega arith))
 
-pub returns : goal.returns
-returns c = first (goal.at.returns c).After-reach_of
+pub returns-else-moved-eq0 : goal.returns-else-moved-eq0
+returns-else-moved-eq0 c = first (goal.at.returns-else-moved-eq0 c).After-reach_of

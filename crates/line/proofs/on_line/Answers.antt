@@ -9,7 +9,7 @@ use Rattle.whole.proofs.Machine.{lt_false, index_is}
 use Rattle.line.specs.Line.{on_line}
 use Rattle.line.proofs.Closed.{on_right, on_below}
 use Rattle.line.proofs.on_line.Goals as goal
-use Rattle.line.proofs.on_line.Goals.{Else-y-lt0}
+use Rattle.line.proofs.on_line.Goals.{Else-y-lt0, then-w-u-via-then-w-u, then-w-u-via-else-w-u+then-h-v}
 
 -- past the two tests neither is negative
 module _ (c : Else-y-lt0) where
@@ -24,7 +24,6 @@ module _ (c : Else-y-lt0) where
   at_naturals = ap₂ (on_line c.args.wide c.args.high) (index_is c.ranges.x right) (index_is c.ranges.y down)
 
 pub returns-then-w-u : goal.returns-then-w-u
-returns-then-w-u c = sym (sym (at_naturals (goal.at.returns-then-w-u c).Else-y-lt0) ∙ on_right _ _ _ _ c.if-w-u.true)
-
-pub returns-then-h-v : goal.returns-then-h-v
-returns-then-h-v c = sym (sym (at_naturals (goal.at.returns-then-h-v c).Else-y-lt0) ∙ on_below _ _ _ _ c.if-h-v.true)
+returns-then-w-u c =
+    let inside = at_naturals (goal.at.returns-then-w-u c).Else-y-lt0 in
+    elim c.then-w-u.branch [ then-w-u-via-then-w-u w ↦ sym (sym inside ∙ on_right _ _ _ _ w.if-w-u.true) | then-w-u-via-else-w-u+then-h-v w ↦ sym (sym inside ∙ on_below _ _ _ _ w.if-h-v.true) ]

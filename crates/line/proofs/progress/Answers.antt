@@ -26,5 +26,5 @@ turned {a} {b} {p} fa fb fp false e =
 pub returns-then-a-b : goal.returns-then-a-b
 returns-then-a-b c = let f = c.ranges in turned f.a f.b f.p true c.if-a-b.true
 
-pub returns : goal.returns
-returns c = let f = c.ranges in turned f.a f.b f.p false c.if-a-b.false
+pub returns-else-a-b : goal.returns-else-a-b
+returns-else-a-b c = let f = c.ranges in turned f.a f.b f.p false c.if-a-b.false

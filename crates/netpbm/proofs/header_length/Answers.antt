@@ -3,7 +3,7 @@ use Prim.Native.Nat.{◌+◌, ◌≤◌}
 use native.Mathlib.Omega.{arith}
 use Rattle.netpbm.proofs.Headers.{short_header, long_header, four_digits}
 use Rattle.netpbm.proofs.header_length.Goals as goal
-use Rattle.netpbm.proofs.header_length.Goals.{After-digit_count-2}
+use Rattle.netpbm.proofs.header_length.Goals.{After-digit_count-2, then-frame-eq1, else-frame-eq1}
 
 -- both together
 few : (c : After-digit_count-2) → c.digit_count-2.result + c.digit_count.result ≤ 8
@@ -20,16 +20,9 @@ overflow_add-result c = omega (arith, few (goal.at.overflow_add-result c).After-
 pub overflow_cast-result : goal.overflow_cast-result
 overflow_cast-result c = omega (arith, few (goal.at.overflow_cast-result c).After-digit_count-2)
 
-pub returns-then-frame-eq1 : goal.returns-then-frame-eq1
-returns-then-frame-eq1 c =
-    omega (arith, short_header c.args.frame c.if-frame-eq1.true, c.digit_count-2.ensures, c.digit_count.ensures)
-
-pub overflow_add-result-2 : goal.overflow_add-result-2
-overflow_add-result-2 c = omega (arith, few (goal.at.overflow_add-result-2 c).After-digit_count-2)
-
-pub overflow_cast-result-2 : goal.overflow_cast-result-2
-overflow_cast-result-2 c = omega (arith, few (goal.at.overflow_cast-result-2 c).After-digit_count-2)
-
 pub returns : goal.returns
 returns c =
-    omega (arith, long_header c.args.frame c.if-frame-eq1.false, c.digit_count-2.ensures, c.digit_count.ensures)
+    elim c.if-frame-eq1.branch [
+      | then-frame-eq1 w ↦ omega (arith, short_header c.args.frame w.if-frame-eq1.true)
+      | else-frame-eq1 w ↦ omega (arith, long_header c.args.frame w.if-frame-eq1.false)
+    ]

@@ -1,56 +1,64 @@
 -- `netpbm::transfer_rows` copies the rows as one run where it may, else has taken the first y rows over after y turns. Assumes nothing.
 use mathlib.Core.Path.{◌≡◌, sym, ap, ◌∙◌}
+use mathlib.Core.List.{List, ◌++◌}
 use Prim.Native.Nat.{ℕ, ◌*◌, ◌≤◌}
 use native.Mathlib.Omega.{arith}
-use lib.ListN.{length}
-use Rattle.frames.specs.declared.Frame.{Frame}
+use lib.ListN.{length, take, drop}
+use lib.Seq.{length-take-le}
 use Rattle.frames.specs.Description.{size}
-use Rattle.frames.proofs.Refusals.{size_fits}
 use Rattle.netpbm.proofs.Formats.{same_size}
-use Rattle.netpbm.proofs.Rows.{Transfer, run_copied, rows, one_row, all_rows}
+use Rattle.netpbm.proofs.Rows.{Transfer, copied_front, run_copied, rows, one_row, all_rows}
 use Rattle.netpbm.proofs.transfer_rows.Goals as goal
-use Rattle.netpbm.proofs.transfer_rows.Goals.{After-slice_known-1, Then-is_run}
+use Rattle.netpbm.proofs.transfer_rows.Goals.{After-is_run, Then-is_run}
 
 -- what is known of both buffers
-transfer : (c : After-slice_known-1) → (let a = c.args in Transfer a.source a.from.now a.target a.to.now)
-transfer c = record { frames = c.requires; from = λ i. (c.shared_slice_known-1.given i).fits; to = λ i. (c.slice_known-1.given i).fits }
+transfer : (c : After-is_run) → (let a = c.args in Transfer a.source a.from.now a.target a.to.now)
+transfer c = record { frames = c.requires; from = λ i. (c.type_inv.from i).fits; to = λ i. (c.type_inv.to i).fits }
 
--- the bytes of a run: few, and within both buffers
-record Run (f : Frame) (m : ℕ) (g : Frame) (n : ℕ) : Type 0 where
-  few : g.distance * g.height ≤ 33554432
-  from : g.distance * g.height ≤ m
-  to : g.distance * g.height ≤ n
+-- the bytes of a run lie within both buffers
+module _ (c : Then-is_run) where
+  abbrev bytes : ℕ
+  bytes = c.args.target.distance * c.args.target.height
 
-run : (c : Then-is_run) → (let a = c.args in Run a.source (length a.from.now) a.target (length a.to.now))
-unfolding size
-run c =
-    let f = c.args.source in
-    let g = c.args.target in
-    let A = c.requires in
-    record {
-      few = size_fits g A.target.accepted.described;
-      from = omega (arith, A.source.room, same_size f g (sym c.is_run.ensures ∙ c.if-is_run.true) A.height);
-      to = A.target.accepted.room;
-    }
+  room : (bytes ≤ length c.args.from.now) × (bytes ≤ length c.args.to.now)
+  unfolding size
+  room =
+      let A = c.requires in
+      (omega (arith, A.source.room, same_size c.args.source c.args.target (sym c.is_run.ensures ∙ c.if-is_run.true) A.height), A.target.accepted.room)
 
-pub copy_run-requires : goal.copy_run-requires
-copy_run-requires c = let r = run (goal.at.copy_run-requires c).Then-is_run in (r.from, r.to)
+  source_long : bytes ≡ length (take bytes c.args.from.now)
+  source_long = sym (length-take-le bytes c.args.from.now room.0)
+
+  target_long : bytes ≡ length (take bytes c.args.to.now)
+  target_long = sym (length-take-le bytes c.args.to.now room.1)
+
+pub slice_bounds-copy_from_slice-end : goal.slice_bounds-copy_from_slice-end
+slice_bounds-copy_from_slice-end c = (room (goal.at.slice_bounds-copy_from_slice-end c).Then-is_run).1
+
+pub slice_bounds-copy_from_slice-end-then-is_run : goal.slice_bounds-copy_from_slice-end-then-is_run
+slice_bounds-copy_from_slice-end-then-is_run c = target_long (goal.at.slice_bounds-copy_from_slice-end-then-is_run c).Then-is_run
+
+pub slice_bounds-copy_from_slice-end-then-is_run-2 : goal.slice_bounds-copy_from_slice-end-then-is_run-2
+slice_bounds-copy_from_slice-end-then-is_run-2 c = source_long (goal.at.slice_bounds-copy_from_slice-end-then-is_run-2 c).Then-is_run
+
+pub copy_from_slice-requires : goal.copy_from_slice-requires
+copy_from_slice-requires c = let s = (goal.at.copy_from_slice-requires c).Then-is_run in sym (target_long s) ∙ source_long s
 
 pub returns-then-is_run : goal.returns-then-is_run
 unfolding size
 returns-then-is_run c =
     let a = c.args in
-    c.copy_run.ensures ∙ run_copied (transfer (goal.at.returns-then-is_run c).After-slice_known-1) a.kept (sym c.is_run.ensures ∙ c.if-is_run.true)
+    let s = (goal.at.returns-then-is_run c).Then-is_run in
+    ap (λ (l : List ℕ). l ++ drop (bytes s) a.to.now) c.copy_from_slice.ensures.after
+    ∙ copied_front (bytes s) a.from.now a.to.now (room s).0 (room s).1
+    ∙ run_copied (transfer (goal.at.returns-then-is_run c).After-is_run) a.kept (sym c.is_run.ensures ∙ c.if-is_run.true)
 
 pub loop-y-preserved : goal.loop-y-preserved
 loop-y-preserved c =
-    let l = c.loop-y in
-    let t = c.transfer_row in
-    (omega arith, t.auto.to ∙ l.invariant.1, t.ensures ∙ one_row (transfer (goal.at.loop-y-preserved c).After-slice_known-1) c.args.kept l.y (omega arith) l.invariant.2)
+    c.transfer_row.ensures ∙ one_row (transfer (goal.at.loop-y-preserved c).After-is_run) c.args.kept c.loop-y.y c.loop-y-test.true c.loop-y.invariant
 
-pub returns : goal.returns
-returns c =
+pub returns-after-loop-y : goal.returns-after-loop-y
+returns-after-loop-y c =
     let a = c.args in
-    let l = c.loop-y in
-    let e : l.y ≡ a.target.height = omega arith in
-    l.invariant.2 ∙ ap (rows a.source a.from.now a.target a.kept a.to.now) e ∙ all_rows (transfer (goal.at.returns c).After-slice_known-1) a.kept
+    let e : c.loop-y.y ≡ a.target.height = omega arith in
+    c.loop-y.invariant ∙ ap (rows a.source a.from.now a.target a.kept a.to.now) e ∙ all_rows (transfer (goal.at.returns-after-loop-y c).After-is_run) a.kept

@@ -14,7 +14,7 @@ use Rattle.netpbm.proofs.Headers.{sides, a_maximum, without_maximum, with_maximu
 use Rattle.netpbm.proofs.write_header.Goals as goal
 use Rattle.netpbm.proofs.write_header.Goals.{After-write_bytes-second, After-write_number-end}
 
--- the whole header, from the byte.before.before.before.before.before.before.before.before.before.before on
+-- the whole header, from the first byte on
 all : (f : Frame) (buf : List ℕ) {s : List ℕ} {r : ℕ} {out : List ℕ} → s ≡ header f → Wrote buf 0 s r out
     → (r ≡ length (header f)) × (out ≡ sets buf 0 (header f))
 all f buf e w = (omega (arith, w.0, ap length e), w.1 ∙ ap (sets buf 0) e)
@@ -56,8 +56,8 @@ write_bytes-requires c =
     let e = c.write_number-end in
     omega (arith, h, l, c.requires, (one (goal.at.write_bytes-requires c).After-write_bytes-second).0, c.write_bytes-second.auto.buf, n.ensures.0, n.auto.buf, e.ensures.0, e.auto.buf)
 
-pub returns : goal.returns
-returns c =
+pub returns-else-frame-eq1 : goal.returns-else-frame-eq1
+returns-else-frame-eq1 c =
     let a = c.args in
     all a.frame a.out.now (with_maximum a.frame c.if-frame-eq1.false)
-    (wrote_then a.out.now 0 (sides a.frame) largest (three (goal.at.returns c).After-write_number-end) c.write_bytes.ensures)
+    (wrote_then a.out.now 0 (sides a.frame) largest (three (goal.at.returns-else-frame-eq1 c).After-write_number-end) c.write_bytes.ensures)

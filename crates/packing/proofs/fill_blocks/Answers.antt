@@ -29,9 +29,9 @@ returns-then-depth-eq24 c =
     let d = c.args.depth in
     c.repeat.ensures ∙ filled (goal.at.returns-then-depth-eq24 c).After-block-bytes 48 (omega arith) (omega arith) (size_is d (omega arith)) (λ j. whole_48 (d / 8) j (omega arith))
 
-pub returns : goal.returns
-returns c =
+pub returns-else-depth-eq24 : goal.returns-else-depth-eq24
+returns-else-depth-eq24 c =
     let d = c.args.depth in
     let w = (large d c.requires.0 (le_of_lt c.requires.1)).3 in
     let m = depth_le d c.requires.0 in
-    c.repeat-2.ensures ∙ filled (goal.at.returns c).After-block-bytes 64 (omega arith) (omega arith) (size_other d (λ e. omega arith)) (λ j. whole_64 (d / 8) j (omega arith) (omega arith) (λ e. omega arith))
+    c.repeat-else-depth-eq24.ensures ∙ filled (goal.at.returns-else-depth-eq24 c).After-block-bytes 64 (omega arith) (omega arith) (size_other d (λ e. omega arith)) (λ j. whole_64 (d / 8) j (omega arith) (omega arith) (λ e. omega arith))

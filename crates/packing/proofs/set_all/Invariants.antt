@@ -1,12 +1,7 @@
--- `packing::set_all` has set the first i bytes after i turns. Assumes nothing.
+-- `packing::set_all` has set the bytes that it passed. Assumes nothing.
 use mathlib.Core.Path.{◌≡◌}
-use Prim.Native.Nat.{◌-◌, ◌≤◌}
-use lib.ListN.{length}
 use Rattle.layout.specs.Digits.{set_run}
 use Rattle.packing.proofs.set_all.Given as goal
 
-abbrev pub invariant-loop-i : goal.invariant-loop-i
-invariant-loop-i l = (l.i ≤ length l.initial.part) × (length l.part ≡ length l.initial.part) × (l.part ≡ set_run 0 l.i (λ j. l.v) l.initial.part)
-
-abbrev pub decreases-loop-i : goal.decreases-loop-i
-decreases-loop-i l = length l.initial.part - l.i
+abbrev pub invariant-loop-byte : goal.invariant-loop-byte
+invariant-loop-byte l = l.part ≡ set_run 0 l.byte-index (λ j. l.v) l.initial.part

@@ -35,12 +35,12 @@ pub fill_part-requires : goal.fill_part-requires
 fill_part-requires c =
     ((ok (goal.at.fill_part-requires c).Start).accepted.described.depth, (ok (goal.at.fill_part-requires c).Start).below, simp (length-take, length-drop) (omega (arith, apart (goal.at.fill_part-requires c).After-byte_of-end, end (goal.at.fill_part-requires c).After-byte_of-end)))
 
-pub returns : goal.returns
-returns c =
+pub returns-else-frame-lt8 : goal.returns-else-frame-lt8
+returns-else-frame-lt8 c =
     let a = c.args in
-    let k : c.byte_of-start.result + (c.byte_of-end.result - c.byte_of-start.result) ≡ c.byte_of-end.result = omega (arith, apart (goal.at.returns c).After-byte_of-end) in
-    let l = end (goal.at.returns c).After-byte_of-end in
-    pixels_are a.frame _ a.colour (ok (goal.at.returns c).Start) c.if-frame-lt8.false a.y a.from a.past a.buf.now _
+    let k : c.byte_of-start.result + (c.byte_of-end.result - c.byte_of-start.result) ≡ c.byte_of-end.result = omega (arith, apart (goal.at.returns-else-frame-lt8 c).After-byte_of-end) in
+    let l = end (goal.at.returns-else-frame-lt8 c).After-byte_of-end in
+    pixels_are a.frame _ a.colour (ok (goal.at.returns-else-frame-lt8 c).Start) c.if-frame-lt8.false a.y a.from a.past a.buf.now _
     c.fill_part.new.part _ _ c.requires.1 (λ i. (c.slice_known-1.given i).fits)
     (le_of_lt c.requires.2) c.requires.3
     c.byte_of-start.ensures (k ∙ c.byte_of-end.ensures) (omega arith) refl c.fill_part.ensures

@@ -62,11 +62,11 @@ returns-then-first-last c =
     a.from (last_column (goal.at.returns-then-first-last c).After-bits_to-tail) (room (goal.at.returns-then-first-last c).After-bits_to-tail a.from _ (omega (arith, in_frame (goal.at.returns-then-first-last c).After-bits_to-tail)) refl) (in_frame (goal.at.returns-then-first-last c).After-bits_to-tail).0 (in_frame (goal.at.returns-then-first-last c).After-bits_to-tail).1 (omega (arith, first_is, last_is_lem, c.if-first-last.true))
     ∙ ap (λ (x : ℕ). painted (raster a.frame) (columns a.y a.from x) a.colour a.buf.now) (in_frame (goal.at.returns-then-first-last c).After-bits_to-tail).2
 
-pub merge_at-requires-2 : goal.merge_at-requires-2
-merge_at-requires-2 c = first_room (goal.at.merge_at-requires-2 c).After-bits_to-tail
+pub merge_at-requires-else-first-last : goal.merge_at-requires-else-first-last
+merge_at-requires-else-first-last c = first_room (goal.at.merge_at-requires-else-first-last c).After-bits_to-tail
 
-pub merge_at-requires-3 : goal.merge_at-requires-3
-merge_at-requires-3 c = omega (arith, last_room (goal.at.merge_at-requires-3 c).After-bits_to-tail, c.merge_at-2.auto.buf)
+pub merge_at-requires-else-first-last-2 : goal.merge_at-requires-else-first-last-2
+merge_at-requires-else-first-last-2 c = omega (arith, last_room (goal.at.merge_at-requires-else-first-last-2 c).After-bits_to-tail, c.merge_at-else-first-last.auto.buf)
 
 -- whole bytes lie from the first byte's end to the last one's start
 module _ (c : Else-first-last) where
@@ -81,33 +81,33 @@ module _ (c : Else-first-last) where
 
 pub slice_bounds-set_all-end : goal.slice_bounds-set_all-end
 slice_bounds-set_all-end c =
-    omega (arith, last_room (goal.at.slice_bounds-set_all-end c).After-bits_to-tail, c.merge_at-2.auto.buf, c.merge_at-3.auto.buf)
+    omega (arith, last_room (goal.at.slice_bounds-set_all-end c).After-bits_to-tail, c.merge_at-else-first-last.auto.buf, c.merge_at-else-first-last-2.auto.buf)
 
-pub returns : goal.returns
-returns c =
+pub returns-else-first-last : goal.returns-else-first-last
+returns-else-first-last c =
     let a = c.args in
     let d = a.frame.depth in
     let first_is = c.byte_of-first.ensures in
     let last_is_lem = c.byte_of-last.ensures in
     let pattern = c.pattern-p.ensures in
-    let start = c.merge_at-2 in
-    let both = c.merge_at-3 in
-    let at = first (goal.at.returns c).After-bits_to-tail + 1 in
-    let k = last (goal.at.returns c).After-bits_to-tail - at in
+    let start = c.merge_at-else-first-last in
+    let both = c.merge_at-else-first-last-2 in
+    let at = first (goal.at.returns-else-first-last c).After-bits_to-tail + 1 in
+    let k = last (goal.at.returns-else-first-last c).After-bits_to-tail - at in
     let part = take k (drop at both.new.buf) in
-    let more = mul-le-mul_right (per d) (order (goal.at.returns c).Else-first-last) in
-    let few = bytes_to a.frame _ a.colour (ok (goal.at.returns c).After-bits_to-tail) c.requires.1 (last_column (goal.at.returns c).After-bits_to-tail) in
-    joined a.frame _ a.colour (ok (goal.at.returns c).After-bits_to-tail) c.requires.1 a.y a.from ((a.from * d / 8 + 1) * per d) (last_column (goal.at.returns c).After-bits_to-tail * d / 8 * per d) (last_column (goal.at.returns c).After-bits_to-tail + 1)
+    let more = mul-le-mul_right (per d) (order (goal.at.returns-else-first-last c).Else-first-last) in
+    let few = bytes_to a.frame _ a.colour (ok (goal.at.returns-else-first-last c).After-bits_to-tail) c.requires.1 (last_column (goal.at.returns-else-first-last c).After-bits_to-tail) in
+    joined a.frame _ a.colour (ok (goal.at.returns-else-first-last c).After-bits_to-tail) c.requires.1 a.y a.from ((a.from * d / 8 + 1) * per d) (last_column (goal.at.returns-else-first-last c).After-bits_to-tail * d / 8 * per d) (last_column (goal.at.returns-else-first-last c).After-bits_to-tail + 1)
     a.buf.now start.new.buf both.new.buf _
-    (head_after a.frame _ a.colour (ok (goal.at.returns c).After-bits_to-tail) c.requires.1 a.from) more (omega arith)
+    (head_after a.frame _ a.colour (ok (goal.at.returns-else-first-last c).After-bits_to-tail) c.requires.1 a.from) more (omega arith)
     (start.ensures ∙ (λ i. merged_at (first_is i) (pattern i) (c.bits_from-head.ensures i) a.buf.now)
-    ∙ head_is a.frame _ a.colour (ok (goal.at.returns c).After-bits_to-tail) c.requires.1 a.y a.buf.now c.requires.2 (λ i. (c.slice_known-1.given i).fits)
-    a.from (room (goal.at.returns c).After-bits_to-tail a.from _ (omega (arith, in_frame (goal.at.returns c).After-bits_to-tail)) refl) (omega (arith, in_frame (goal.at.returns c).After-bits_to-tail)))
+    ∙ head_is a.frame _ a.colour (ok (goal.at.returns-else-first-last c).After-bits_to-tail) c.requires.1 a.y a.buf.now c.requires.2 (λ i. (c.slice_known-1.given i).fits)
+    a.from (room (goal.at.returns-else-first-last c).After-bits_to-tail a.from _ (omega (arith, in_frame (goal.at.returns-else-first-last c).After-bits_to-tail)) refl) (omega (arith, in_frame (goal.at.returns-else-first-last c).After-bits_to-tail)))
     (both.ensures ∙ (λ i. merged_at (last_is_lem i) (pattern i) (c.bits_to-tail.ensures i) start.new.buf)
-    ∙ tail_is a.frame _ a.colour (ok (goal.at.returns c).After-bits_to-tail) c.requires.1 a.y start.new.buf c.requires.2 (λ i. (c.slice_known-2-1.given i).fits)
-    (last_column (goal.at.returns c).After-bits_to-tail) (omega (arith, room (goal.at.returns c).After-bits_to-tail (last_column (goal.at.returns c).After-bits_to-tail) _ (in_frame (goal.at.returns c).After-bits_to-tail).1 refl, start.auto.buf)) (in_frame (goal.at.returns c).After-bits_to-tail).1)
-    (whole_is a.frame _ a.colour (ok (goal.at.returns c).After-bits_to-tail) c.requires.1 a.y both.new.buf c.requires.2 (λ i. (c.slice_known-3-1.given i).fits)
-    (a.from * d / 8 + 1) (last_column (goal.at.returns c).After-bits_to-tail * d / 8) part c.set_all.new.part at k (order (goal.at.returns c).Else-first-last) (omega (arith, in_frame (goal.at.returns c).After-bits_to-tail)) (omega (arith, first_is))
-    (omega (arith, last_is_lem, apart (goal.at.returns c).Else-first-last)) (omega (arith, last_room (goal.at.returns c).After-bits_to-tail, apart (goal.at.returns c).Else-first-last, start.auto.buf, both.auto.buf)) refl
+    ∙ tail_is a.frame _ a.colour (ok (goal.at.returns-else-first-last c).After-bits_to-tail) c.requires.1 a.y start.new.buf c.requires.2 (λ i. (c.slice_known-else-first-last-1.given i).fits)
+    (last_column (goal.at.returns-else-first-last c).After-bits_to-tail) (omega (arith, room (goal.at.returns-else-first-last c).After-bits_to-tail (last_column (goal.at.returns-else-first-last c).After-bits_to-tail) _ (in_frame (goal.at.returns-else-first-last c).After-bits_to-tail).1 refl, start.auto.buf)) (in_frame (goal.at.returns-else-first-last c).After-bits_to-tail).1)
+    (whole_is a.frame _ a.colour (ok (goal.at.returns-else-first-last c).After-bits_to-tail) c.requires.1 a.y both.new.buf c.requires.2 (λ i. (c.slice_known-else-first-last-2-1.given i).fits)
+    (a.from * d / 8 + 1) (last_column (goal.at.returns-else-first-last c).After-bits_to-tail * d / 8) part c.set_all.new.part at k (order (goal.at.returns-else-first-last c).Else-first-last) (omega (arith, in_frame (goal.at.returns-else-first-last c).After-bits_to-tail)) (omega (arith, first_is))
+    (omega (arith, last_is_lem, apart (goal.at.returns-else-first-last c).Else-first-last)) (omega (arith, last_room (goal.at.returns-else-first-last c).After-bits_to-tail, apart (goal.at.returns-else-first-last c).Else-first-last, start.auto.buf, both.auto.buf)) refl
     (c.set_all.ensures ∙ ap (λ (v : ℕ). set_run 0 (length part) (λ j. v) part) pattern))
-    ∙ ap (λ (x : ℕ). painted (raster a.frame) (columns a.y a.from x) a.colour a.buf.now) (in_frame (goal.at.returns c).After-bits_to-tail).2
+    ∙ ap (λ (x : ℕ). painted (raster a.frame) (columns a.y a.from x) a.colour a.buf.now) (in_frame (goal.at.returns-else-first-last c).After-bits_to-tail).2

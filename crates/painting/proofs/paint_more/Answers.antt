@@ -6,7 +6,6 @@ use Prim.Native.Nat.{ℕ, ◌+◌, ◌-◌, ◌≤◌, ◌<◌}
 use native.Mathlib.Omega.{arith}
 use lib.IntN.{ℤ, pos, nat_abs}
 use mir.Facts.{to_z-of_z}
-use borrow.Author.Tests.{not-true, not-false}
 use Rattle.whole.specs.Interval.{between}
 use Rattle.layout.specs.Layout.{painted}
 use Rattle.layout.proofs.Placing.{Placing}
@@ -16,7 +15,7 @@ use Rattle.frames.specs.Judged.{Described}
 use Rattle.painting.specs.Brush.{ground, on_top}
 use Rattle.frames.proofs.Refusals.{sound}
 use Rattle.windows.proofs.Windows.{between_pos, in_between}
-use Rattle.windows.proofs.Clips.{row_off, span_left, span_gone}
+use Rattle.windows.proofs.Clips.{clip_bounds, row_off, span_left, span_gone}
 use Rattle.painting.proofs.paint_more.Goals as goal
 use Rattle.painting.proofs.paint_more.Goals.{After-clip-from, After-clip-past, After-is_between, Else-not-is_between, Start}
 
@@ -41,10 +40,10 @@ pub returns-then-not-is_between : goal.returns-then-not-is_between
 returns-then-not-is_between c =
     let a = c.args in
     on_top_lem a.before (omega arith)
-    (row_off (ground a.brush) (at (goal.at.returns-then-not-is_between c).Start) a.brush.colour a.buf.now a.brush.window a.y a.start a.end c.requires.0.within (row (goal.at.returns-then-not-is_between c).After-is_between ∙ not-true _ c.if-not-is_between.true-raw))
+    (row_off (ground a.brush) (at (goal.at.returns-then-not-is_between c).Start) a.brush.colour a.buf.now a.brush.window a.y a.start a.end c.requires.0.within (row (goal.at.returns-then-not-is_between c).After-is_between ∙ c.if-not-is_between.true))
 
 inner : (c : Else-not-is_between) → (let a = c.args in between (pos a.brush.window.top) (pos a.brush.window.bottom) a.y ≡ true)
-inner c = row (goal.at.Else-not-is_between c).After-is_between ∙ not-false _ c.if-not-is_between.false-raw
+inner c = row (goal.at.Else-not-is_between c).After-is_between ∙ c.if-not-is_between.false
 
 -- the columns that are left
 from : (c : After-clip-from) → (let a = c.args in c.clip-from.result ≡ clipped a.start a.brush.window.left a.brush.window.right)
@@ -75,6 +74,19 @@ below c =
     let l =
     (in_between (nat_abs a.y) q.top q.bottom (ap (λ (z : ℤ). between (pos q.top) (pos q.bottom) z) (sym (between_pos a.y q.top q.bottom i)) ∙ i)).1
     in omega arith
+
+pub paint_columns-requires : goal.paint_columns-requires
+paint_columns-requires c =
+    let a = c.args in
+    let q = a.brush.window in
+    let w = c.requires.0.within in
+    let most : clipped a.end q.left q.right ≤ q.right = (clip_bounds a.end q.left q.right w.across).1 in
+    let p = past (goal.at.paint_columns-requires c).After-clip-past in (
+      c.requires.0.drawable,
+      subst (λ (z : ℤ). nat_abs z < a.brush.frame.height) (sym (to_z-of_z c.ranges.y)) (below (goal.at.paint_columns-requires c).Else-not-is_between),
+      c.if-past-from.false,
+      (let r = w.right in omega arith),
+    )
 
 pub returns : goal.returns
 returns c =

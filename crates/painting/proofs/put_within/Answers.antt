@@ -2,7 +2,6 @@
 use mathlib.Core.Path.{◌≡◌, sym, ap₂, ◌∙◌}
 use mir.Syntax.{w32}
 use mir.Val.{to_z, of_z}
-use borrow.Author.Tests.{not-true}
 use Rattle.whole.proofs.Machine.{field_back}
 use Rattle.frames.specs.Description.{raster}
 use Rattle.windows.specs.Window.{in_window}
@@ -29,5 +28,5 @@ held c = let a = c.args in sym (c.holds.ensures ∙ ap₂ (in_window a.window) (
 pub returns-then-not-holds : goal.returns-then-not-holds
 returns-then-not-holds c =
     let a = c.args in
-    let off = held (goal.at.returns-then-not-holds c).After-holds ∙ not-true _ c.if-not-holds.true-raw in
+    let off = held (goal.at.returns-then-not-holds c).After-holds ∙ c.if-not-holds.true in
     (sym off, point_off a.window a.p.0 a.p.1 (raster a.frame) (sound a.frame (ok (goal.at.returns-then-not-holds c).Start)) a.colour a.buf.now off)

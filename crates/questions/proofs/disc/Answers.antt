@@ -1,12 +1,23 @@
 -- `questions::disc` hands on what the library answers, where the line ends behind the last number. Assumes nothing.
+use mathlib.Core.Path.{ap}
+use Rattle.std.specs.Prelude.{Some}
+use Rattle.readers.proofs.Readings.{first_fails, second_fails, two_go_on, two_said}
 use Rattle.questions.specs.Ask.{disc_reply}
 use Rattle.questions.proofs.Questions.{questions}
 use Rattle.questions.proofs.disc.Goals as goal
 
-pub returns-then-not-ends_at : goal.returns-then-not-ends_at
+pub returns-in_err-topleft : goal.returns-in_err-topleft
 unfolding disc_reply
-returns-then-not-ends_at c = search questions
+returns-in_err-topleft c = first_fails _ _ _ _ c.from_residual.ensures c.in_err-topleft.ensures
+
+pub returns-in_err-p : goal.returns-in_err-p
+unfolding disc_reply
+returns-in_err-p c = second_fails _ _ _ _ c.from_residual-in_err-p.ensures c.in_ok-topleft.ensures c.in_err-p.ensures
+
+pub returns-in_err-line_end : goal.returns-in_err-line_end
+unfolding disc_reply
+returns-in_err-line_end c = two_go_on _ _ _ _ c.from_residual-in_err-line_end.ensures c.in_ok-topleft.ensures c.in_ok-p.ensures c.in_err-line_end.ensures
 
 pub returns : goal.returns
 unfolding disc_reply
-returns c = search questions
+returns c = two_said _ _ _ _ c.in_ok-topleft.ensures c.in_ok-p.ensures c.in_ok-line_end.ensures (ap Some (search questions))

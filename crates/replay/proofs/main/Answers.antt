@@ -19,8 +19,8 @@ slice_bounds-run-end-3 c = sym counted
 pub slice_bounds-run-end-4 : goal.slice_bounds-run-end-4
 slice_bounds-run-end-4 c = sym counted
 
-pub run-st-requires : goal.run-st-requires
-run-st-requires c = (counted, counted, counted, counted)
+pub run-requires : goal.run-requires
+run-requires c = (counted, counted, counted, counted)
 
 pub returns : goal.returns
 returns c = tt

@@ -1,12 +1,15 @@
 -- `screens::lit` hands on what the library answers, where the line is its word alone. Assumes nothing.
+use mathlib.Core.Path.{ap}
+use Rattle.std.specs.Prelude.{Some}
+use Rattle.readers.proofs.Readings.{unanswered, answered}
 use Rattle.screens.specs.Screen.{lit_reply}
-use Rattle.screens.proofs.Turns.{turns}
+use Rattle.screens.proofs.Turns.{lit_said_lem}
 use Rattle.screens.proofs.lit.Goals as goal
 
-pub returns-then-not-ends_at : goal.returns-then-not-ends_at
+pub returns-in_err-line_end : goal.returns-in_err-line_end
 unfolding lit_reply
-returns-then-not-ends_at c = search turns
+returns-in_err-line_end c = unanswered _ _ c.from_residual.ensures c.in_err-line_end.ensures
 
 pub returns : goal.returns
 unfolding lit_reply
-returns c = search turns
+returns c = answered _ _ c.in_ok-line_end.ensures (ap Some (lit_said_lem _ c.into.ensures c.lit.ensures))

@@ -12,7 +12,7 @@ use Rattle.session.specs.Lines.{Left, turn_done, line_answer, answer, Session}
 use Rattle.files.specs.Files.{act}
 use Rattle.session.proofs.Answers.{answer_long, answer_short, is_answered}
 use Rattle.session.proofs.answer_line.Goals as goal
-use Rattle.session.proofs.answer_line.Goals.{After-find-end, In_default, Start}
+use Rattle.session.proofs.answer_line.Goals.{After-find-end, Else-is_word-2, Start}
 
 -- what is answered, and what of
 module _ (c : Start) where
@@ -40,8 +40,8 @@ module _ (c : After-find-end) where
   short q = answer_short (said (goal.at.After-find-end c).Start) (kept (goal.at.After-find-end c).Start) fits c.find-end.ensures q
 
 -- a word that shows no bytes
-other_word : (c : In_default) → (answer_of (goal.at.In_default c).After-find-end (turn_done (act (take c.find-end.result (said (goal.at.In_default c).Start)) (said (goal.at.In_default c).Start) (c.find-end.result + 1) (kept (goal.at.In_default c).Start).0 (kept (goal.at.In_default c).Start).1)))
-other_word c = search choices
+other_word : (c : Else-is_word-2) → (answer_of (goal.at.Else-is_word-2 c).After-find-end (turn_done (act (take c.find-end.result (said (goal.at.Else-is_word-2 c).Start)) (said (goal.at.Else-is_word-2 c).Start) (c.find-end.result + 1) (kept (goal.at.Else-is_word-2 c).Start).0 (kept (goal.at.Else-is_word-2 c).Start).1)))
+other_word c = search choices depth 8 fits 20000
 
 pub returns-then-said-gt128 : goal.returns-then-said-gt128
 returns-then-said-gt128 c =
@@ -55,26 +55,26 @@ slice_bounds-word-end c =
 pub overflow_add-end : goal.overflow_add-end
 overflow_add-end c = omega (arith, place (goal.at.overflow_add-end c).After-find-end)
 
-pub overflow_add-end-in-1 : goal.overflow_add-end-in-1
-overflow_add-end-in-1 c = omega (arith, place (goal.at.overflow_add-end-in-1 c).After-find-end)
+pub overflow_add-end-then-is_word-2 : goal.overflow_add-end-then-is_word-2
+overflow_add-end-then-is_word-2 c = omega (arith, place (goal.at.overflow_add-end-then-is_word-2 c).After-find-end)
 
-pub overflow_add-end-in_default : goal.overflow_add-end-in_default
-overflow_add-end-in_default c = omega (arith, place (goal.at.overflow_add-end-in_default c).After-find-end)
+pub overflow_add-end-2 : goal.overflow_add-end-2
+overflow_add-end-2 c = omega (arith, place (goal.at.overflow_add-end-2 c).After-find-end)
 
-pub returns-in-0 : goal.returns-in-0
-returns-in-0 c =
+pub returns-then-is_word : goal.returns-then-is_word
+returns-then-is_word c =
     let d = c.dump-filled.ensures in
-    let m : answer_of (goal.at.returns-in-0 c).After-find-end (dump_line (said (goal.at.returns-in-0 c).Start) (c.find-end.result + 1) (kept (goal.at.returns-in-0 c).Start).1.0, kept (goal.at.returns-in-0 c).Start) = search choices in
-    (is_answered (session (goal.at.returns-in-0 c).Start) (said (goal.at.returns-in-0 c).Start) (short (goal.at.returns-in-0 c).After-find-end m) (d.0, d.1), d.2)
+    let m : answer_of (goal.at.returns-then-is_word c).After-find-end (dump_line (said (goal.at.returns-then-is_word c).Start) (c.find-end.result + 1) (kept (goal.at.returns-then-is_word c).Start).1.0, kept (goal.at.returns-then-is_word c).Start) = search choices depth 8 fits 20000 in
+    (is_answered (session (goal.at.returns-then-is_word c).Start) (said (goal.at.returns-then-is_word c).Start) (short (goal.at.returns-then-is_word c).After-find-end m) (d.0, d.1), d.2)
 
-pub returns-in-1 : goal.returns-in-1
-returns-in-1 c =
-    let d = c.dump-filled-in-1.ensures in
-    let m : answer_of (goal.at.returns-in-1 c).After-find-end (dump_line (said (goal.at.returns-in-1 c).Start) (c.find-end.result + 1) (kept (goal.at.returns-in-1 c).Start).1.1, kept (goal.at.returns-in-1 c).Start) = search choices in
-    (is_answered (session (goal.at.returns-in-1 c).Start) (said (goal.at.returns-in-1 c).Start) (short (goal.at.returns-in-1 c).After-find-end m) (d.0, d.1), d.2)
+pub returns-then-is_word-2 : goal.returns-then-is_word-2
+returns-then-is_word-2 c =
+    let d = c.dump-filled-then-is_word-2.ensures in
+    let m : answer_of (goal.at.returns-then-is_word-2 c).After-find-end (dump_line (said (goal.at.returns-then-is_word-2 c).Start) (c.find-end.result + 1) (kept (goal.at.returns-then-is_word-2 c).Start).1.1, kept (goal.at.returns-then-is_word-2 c).Start) = search choices depth 8 fits 20000 in
+    (is_answered (session (goal.at.returns-then-is_word-2 c).Start) (said (goal.at.returns-then-is_word-2 c).Start) (short (goal.at.returns-then-is_word-2 c).After-find-end m) (d.0, d.1), d.2)
 
-pub returns-in_default : goal.returns-in_default
-returns-in_default c =
+pub returns-else-is_word-2 : goal.returns-else-is_word-2
+returns-else-is_word-2 c =
     let w = c.write_reply-filled.ensures in
-    let done = ap turn_done c.take_turn-turn.ensures ∙ other_word (goal.at.returns-in_default c).In_default in
-    (is_answered (session (goal.at.returns-in_default c).Start) (said (goal.at.returns-in_default c).Start) (short (goal.at.returns-in_default c).After-find-end done) (w.0, w.1), omega (arith, w.2))
+    let done = ap turn_done c.take_turn-turn.ensures ∙ other_word (goal.at.returns-else-is_word-2 c).Else-is_word-2 in
+    (is_answered (session (goal.at.returns-else-is_word-2 c).Start) (said (goal.at.returns-else-is_word-2 c).Start) (short (goal.at.returns-else-is_word-2 c).After-find-end done) (w.0, w.1), omega (arith, w.2))

@@ -1,5 +1,5 @@
 -- `session::answer_lines` answers a line a turn; what is still to be handled is at each turn what was at the start. Assumes nothing.
-use mathlib.Core.Path.{◌≡◌, refl, sym, ap, ap₂, subst, ◌∙◌}
+use mathlib.Core.Path.{◌≡◌, sym, ap, ap₂, subst, ◌∙◌}
 use mathlib.Core.Bool.{true}
 use Prim.Native.Nat.{ℕ, ◌+◌, ◌≤◌, ◌<◌}
 use native.Mathlib.Omega.{arith}
@@ -11,7 +11,7 @@ use Rattle.session.proofs.Lent.{answer_lent}
 use Rattle.text.specs.Lines.{line_end, line_at, handled}
 use Rattle.text.proofs.Streaming.{handled_turn, handled_none, handled_full, line_is}
 use Rattle.session.proofs.answer_lines.Goals as goal
-use Rattle.session.proofs.answer_lines.Goals.{At-loop-current, Else-end-input, Else-not-has_room}
+use Rattle.session.proofs.answer_lines.Goals.{At-loop-current, Else-end-input, Else-not-has_room, then-end-input-via-then-end-input, then-end-input-via-else-end-input+then-not-has_room}
 
 -- where the program stands at the head of a turn
 abbrev standing : At-loop-current → Session
@@ -27,66 +27,20 @@ ended c =
 has : (c : Else-not-has_room) → room (standing (goal.at.Else-not-has_room c).At-loop-current) ≡ true
 has c = sym c.has_room.ensures ∙ not-false _ c.if-not-has_room.false-raw
 
-pub loop-current-init : goal.loop-current-init
-loop-current-init c =
-    let p = c.requires in
-    record { inside = p.0; out_size = refl; memory_size = refl; file_size = p.3; lent = p.1; filled = p.4; rest = refl }
-
-pub part_end-end-requires : goal.part_end-end-requires
-part_end-end-requires c = c.loop-current.invariant.inside
-
-pub shape_of-memory-then-end-input : goal.shape_of-memory-then-end-input
-shape_of-memory-then-end-input c = c.loop-current.invariant.memory_size
-
-pub shape_of-file-then-end-input : goal.shape_of-file-then-end-input
-shape_of-file-then-end-input c = c.loop-current.invariant.file_size ∙ sym c.requires.3
-
-pub shape_of-out-then-end-input : goal.shape_of-out-then-end-input
-shape_of-out-then-end-input c = c.loop-current.invariant.out_size
-
 pub returns-then-end-input : goal.returns-then-end-input
 returns-then-end-input c =
     let l = c.loop-current in
     let s = c.args.input.now in
-    let none = handled_none answered room s (length s) l.next (standing (goal.at.returns-then-end-input c).At-loop-current) (omega (arith, c.if-end-input.true, c.part_end-end.ensures)) in
-    (sym none ∙ l.invariant.rest, l.invariant.filled)
-
-pub shape_of-memory-then-not-has_room : goal.shape_of-memory-then-not-has_room
-shape_of-memory-then-not-has_room c = c.loop-current.invariant.memory_size
-
-pub shape_of-file-then-not-has_room : goal.shape_of-file-then-not-has_room
-shape_of-file-then-not-has_room c = c.loop-current.invariant.file_size ∙ sym c.requires.3
-
-pub shape_of-out-then-not-has_room : goal.shape_of-out-then-not-has_room
-shape_of-out-then-not-has_room c = c.loop-current.invariant.out_size
-
-pub returns-then-not-has_room : goal.returns-then-not-has_room
-returns-then-not-has_room c =
-    let l = c.loop-current in
-    let s = c.args.input.now in
-    let full = handled_full answered room s (length s) l.next (standing (goal.at.returns-then-not-has_room c).At-loop-current) (sym c.has_room.ensures ∙ not-true _ c.if-not-has_room.true-raw) in
-    (sym full ∙ l.invariant.rest, l.invariant.filled)
-
-pub slice_bounds-answer_line-count : goal.slice_bounds-answer_line-count
-slice_bounds-answer_line-count c = omega (arith, c.part_end-end.ensures)
-
-pub slice_bounds-answer_line-start : goal.slice_bounds-answer_line-start
-slice_bounds-answer_line-start c = omega (arith, c.part_end-end.ensures)
+    let o = standing (goal.at.returns-then-end-input c).At-loop-current in
+    elim c.then-end-input.branch [
+      | then-end-input-via-then-end-input w ↦
+          (sym (handled_none answered room s (length s) l.next o (omega (arith, w.if-end-input.true, c.part_end-end.ensures))) ∙ l.invariant.rest, l.invariant.filled)
+      | then-end-input-via-else-end-input+then-not-has_room w ↦
+          (sym (handled_full answered room s (length s) l.next o (sym w.has_room.ensures ∙ not-true _ w.if-not-has_room.true-raw)) ∙ l.invariant.rest, l.invariant.filled)
+    ]
 
 pub slice_bounds-answer_line-end : goal.slice_bounds-answer_line-end
 slice_bounds-answer_line-end c = omega (arith, ended (goal.at.slice_bounds-answer_line-end c).Else-end-input)
-
-pub answer_line-done-requires : goal.answer_line-done-requires
-answer_line-done-requires c =
-    let i = c.loop-current.invariant in
-    (omega (arith, i.lent, i.memory_size, c.requires.2), i.file_size, leb-true _ _ (has (goal.at.answer_line-done-requires c).Else-not-has_room))
-
-pub overflow_add-next : goal.overflow_add-next
-overflow_add-next c = omega (arith, ended (goal.at.overflow_add-next c).Else-end-input)
-
-pub loop-current-smaller : goal.loop-current-smaller
-loop-current-smaller c =
-    omega (arith, ended (goal.at.loop-current-smaller c).Else-end-input, c.part_end-end.ensures)
 
 pub loop-current-preserved : goal.loop-current-preserved
 loop-current-preserved c =

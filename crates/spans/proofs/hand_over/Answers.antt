@@ -3,5 +3,5 @@ use native.Mathlib.Omega.{arith}
 use Rattle.reports.proofs.Within.{report_short}
 use Rattle.spans.proofs.hand_over.Goals as goal
 
-pub overflow_add-told : goal.overflow_add-told
-overflow_add-told c = omega (arith, c.requires.within, report_short c.args.v)
+pub overflow_add-result : goal.overflow_add-result
+overflow_add-result c = omega (arith, c.requires.within, report_short c.args.v)

@@ -5,7 +5,7 @@ use Rattle.reports.proofs.Parts.{Handed}
 use Rattle.spans.proofs.list.Given as goal
 
 abbrev pub invariant-loop-part : goal.invariant-loop-part
-invariant-loop-part l = (length l.out ≡ 65536) × Handed l.v l.part l.reached.told
+invariant-loop-part l = (length l.out ≡ 65536) × Handed l.v l.part l.told
 
 abbrev pub decreases-loop-part : goal.decreases-loop-part
 decreases-loop-part l = l.part.left

@@ -4,5 +4,5 @@ use native.Mathlib.Omega.{arith}
 use lib.Seq.{length-take-le}
 use Rattle.spans.proofs.main.Goals as goal
 
-pub slice_bounds-first_vertices-end : goal.slice_bounds-first_vertices-end
-slice_bounds-first_vertices-end c = sym (length-take-le _ _ (omega (arith, c.read_line-st.ensures.0.most)))
+pub slice_bounds-first_corners-end : goal.slice_bounds-first_corners-end
+slice_bounds-first_corners-end c = sym (length-take-le _ _ (omega (arith, c.read_line-st.ensures.0.most)))

@@ -4,8 +4,8 @@ use lib.ListN.{length}
 use Rattle.streams.specs.State.{Within}
 use Rattle.spans.proofs.read_line.Given as goal
 
-abbrev pub invariant-loop-st : goal.invariant-loop-st
-invariant-loop-st l = Within l.st × (length l.input ≡ 65536)
+abbrev pub invariant-loop-input : goal.invariant-loop-input
+invariant-loop-input l = Within l.st × (length l.input ≡ 65536)
 
-abbrev pub decreases-loop-st : goal.decreases-loop-st
-decreases-loop-st l = l.st.turns
+abbrev pub decreases-loop-input : goal.decreases-loop-input
+decreases-loop-input l = l.st.turns

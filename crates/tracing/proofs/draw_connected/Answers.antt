@@ -1,118 +1,99 @@
 -- `tracing::draw_connected` sets the points that the walker hands out, one a turn: before index i those of the indices below i are set, and those inside are counted.
 -- The points that are left out are outside the rectangle. No two are the same. Assumes nothing.
 use mathlib.Core.Path.{◌≡◌, sym, ap, subst, ◌∙◌}
-use mathlib.Core.Bool.{Bool, cond}
-use Prim.Native.Nat.{ℕ, ◌≤◌}
+use mathlib.Core.Bool.{Bool, false, cond}
+use mathlib.Core.List.{List}
+use Prim.Native.Nat.{ℕ, ◌-◌, ◌≤◌, ◌<◌}
 use native.Mathlib.Omega.{arith}
+use borrow.Author.Rules.{rules}
+use lib.ListN.{length}
 use borrow.Author.Tests.{le-ltb}
 use Rattle.geometry.specs.declared.Point.{Point}
 use Rattle.line.specs.Line.{major}
 use Rattle.connected.specs.Connected.{index_of, last_index, connected_points, points_before, connected_at}
 use Rattle.connected.specs.Walk.{NextAt}
-use Rattle.connected.proofs.Indices.{index_last, index_more, before_most}
+use Rattle.connected.proofs.Indices.{before_most}
 use Rattle.connected.proofs.Members.{distinct}
-use Rattle.windows.specs.declared.Steps.{Steps}
+use Rattle.std.specs.declared.ops.Range.{Range}
+use Rattle.windows.specs.declared.Window.{Window}
+use Rattle.painting.specs.declared.Brush.{Brush}
+use Rattle.painting.specs.Brush.{Ready, brushed}
+use Rattle.windows.specs.Window.{in_window}
 use Rattle.clips.specs.Steps.{LineSteps}
-use Rattle.tracing.proofs.Figures.{connected_walked, inside_adds, inside_one, Along, along_start, along_turn, along_skip, none, along_all}
 use Rattle.clips.proofs.Steps.{connected_before, connected_after, connected_none}
+use Rattle.tracing.specs.Figure.{connected_figure}
+use Rattle.tracing.proofs.Figures.{connected_walked, inside_adds, inside_one, Along, along_start, along_turn, along_skip, none, along_all}
 use Rattle.tracing.proofs.draw_connected.Goals as goal
-use Rattle.tracing.proofs.draw_connected.Goals.{After-line_steps-steps, After-one_before-first, After-points_before-i, At-loop-i}
 
--- the steps beside which points are set
-module _ (c : After-line_steps-steps) where
-  abbrev s : Point
-  s = c.args.start
+-- t are the steps beside which points are set, and the walk begins one step before them
+module _ {q : Window} {s e : Point} {t : Range ℕ} (L : LineSteps q s e t) {before first : ℕ} (some : t.start < t.end) (b_is : before ≡ t.start - 1) (f_is : first ≡ points_before s e before) where
+  first_walked : before ≤ major s e
+  first_walked = omega (arith, L.held.most)
 
-  abbrev e : Point
-  e = c.args.end
+  first_index : first ≡ index_of s e before
+  first_index = f_is ∙ ap (λ (t : Bool). cond t (connected_points s e) (index_of s e before)) (le-ltb (major s e) before first_walked)
 
-  abbrev steps : Steps
-  steps = c.line_steps-steps.result
+  few_before : first ≤ connected_points s e
+  few_before = omega (arith, f_is, before_most s e before)
 
-  clipped : LineSteps c.args.brush.window s e steps
-  clipped = c.line_steps-steps.ensures
+  -- the points before it are outside
+  out_before : (j : ℕ) → j ≤ last_index s e → j < first → in_window q (connected_at s e j).0 (connected_at s e j).1 ≡ false
+  out_before j h l = connected_before L j h (omega (arith, L.held.most)) (omega (arith, first_index, ap (index_of s e) b_is))
 
-  begun : Along c.args.brush none (connected_at s e) c.args.buf.now 0 0 c.args.buf.now
-  begun = along_start c.requires.0 none (connected_at s e) c.args.buf.now
+module _ {q : Brush} {s e : Point} {t : Range ℕ} {b : List ℕ} (ready : Ready q (length b)) (L : LineSteps q.window s e t) where
+  begun : (i : ℕ) → i ≤ connected_points s e → ((j : ℕ) → j ≤ last_index s e → j < i → in_window q.window (connected_at s e j).0 (connected_at s e j).1 ≡ false)
+      → Along q none (connected_at s e) b i 0 b
+  begun i few out = along_skip ready none (connected_at s e) b (along_start ready none (connected_at s e) b) i (omega arith) (λ j h l. out j (omega arith) l)
 
-pub returns-then-steps : goal.returns-then-steps
-returns-then-steps c =
-    let a = c.args in
-    along_all c.requires.0 (connected_at (s (goal.at.returns-then-steps c).After-line_steps-steps) (e (goal.at.returns-then-steps c).After-line_steps-steps)) a.buf.now
-    (along_skip c.requires.0 none (connected_at (s (goal.at.returns-then-steps c).After-line_steps-steps) (e (goal.at.returns-then-steps c).After-line_steps-steps)) a.buf.now (begun (goal.at.returns-then-steps c).After-line_steps-steps) (connected_points (s (goal.at.returns-then-steps c).After-line_steps-steps) (e (goal.at.returns-then-steps c).After-line_steps-steps)) (omega arith)
-    (λ i h few. connected_none (clipped (goal.at.returns-then-steps c).After-line_steps-steps) c.if-steps.true i (omega arith)))
-    (connected_walked (s (goal.at.returns-then-steps c).After-line_steps-steps) (e (goal.at.returns-then-steps c).After-line_steps-steps))
+  nothing : t.end ≤ t.start → (0, b) ≡ brushed q (connected_figure s e) b
+  nothing off = along_all ready (connected_at s e) b (begun (connected_points s e) (omega arith) (λ j h l. connected_none L off j h)) (connected_walked s e)
 
--- the step that the walk starts at
-module _ (c : After-one_before-first) where
-  some : (steps (goal.at.After-one_before-first c).After-line_steps-steps).from ≤ major (s (goal.at.After-one_before-first c).After-line_steps-steps) (e (goal.at.After-one_before-first c).After-line_steps-steps)
-  some = omega (arith, (clipped (goal.at.After-one_before-first c).After-line_steps-steps).held.most, c.if-steps.false)
+  ended : {i seen : ℕ} {now : List ℕ} → points_before s e t.end ≤ i → i ≤ connected_points s e → Along q none (connected_at s e) b i seen now
+      → (seen, now) ≡ brushed q (connected_figure s e) b
+  ended past few a =
+      along_all ready (connected_at s e) b
+      (along_skip ready none (connected_at s e) b a (connected_points s e) few (λ j h l. connected_after L j (omega arith) (omega arith)))
+      (connected_walked s e)
 
-  first_walked : c.one_before-first.result ≤ major (s (goal.at.After-one_before-first c).After-line_steps-steps) (e (goal.at.After-one_before-first c).After-line_steps-steps)
-  first_walked = omega (arith, some, c.one_before-first.ensures)
+pub returns-then-is_empty : goal.returns-then-is_empty
+returns-then-is_empty c = nothing c.requires.0 c.line_steps-steps.ensures (search rules)
 
-  -- its index
-  first_index : points_before (s (goal.at.After-one_before-first c).After-line_steps-steps) (e (goal.at.After-one_before-first c).After-line_steps-steps) c.one_before-first.result ≡ index_of (s (goal.at.After-one_before-first c).After-line_steps-steps) (e (goal.at.After-one_before-first c).After-line_steps-steps) c.one_before-first.result
-  first_index =
-      ap (λ (t : Bool). cond t (connected_points (s (goal.at.After-one_before-first c).After-line_steps-steps) (e (goal.at.After-one_before-first c).After-line_steps-steps)) (index_of (s (goal.at.After-one_before-first c).After-line_steps-steps) (e (goal.at.After-one_before-first c).After-line_steps-steps) c.one_before-first.result)) (le-ltb (major (s (goal.at.After-one_before-first c).After-line_steps-steps) (e (goal.at.After-one_before-first c).After-line_steps-steps)) c.one_before-first.result first_walked)
-
--- the points that are walked
-module _ (c : After-points_before-i) where
-  abbrev past : ℕ
-  past = c.points_before-past.result
-
-  from_index : c.points_before-i.result ≡ index_of (s (goal.at.After-points_before-i c).After-line_steps-steps) (e (goal.at.After-points_before-i c).After-line_steps-steps) c.one_before-first.result
-  from_index = c.points_before-i.ensures ∙ first_index (goal.at.After-points_before-i c).After-one_before-first
-
-  few_before : c.points_before-i.result ≤ last_index (s (goal.at.After-points_before-i c).After-line_steps-steps) (e (goal.at.After-points_before-i c).After-line_steps-steps)
-  few_before =
-      omega (arith, from_index, index_more (s (goal.at.After-points_before-i c).After-line_steps-steps) (e (goal.at.After-points_before-i c).After-line_steps-steps) c.one_before-first.result (major (s (goal.at.After-points_before-i c).After-line_steps-steps) (e (goal.at.After-points_before-i c).After-line_steps-steps)) (first_walked (goal.at.After-points_before-i c).After-one_before-first), index_last (s (goal.at.After-points_before-i c).After-line_steps-steps) (e (goal.at.After-points_before-i c).After-line_steps-steps))
-
-  most : past ≤ connected_points (s (goal.at.After-points_before-i c).After-line_steps-steps) (e (goal.at.After-points_before-i c).After-line_steps-steps)
-  most = omega (arith, c.points_before-past.ensures, before_most (s (goal.at.After-points_before-i c).After-line_steps-steps) (e (goal.at.After-points_before-i c).After-line_steps-steps) (steps (goal.at.After-points_before-i c).After-line_steps-steps).past)
-
-  started : NextAt (s (goal.at.After-points_before-i c).After-line_steps-steps) (e (goal.at.After-points_before-i c).After-line_steps-steps) c.points_before-i.result c.walker_at-walker.result
-  started = subst (λ (i : ℕ). NextAt (s (goal.at.After-points_before-i c).After-line_steps-steps) (e (goal.at.After-points_before-i c).After-line_steps-steps) i c.walker_at-walker.result) (sym from_index) c.walker_at-walker.ensures
-
-  -- those before them are outside
-  skipped : Along c.args.brush none (connected_at (s (goal.at.After-points_before-i c).After-line_steps-steps) (e (goal.at.After-points_before-i c).After-line_steps-steps)) c.args.buf.now c.points_before-i.result 0 c.args.buf.now
-  skipped =
-      along_skip c.requires.0 none (connected_at (s (goal.at.After-points_before-i c).After-line_steps-steps) (e (goal.at.After-points_before-i c).After-line_steps-steps)) c.args.buf.now (begun (goal.at.After-points_before-i c).After-line_steps-steps) c.points_before-i.result (omega arith)
-      (λ i h few. connected_before (clipped (goal.at.After-points_before-i c).After-line_steps-steps) i (omega (arith, few_before)) (some (goal.at.After-points_before-i c).After-one_before-first)
-      (omega (arith, from_index, ap (index_of (s (goal.at.After-points_before-i c).After-line_steps-steps) (e (goal.at.After-points_before-i c).After-line_steps-steps)) c.one_before-first.ensures)))
-
--- at the loop's head the walker hands out the point of index i next, and the points below it are set and counted
-module _ (c : At-loop-i) where
-  head : NextAt (s (goal.at.At-loop-i c).After-line_steps-steps) (e (goal.at.At-loop-i c).After-line_steps-steps) c.loop-i.i c.loop-i.walker
-      × Along c.args.brush none (connected_at (s (goal.at.At-loop-i c).After-line_steps-steps) (e (goal.at.At-loop-i c).After-line_steps-steps)) c.args.buf.now c.loop-i.i c.loop-i.seen c.loop-i.buf
-      × (c.loop-i.i ≤ connected_points (s (goal.at.At-loop-i c).After-line_steps-steps) (e (goal.at.At-loop-i c).After-line_steps-steps))
-  head = c.loop-i.invariant.2 (s (goal.at.At-loop-i c).After-line_steps-steps) (e (goal.at.At-loop-i c).After-line_steps-steps) (most (goal.at.At-loop-i c).After-points_before-i) (omega (arith, few_before (goal.at.At-loop-i c).After-points_before-i)) c.requires.0 (started (goal.at.At-loop-i c).After-points_before-i) (skipped (goal.at.At-loop-i c).After-points_before-i)
+pub loop-init : goal.loop-init
+loop-init c =
+    let L = c.line_steps-steps.ensures in
+    let some : c.line_steps-steps.result.start < c.line_steps-steps.result.end = search rules in
+    let b_is = c.saturating_sub-before.ensures in
+    let f_is = c.points_before-first.ensures in
+    let few = few_before L some b_is f_is in (
+      omega arith,
+      few,
+      subst (λ (i : ℕ). NextAt c.args.start c.args.end i c.walker_at-walker.result) (sym (first_index L some b_is f_is)) c.walker_at-walker.ensures,
+      begun c.requires.0 L _ few (out_before L some b_is f_is),
+    )
 
 pub next_all-next-requires : goal.next_all-next-requires
-next_all-next-requires c = record { s = s (goal.at.next_all-next-requires c).After-line_steps-steps; e = e (goal.at.next_all-next-requires c).After-line_steps-steps; i = c.loop-i.i; more = omega (arith, most (goal.at.next_all-next-requires c).After-points_before-i); here = (head (goal.at.next_all-next-requires c).At-loop-i).0 }
+next_all-next-requires c =
+    record {
+      s = c.args.start;
+      e = c.args.end;
+      i = c.loop.counter;
+      more = omega (arith, c.points_before-past.ensures, before_most c.args.start c.args.end c.line_steps-steps.result.end);
+      here = c.loop.invariant.2;
+    }
 
-pub loop-i-preserved : goal.loop-i-preserved
-loop-i-preserved c =
-    let a = c.args in (
-      c.put_point.auto.buf ∙ c.loop-i.invariant.0,
-      omega (arith, c.loop-i.invariant.1, inside_one c.put_point.result),
-      λ s e n few ok at f.
-          let j = c.loop-i.invariant.2 s e n few ok at f in
-          let last : c.loop-i.i ≤ last_index s e = omega arith in
-          let g = c.next_all-next.ensures s e c.loop-i.i last j.0 in (
-            g.walker,
-            along_turn ok none (connected_at s e) a.buf.now j.1 g.point
-                (λ k l e'. let z = distinct s e c.loop-i.i k last (omega arith) e' in omega arith)
-                c.put_point.ensures.0 (inside_adds c.put_point.result) c.put_point.ensures.1,
-            omega arith,
-          ),
+pub loop-preserved : goal.loop-preserved
+loop-preserved c =
+    let s = c.args.start in
+    let e = c.args.end in
+    let last : c.loop.counter ≤ last_index s e = omega (arith, c.points_before-past.ensures, before_most s e c.line_steps-steps.result.end) in
+    let g = c.next_all-next.ensures s e c.loop.counter last c.loop.invariant.2 in (
+      omega (arith, inside_one c.put_point.result),
+      omega arith,
+      g.walker,
+      along_turn c.requires.0 none (connected_at s e) c.args.buf.now c.loop.invariant.3 g.point
+          (λ k l e'. let z = distinct s e c.loop.counter k last (omega arith) e' in omega arith)
+          c.put_point.ensures.0 (inside_adds c.put_point.result) c.put_point.ensures.1,
     )
 
 pub returns : goal.returns
-returns c =
-    let a = c.args in
-    let all : past (goal.at.returns c).After-points_before-i ≤ c.loop-i.i = omega arith in
-    along_all c.requires.0 (connected_at (s (goal.at.returns c).After-line_steps-steps) (e (goal.at.returns c).After-line_steps-steps)) a.buf.now
-    (along_skip c.requires.0 none (connected_at (s (goal.at.returns c).After-line_steps-steps) (e (goal.at.returns c).After-line_steps-steps)) a.buf.now (head (goal.at.returns c).At-loop-i).1 (connected_points (s (goal.at.returns c).After-line_steps-steps) (e (goal.at.returns c).After-line_steps-steps)) (head (goal.at.returns c).At-loop-i).2
-    (λ i h few. connected_after (clipped (goal.at.returns c).After-line_steps-steps) i (omega arith) (omega (arith, c.points_before-past.ensures))))
-    (connected_walked (s (goal.at.returns c).After-line_steps-steps) (e (goal.at.returns c).After-line_steps-steps))
+returns c = ended c.requires.0 c.line_steps-steps.ensures (omega (arith, c.points_before-past.ensures)) c.loop.invariant.1 c.loop.invariant.3

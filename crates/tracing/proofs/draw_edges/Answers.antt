@@ -21,9 +21,6 @@ use Rattle.tracing.proofs.Outline.{outline_flat}
 use Rattle.tracing.proofs.draw_edges.Goals as goal
 use Rattle.tracing.proofs.draw_edges.Goals.{After-draw_second-of_second, After-sorted_yx-t}
 
-pub is_solid-requires : goal.is_solid-requires
-is_solid-requires c = c.requires.1
-
 -- with the sorted vertices at hand: they are in bounds, and the brush may paint on a buffer of the same length
 module _ (c : After-sorted_yx-t) where
   bounded : All Bounded c.sorted_yx-t.result

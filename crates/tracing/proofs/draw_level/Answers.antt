@@ -5,7 +5,7 @@ use mir.Syntax.{w32}
 use mir.Facts.{to_z-of_z}
 use Rattle.whole.proofs.Machine.{field_back}
 use Rattle.geometry.proofs.Bound.{coord_fits}
-use Rattle.triangle.specs.declared.Columns.{Columns}
+use Rattle.geometry.specs.declared.Columns.{Columns}
 use Rattle.triangle.specs.Row.{hull, line_columns}
 use Rattle.layout.specs.Figure.{span_figure}
 use Rattle.painting.specs.Brush.{brushed}

@@ -1,4 +1,4 @@
--- `tracing::draw_level_after` paints the columns of its that.before.before.before.before.before.before.before.before.before.before.before.before.before.before.before the first edge has, and then all of them: the rest is new. Assumes nothing.
+-- `tracing::draw_level_after` paints the columns of its row that the first edge has, and then all of them: the rest is new. Assumes nothing.
 use mathlib.Core.Path.{◌≡◌, ap, ap₂, ◌∙◌}
 use mathlib.Core.List.{List}
 use Prim.Native.Nat.{ℕ, ◌+◌}
@@ -8,11 +8,12 @@ use mir.Syntax.{w32}
 use mir.Val.{to_z, of_z}
 use mir.Facts.{to_z-of_z}
 use borrow.Author.Rules.{rules}
+use Rattle.whole.proofs.Compared.{min_is, max_is}
 use Rattle.whole.proofs.Machine.{field_back}
 use Rattle.geometry.specs.declared.Point.{Point}
 use Rattle.geometry.specs.Extreme.{lesser, greater}
 use Rattle.geometry.proofs.Bound.{coord_fits}
-use Rattle.triangle.specs.declared.Columns.{Columns}
+use Rattle.geometry.specs.declared.Columns.{Columns}
 use Rattle.triangle.specs.Row.{hull, line_columns}
 use Rattle.layout.specs.Figure.{span_figure}
 use Rattle.painting.specs.Brush.{brushed}
@@ -57,20 +58,20 @@ module _ (c : After-paint_span) where
   had_past : to_z w32 (of_z w32 c.bresenham_intersection-had.result.1) ≡ (hull (line_columns a b b.1)).1
   had_past = field_back w32 _ c.struct_told-5-1.given.1.0.1 ∙ ap (λ (r : Columns). r.1) had_is
 
-  first_is : to_z w32 (of_z w32 c.greater-first.result) ≡ greater (hull (line_columns b e b.1)).0 (hull (line_columns a b b.1)).0
+  first_is : to_z w32 (of_z w32 c.max-first.result) ≡ greater (hull (line_columns b e b.1)).0 (hull (line_columns a b b.1)).0
   first_is =
-      let kept : to_z w32 (of_z w32 c.greater-first.result) ≡ c.greater-first.result = search rules in
-      kept ∙ c.greater-first.ensures ∙ ap₂ greater row_first had_first
+      let kept : to_z w32 (of_z w32 c.max-first.result) ≡ c.max-first.result = search rules in
+      kept ∙ c.max-first.ensures.value ∙ max_is (to_z w32 (of_z w32 c.bresenham_intersection-row.result.0)) (to_z w32 (of_z w32 c.bresenham_intersection-had.result.0)) ∙ ap₂ greater row_first had_first
 
-  past_is : to_z w32 (of_z w32 c.lesser-past.result) ≡ lesser (hull (line_columns b e b.1)).1 (hull (line_columns a b b.1)).1
+  past_is : to_z w32 (of_z w32 c.min-past.result) ≡ lesser (hull (line_columns b e b.1)).1 (hull (line_columns a b b.1)).1
   past_is =
-      let kept : to_z w32 (of_z w32 c.lesser-past.result) ≡ c.lesser-past.result = search rules in
-      kept ∙ c.lesser-past.ensures ∙ ap₂ lesser row_past had_past
+      let kept : to_z w32 (of_z w32 c.min-past.result) ≡ c.min-past.result = search rules in
+      kept ∙ c.min-past.ensures.value ∙ min_is (to_z w32 (of_z w32 c.bresenham_intersection-row.result.1)) (to_z w32 (of_z w32 c.bresenham_intersection-had.result.1)) ∙ ap₂ lesser row_past had_past
 
   -- the part that the first edge has, and then all
   drawn : {now next : List ℕ}
       → (c.paint_span-old.result, now)
-      ≡ brushed c.args.brush (span_figure (to_z w32 (of_z w32 b.1)) (to_z w32 (of_z w32 c.greater-first.result)) (to_z w32 (of_z w32 c.lesser-past.result))) c.args.buf.now
+      ≡ brushed c.args.brush (span_figure (to_z w32 (of_z w32 b.1)) (to_z w32 (of_z w32 c.max-first.result)) (to_z w32 (of_z w32 c.min-past.result))) c.args.buf.now
       → (c.paint_span.result, next)
       ≡ brushed c.args.brush
       (span_figure (to_z w32 (of_z w32 b.1)) (to_z w32 (of_z w32 c.bresenham_intersection-row.result.0)) (to_z w32 (of_z w32 c.bresenham_intersection-row.result.1))) now

@@ -22,7 +22,7 @@ use Rattle.triangle.specs.Offsets.{first_offset, last_offset}
 use Rattle.triangle.proofs.Edge.{edge_rows, edge_offsets, edge_run}
 use Rattle.triangle.proofs.Spans.{run_span, no_span}
 use Rattle.triangle.proofs.bresenham_intersection.Goals as goal
-use Rattle.triangle.proofs.bresenham_intersection.Goals.{After-distance-wide, After-offset-last, After-stretch_on-s, Else-bottom-y, Start}
+use Rattle.triangle.proofs.bresenham_intersection.Goals.{After-abs_diff-wide, After-offset-last, After-stretch_on-s, Else-bottom-y, Start, then-y-top-via-then-y-top, then-y-top-via-else-y-top+then-bottom-y}
 
 -- the rows as the tests read them
 module _ (c : Start) where
@@ -39,15 +39,17 @@ module _ (c : Start) where
 pub returns-then-y-top : goal.returns-then-y-top
 returns-then-y-top c =
     let g = c.args in
-    let l : to_z w32 (of_z w32 g.y) <ℤ to_z w32 (of_z w32 g.start.1) = search tests in
-    sym (no_span g.start g.end g.y (λ x q. omega (arith, lt_nat l, eq_nat (y_is (goal.at.returns-then-y-top c).Start), eq_nat (top_is (goal.at.returns-then-y-top c).Start), le_nat (edge_rows g.start g.end (x, g.y) c.requires.1 q).0)))
-
-pub returns-then-bottom-y : goal.returns-then-bottom-y
-returns-then-bottom-y c =
-    let g = c.args in
-    let l : to_z w32 (of_z w32 g.end.1) <ℤ to_z w32 (of_z w32 g.y) = search tests in
-    sym (no_span g.start g.end g.y
-    (λ x q. omega (arith, lt_nat l, eq_nat (y_is (goal.at.returns-then-bottom-y c).Start), eq_nat (bottom_is (goal.at.returns-then-bottom-y c).Start), le_nat (edge_rows g.start g.end (x, g.y) c.requires.1 q).1)))
+    let s = (goal.at.returns-then-y-top c).Start in
+    sym (no_span g.start g.end g.y (λ x q.
+    let on = edge_rows g.start g.end (x, g.y) c.requires.1 q in
+    elim c.then-y-top.branch [
+      | then-y-top-via-then-y-top w ↦
+          let l : to_z w32 (of_z w32 g.y) <ℤ to_z w32 (of_z w32 g.start.1) = search tests in
+          omega (arith, lt_nat l, eq_nat (y_is s), eq_nat (top_is s), le_nat on.0)
+      | then-y-top-via-else-y-top+then-bottom-y w ↦
+          let l : to_z w32 (of_z w32 g.end.1) <ℤ to_z w32 (of_z w32 g.y) = search tests in
+          omega (arith, lt_nat l, eq_nat (y_is s), eq_nat (bottom_is s), le_nat on.1)
+    ]))
 
 -- ---- row.before of the edge
 module _ (c : Else-bottom-y) where
@@ -78,22 +80,22 @@ module _ (c : Else-bottom-y) where
       }
 
 -- the edge's width and height, and the row, counted from its start
-module _ (c : After-distance-wide) where
-  W : Has w32 c.distance-wide.result (pos (wide (s (goal.at.After-distance-wide c).Else-bottom-y) (e (goal.at.After-distance-wide c).Else-bottom-y))) 262144
-  W = wide_of c.requires.0.0 c.requires.0.1 c.distance-wide.ensures
+module _ (c : After-abs_diff-wide) where
+  W : c.abs_diff-wide.result ≡ wide (s (goal.at.After-abs_diff-wide c).Else-bottom-y) (e (goal.at.After-abs_diff-wide c).Else-bottom-y)
+  W = wide_of c.requires.0.0 c.requires.0.1 c.abs_diff-wide.ensures
 
-  H : Has w32 (to_z w32 (of_z w32 (e (goal.at.After-distance-wide c).Else-bottom-y).1) -ℤ to_z w32 (of_z w32 (s (goal.at.After-distance-wide c).Else-bottom-y).1)) (pos (high (s (goal.at.After-distance-wide c).Else-bottom-y) (e (goal.at.After-distance-wide c).Else-bottom-y))) 262144
+  H : Has w32 (to_z w32 (of_z w32 (e (goal.at.After-abs_diff-wide c).Else-bottom-y).1) -ℤ to_z w32 (of_z w32 (s (goal.at.After-abs_diff-wide c).Else-bottom-y).1)) (pos (high (s (goal.at.After-abs_diff-wide c).Else-bottom-y) (e (goal.at.After-abs_diff-wide c).Else-bottom-y))) 262144
   unfolding high
   H =
       let d =
       minus (back (coord c.requires.0.1.y))
       (back (coord c.requires.0.0.y)) tt in
-      record { is = d.is ∙ size_pos _ (le_sub (s (goal.at.After-distance-wide c).Else-bottom-y).1 (e (goal.at.After-distance-wide c).Else-bottom-y).1 c.requires.1); size = d.size; room = d.room }
+      record { is = d.is ∙ size_pos _ (le_sub (s (goal.at.After-abs_diff-wide c).Else-bottom-y).1 (e (goal.at.After-abs_diff-wide c).Else-bottom-y).1 c.requires.1); size = d.size; room = d.room }
 
-  R : Has w32 (to_z w32 (of_z w32 (y (goal.at.After-distance-wide c).Else-bottom-y)) -ℤ to_z w32 (of_z w32 (s (goal.at.After-distance-wide c).Else-bottom-y).1)) (pos (nat_abs (y (goal.at.After-distance-wide c).Else-bottom-y -ℤ (s (goal.at.After-distance-wide c).Else-bottom-y).1))) 262144
+  R : Has w32 (to_z w32 (of_z w32 (y (goal.at.After-abs_diff-wide c).Else-bottom-y)) -ℤ to_z w32 (of_z w32 (s (goal.at.After-abs_diff-wide c).Else-bottom-y).1)) (pos (nat_abs (y (goal.at.After-abs_diff-wide c).Else-bottom-y -ℤ (s (goal.at.After-abs_diff-wide c).Else-bottom-y).1))) 262144
   R =
-      let d = minus (back (coord (row_coord (goal.at.After-distance-wide c).Else-bottom-y))) (back (coord c.requires.0.0.y)) tt in
-      record { is = d.is ∙ size_pos _ (le_sub (s (goal.at.After-distance-wide c).Else-bottom-y).1 (y (goal.at.After-distance-wide c).Else-bottom-y) (from (goal.at.After-distance-wide c).Else-bottom-y)); size = d.size; room = d.room }
+      let d = minus (back (coord (row_coord (goal.at.After-abs_diff-wide c).Else-bottom-y))) (back (coord c.requires.0.0.y)) tt in
+      record { is = d.is ∙ size_pos _ (le_sub (s (goal.at.After-abs_diff-wide c).Else-bottom-y).1 (y (goal.at.After-abs_diff-wide c).Else-bottom-y) (from (goal.at.After-abs_diff-wide c).Else-bottom-y)); size = d.size; room = d.room }
 
 module _ (c : After-stretch_on-s) where
   abbrev f : ℕ
@@ -103,10 +105,10 @@ module _ (c : After-stretch_on-s) where
   l = last_offset (wide (s (goal.at.After-stretch_on-s c).Else-bottom-y) (e (goal.at.After-stretch_on-s c).Else-bottom-y)) (high (s (goal.at.After-stretch_on-s c).Else-bottom-y) (e (goal.at.After-stretch_on-s c).Else-bottom-y)) (nat_abs (y (goal.at.After-stretch_on-s c).Else-bottom-y -ℤ (s (goal.at.After-stretch_on-s c).Else-bottom-y).1))
 
   first_is : c.stretch_on-s.result.first ≡ f
-  first_is = c.stretch_on-s.ensures.0 ∙ (λ i. first_offset (nat_is (W (goal.at.After-stretch_on-s c).After-distance-wide) i) (nat_is (H (goal.at.After-stretch_on-s c).After-distance-wide) i) (nat_is (R (goal.at.After-stretch_on-s c).After-distance-wide) i))
+  first_is = c.stretch_on-s.ensures.0 ∙ (λ i. first_offset (W (goal.at.After-stretch_on-s c).After-abs_diff-wide i) (nat_is (H (goal.at.After-stretch_on-s c).After-abs_diff-wide) i) (nat_is (R (goal.at.After-stretch_on-s c).After-abs_diff-wide) i))
 
   last_is_lem : c.stretch_on-s.result.last ≡ l
-  last_is_lem = c.stretch_on-s.ensures.1 ∙ (λ i. last_offset (nat_is (W (goal.at.After-stretch_on-s c).After-distance-wide) i) (nat_is (H (goal.at.After-stretch_on-s c).After-distance-wide) i) (nat_is (R (goal.at.After-stretch_on-s c).After-distance-wide) i))
+  last_is_lem = c.stretch_on-s.ensures.1 ∙ (λ i. last_offset (W (goal.at.After-stretch_on-s c).After-abs_diff-wide i) (nat_is (H (goal.at.After-stretch_on-s c).After-abs_diff-wide) i) (nat_is (R (goal.at.After-stretch_on-s c).After-abs_diff-wide) i))
 
   few : (f ≤ 262144) × (l ≤ 262144)
   few =

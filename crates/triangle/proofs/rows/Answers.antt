@@ -11,22 +11,21 @@ use Rattle.geometry.specs.Bound.{Bounded}
 use Rattle.geometry.proofs.Bound.{coord}
 use Rattle.triangle.specs.declared.Sorted.{Sorted}
 use Rattle.triangle.specs.Row.{first_row, row_count}
-use Rattle.triangle.proofs.Refusals.{is_accepted, sorted_bounded}
+use Rattle.triangle.proofs.Refusals.{sorted_bounded}
 use Rattle.triangle.proofs.Order.{All}
 use Rattle.triangle.proofs.Triangle.{down}
 use Rattle.triangle.proofs.rows.Goals as goal
-use Rattle.triangle.proofs.rows.Goals.{After-struct_told-2-1}
+use Rattle.triangle.proofs.rows.Goals.{After-sorted_yx-t}
 
 -- ---- from the first row to the last
-module _ (c : After-struct_told-2-1) where
+module _ (c : After-sorted_yx-t) where
   abbrev t : Sorted
   t = c.sorted_yx-t.result
 
   bounds : All Bounded t
   bounds =
       let g = c.args in
-      sorted_bounded g.v1 g.v2 g.v3 t c.sorted_yx-t.ensures (is_accepted g.v1 g.v2 g.v3
-      (sym c.refusal-number.ensures ∙ c.if-number-ne0.false))
+      sorted_bounded g.v1 g.v2 g.v3 t c.sorted_yx-t.ensures c.in_ok-accept.ensures.accepted
 
   top : Has w32 (to_z w32 (of_z w32 t.p1.1)) t.p1.1 131072
   top = back (coord bounds.first.y)
@@ -45,13 +44,13 @@ module _ (c : After-struct_told-2-1) where
   steps = let d = minus bottom top tt in record { is = d.is ∙ height; size = d.size; room = d.room }
 
 pub overflow_sub-result : goal.overflow_sub-result
-overflow_sub-result c = fits (steps (goal.at.overflow_sub-result c).After-struct_told-2-1)
+overflow_sub-result c = fits (steps (goal.at.overflow_sub-result c).After-sorted_yx-t)
 
 pub overflow_cast-result : goal.overflow_cast-result
-overflow_cast-result c = to_nat w32 (steps (goal.at.overflow_cast-result c).After-struct_told-2-1) tt
+overflow_cast-result c = to_nat w32 (steps (goal.at.overflow_cast-result c).After-sorted_yx-t) tt
 
 pub returns : goal.returns
 unfolding first_row row_count
 returns c =
-    (λ i. record { number = 0; first = (top (goal.at.returns c).After-struct_told-2-1).is i; count = nat_is (steps (goal.at.returns c).After-struct_told-2-1) i + 1 })
-    ∙ simp (first_row, ← c.sorted_yx-t.ensures, ← c.refusal-number.ensures, c.if-number-ne0.false)
+    (λ i. record { number = 0; first = (top (goal.at.returns c).After-sorted_yx-t).is i; count = nat_is (steps (goal.at.returns c).After-sorted_yx-t) i + 1 })
+    ∙ simp (first_row, ← c.sorted_yx-t.ensures, ← c.in_ok-accept.ensures.number)

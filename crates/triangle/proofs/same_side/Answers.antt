@@ -8,7 +8,7 @@ use Rattle.whole.proofs.Machine.{Has, one, minus_of, back}
 use Rattle.triangle.specs.Triangle.{none_below, none_above}
 use Rattle.triangle.proofs.Sides.{none_above_lem, neg_zero}
 use Rattle.triangle.proofs.same_side.Goals as goal
-use Rattle.triangle.proofs.same_side.Goals.{After-one_side, After-one_side-2, Start}
+use Rattle.triangle.proofs.same_side.Goals.{After-one_side, After-one_side-else-one_side, Start}
 
 module _ (s : Start) where
   A : Has w64 s.args.a s.args.a 549755813888
@@ -38,15 +38,15 @@ first c =
     let d = (back (C (goal.at.After-one_side c).Start)).is in
     sym (c.one_side.ensures ∙ (λ i. none_below (a i) (b i) (d i) && not (eq_z ((a i +ℤ b i) +ℤ d i) (pos 0))))
 
-second : (c : After-one_side-2) → above (goal.at.After-one_side-2 c).Start && some (goal.at.After-one_side-2 c).Start ≡ c.one_side-2.result
+second : (c : After-one_side-else-one_side) → above (goal.at.After-one_side-else-one_side c).Start && some (goal.at.After-one_side-else-one_side c).Start ≡ c.one_side-else-one_side.result
 second c =
-    let a = (back (minus_of (back (A (goal.at.After-one_side-2 c).Start)))).is in
-    let b = (back (minus_of (back (B (goal.at.After-one_side-2 c).Start)))).is in
-    let d = (back (minus_of (back (C (goal.at.After-one_side-2 c).Start)))).is in
-    sym (c.one_side-2.ensures
+    let a = (back (minus_of (back (A (goal.at.After-one_side-else-one_side c).Start)))).is in
+    let b = (back (minus_of (back (B (goal.at.After-one_side-else-one_side c).Start)))).is in
+    let d = (back (minus_of (back (C (goal.at.After-one_side-else-one_side c).Start)))).is in
+    sym (c.one_side-else-one_side.ensures
     ∙ (λ i. none_below (a i) (b i) (d i) && not (eq_z ((a i +ℤ b i) +ℤ d i) (pos 0)))
     ∙ ap₂ (λ (t u : Bool). t && not u) (none_above_lem c.args.a c.args.b c.args.c) (neg_zero c.args.a c.args.b c.args.c))
 
-pub returns : goal.returns
-returns c =
-    sym (and-or_distrib_right (below (goal.at.returns c).Start) (above (goal.at.returns c).Start) (some (goal.at.returns c).Start) ∙ ap₂ (λ (t u : Bool). t || u) (first (goal.at.returns c).After-one_side ∙ c.if-one_side.false) (second (goal.at.returns c).After-one_side-2))
+pub returns-else-one_side : goal.returns-else-one_side
+returns-else-one_side c =
+    sym (and-or_distrib_right (below (goal.at.returns-else-one_side c).Start) (above (goal.at.returns-else-one_side c).Start) (some (goal.at.returns-else-one_side c).Start) ∙ ap₂ (λ (t u : Bool). t || u) (first (goal.at.returns-else-one_side c).After-one_side ∙ c.if-one_side.false) (second (goal.at.returns-else-one_side c).After-one_side-else-one_side))

@@ -16,9 +16,9 @@ returns-then-wide-high c =
     let f = le-leb s.wide s.high c.if-wide-high.true in
     (rw (e, f) (c.moves_at-moves.ensures s.wide refl), rw (e, f) (c.moves_at-moves.ensures s.wide refl))
 
-pub returns : goal.returns
+pub returns-else-wide-high : goal.returns-else-wide-high
 unfolding first_offset last_offset
-returns c =
+returns-else-wide-high c =
     let s = c.args in
     let e = ne_eqb s.high 0 c.if-high-eq0.false in
     let f = lt-leb s.wide s.high c.if-wide-high.false in

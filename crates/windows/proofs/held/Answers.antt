@@ -29,8 +29,8 @@ returns-then-grows c =
     rw c.if-grows.true
     (held_up a.a a.low a.high a.count (nearest_step a.count (places (goal.at.returns-then-grows c).Start c.requires.1) c.clip.ensures) (nearest_step a.count (places (goal.at.returns-then-grows c).Start c.requires.2) c.clip-then-grows.ensures))
 
-pub returns : goal.returns
-returns c =
+pub returns-else-grows : goal.returns-else-grows
+returns-else-grows c =
     let a = c.args in
     rw c.if-grows.false
-    (held_down a.a a.low a.high a.count (nearest_step a.count (other_way (goal.at.returns c).Start c.requires.2) c.clip-2.ensures) (nearest_step a.count (other_way (goal.at.returns c).Start c.requires.1) c.clip-3.ensures))
+    (held_down a.a a.low a.high a.count (nearest_step a.count (other_way (goal.at.returns-else-grows c).Start c.requires.2) c.clip-else-grows.ensures) (nearest_step a.count (other_way (goal.at.returns-else-grows c).Start c.requires.1) c.clip-else-grows-2.ensures))

@@ -1,31 +1,23 @@
 -- `charts::day::draw_good` reads the wedge and how far the axes reach, and draws one list of calls behind the other. Assumes nothing.
-use mathlib.Core.Path.{sym, ap, subst, ◌∙◌}
-use Prim.Native.Nat.{◌+◌}
-use native.Mathlib.Omega.{arith}
-use lib.ListN.{drop}
-use Rattle.frames.specs.declared.Canvas.{Canvas}
+use mathlib.Core.Path.{◌≡◌, sym, ap, subst, ◌∙◌}
 use Rattle.frames.proofs.Refusals.{judged}
 use Rattle.text.specs.Fields.{lines}
 use Rattle.text.specs.Lines.{each}
-use Rattle.text.proofs.Parting.{until_within}
-use Rattle.readers.specs.Figures.{corners_of}
+use Rattle.readers.specs.Figures.{corners_or_zero}
 use Rattle.reports.specs.Minutes.{wedge, behind_first}
 use Rattle.charts.specs.Scale.{of_wedge, with_sample, extent}
 use Rattle.charts.specs.Picture.{picture}
 use Rattle.charts.specs.Day.{leaves, under, discs, day}
 use Rattle.charts.proofs.Drawn.{leaves_append}
 use Rattle.charts.proofs.Scaling.{Long, wedge_long, samples_long}
+use Rattle.charts.proofs.Taking.{first_taken}
 use Rattle.charts.proofs.day.draw_good.Goals as goal
 use Rattle.charts.proofs.day.draw_good.Goals.{After-with_samples-e}
-
-pub overflow_add-from : goal.overflow_add-from
-overflow_add-from c = omega (arith, c.find-from.ensures, until_within 10 c.args.input.now)
 
 long : (c : After-with_samples-e) → Long c.with_samples-e.result
 long c =
     subst Long (sym c.with_samples-e.ensures)
-    (samples_long (lines (drop (c.find-from.result + 1) c.args.input.now))
-    (subst Long (sym c.of_wedge.ensures) (wedge_long c.corners_of-wedge.result)))
+    (samples_long (lines c.next.new.self.0.now) (subst Long (sym c.of_wedge.ensures) (wedge_long c.unwrap_or-wedge.result)))
 
 pub draw_under-requires : goal.draw_under-requires
 draw_under-requires c = long (goal.at.draw_under-requires c).After-with_samples-e
@@ -41,10 +33,10 @@ returns c =
     let a = c.args in
     let s = a.input.now in
     let f = c.frame-f.ensures in
-    let t = c.corners_of-wedge.ensures ∙ ap corners_of c.first_vertices.ensures in
-    let from = c.find-from.ensures in
-    let e = c.with_samples-e.ensures ∙ (λ i. each with_sample ((c.of_wedge.ensures ∙ ap of_wedge t) i) (lines (drop (from i + 1) s))) in
+    let t = c.unwrap_or-wedge.ensures ∙ ap corners_or_zero c.first_corners.ensures in
+    let samples : lines c.next.new.self.0.now ≡ lines (behind_first s) = first_taken s c.next.new.self.0.now c.next.result c.next.ensures.steps in
+    let e = c.with_samples-e.ensures ∙ (λ i. each with_sample ((c.of_wedge.ensures ∙ ap of_wedge t) i) (samples i)) in
     let below = c.draw_under.ensures ∙ (λ i. leaves (f i) (under (e i) (t i)) a.pane.now) in
     c.draw_samples.ensures
-    ∙ (λ i. leaves ((ap (λ (q : Canvas). q.frame) c.over.ensures ∙ f) i) (discs (e i) (t i) (lines (drop (from i + 1) s))) (below i))
+    ∙ (λ i. leaves ((c.over.ensures.frame ∙ f) i) (discs (e i) (t i) (samples i)) (below i))
     ∙ sym (leaves_append picture (under (extent s) (wedge s)) (discs (extent s) (wedge s) (lines (behind_first s))) a.pane.now)

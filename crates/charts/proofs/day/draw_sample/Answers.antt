@@ -8,9 +8,7 @@ use Rattle.geometry.specs.declared.Point.{Point}
 use Rattle.frames.specs.Drawing.{outcome}
 use Rattle.frames.proofs.Calls.{is_judged, judged_outcome}
 use Rattle.drawing.specs.Drawing.{circle_drawing}
-use Rattle.charts.specs.Picture.{spot}
-use Rattle.charts.specs.Day.{disc_colour}
-use Rattle.charts.proofs.Drawn.{bytes_of, shown, hidden}
+use Rattle.charts.proofs.Drawn.{bytes_of, shown, hidden, no_sample}
 use Rattle.charts.proofs.Scaling.{spot_near}
 use Rattle.charts.proofs.day.draw_sample.Goals as goal
 
@@ -28,16 +26,18 @@ circle_on-requires c =
 
 pub returns-then-is_shown : goal.returns-then-is_shown
 returns-then-is_shown c =
-    let sample = c.point_of-sample.ensures in
     let a = c.args in
-    let place = c.spot-s.ensures ∙ ap (spot a.e) sample in
-    let x = (back {w = w32} (minus (read c.spot-s.result.0 (spot_near _ _ c.spot-s.ensures).0 tt) (lit 1 tt) tt)).is ∙ ap (λ (p : Point). p.0 -ℤ pos 1) place in
-    let y = (back {w = w32} (minus (read c.spot-s.result.1 (spot_near _ _ c.spot-s.ensures).1 tt) (lit 1 tt) tt)).is ∙ ap (λ (p : Point). p.1 -ℤ pos 1) place in
+    let p = c.in-Some.sample in
+    let x = (back {w = w32} (minus (read c.spot-s.result.0 (spot_near _ _ c.spot-s.ensures).0 tt) (lit 1 tt) tt)).is ∙ ap (λ (p : Point). p.0 -ℤ pos 1) c.spot-s.ensures in
+    let y = (back {w = w32} (minus (read c.spot-s.result.1 (spot_near _ _ c.spot-s.ensures).1 tt) (lit 1 tt) tt)).is ∙ ap (λ (p : Point). p.1 -ℤ pos 1) c.spot-s.ensures in
     bytes_of (judged_outcome a.canvas.frame _ a.pane.now c.requires.0 c.circle_on.ensures)
-    ∙ (λ i. (outcome a.canvas.frame (circle_drawing (x i, y i) 3 ((c.disc_colour-colour.ensures ∙ ap (disc_colour a.t) sample) i)) a.pane.now).1)
-    ∙ shown a.canvas.frame a.e a.t a.p a.pane.now (sym c.is_shown.ensures ∙ c.if-is_shown.true)
+    ∙ (λ i. (outcome a.canvas.frame (circle_drawing (x i, y i) 3 (c.disc_colour-colour.ensures i)) a.pane.now).1)
+    ∙ rw c.in-Some.is (shown a.canvas.frame a.e a.t p a.pane.now (sym c.is_shown.ensures ∙ c.if-is_shown.true))
 
 pub returns-else-is_shown : goal.returns-else-is_shown
 returns-else-is_shown c =
     let a = c.args in
-    hidden a.canvas.frame a.e a.t a.p a.pane.now (sym c.is_shown.ensures ∙ c.if-is_shown.false)
+    rw c.in-Some.is (hidden a.canvas.frame a.e a.t c.in-Some.sample a.pane.now (sym c.is_shown.ensures ∙ c.if-is_shown.false))
+
+pub returns-in_default : goal.returns-in_default
+returns-in_default c = let a = c.args in rw c.in_default.is (no_sample a.canvas.frame a.e a.t a.pane.now)

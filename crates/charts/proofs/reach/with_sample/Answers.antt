@@ -1,10 +1,11 @@
--- `charts::reach::with_sample` takes the place that the line is. Assumes nothing.
-use mathlib.Core.Path.{ap, ◌∙◌}
-use Rattle.readers.specs.Figures.{point_of}
-use Rattle.charts.specs.Scale.{with_place, with_sample}
+-- `charts::reach::with_sample` takes the place that the line is, if it is one. Assumes nothing.
+use Rattle.charts.specs.Scale.{with_sample}
 use Rattle.charts.proofs.reach.with_sample.Goals as goal
 
-pub returns : goal.returns
+pub returns-in-Some : goal.returns-in-Some
 unfolding with_sample
-returns c =
-    c.with_place.ensures ∙ ap (with_place c.args.e) (c.point_of.ensures ∙ ap point_of c.read_place.ensures)
+returns-in-Some c = rw (← c.in-Some.ensures) c.with_place.ensures
+
+pub returns-in-None : goal.returns-in-None
+unfolding with_sample
+returns-in-None c = rw (← c.in-None.ensures)

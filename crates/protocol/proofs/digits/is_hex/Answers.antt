@@ -1,4 +1,4 @@
--- `protocol::digits::is_hex` makes the tests of `isHex`. Assumes nothing.
+-- `protocol::digits::is_hex` makes the tests of `is_hex`. Assumes nothing.
 use Rattle.protocol.specs.Bytes.{is_hex}
 use Rattle.protocol.proofs.digits.is_hex.Goals as goal
 

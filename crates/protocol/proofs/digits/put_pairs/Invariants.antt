@@ -1,6 +1,6 @@
 -- `protocol::digits::put_pairs` stores a byte a turn; the stores that are left are at each turn those of the rest of the digits. Assumes nothing.
 use mathlib.Core.Path.{◌≡◌}
-use Prim.Native.Nat.{◌+◌, ◌*◌, ◌-◌, ◌/◌, ◌≤◌}
+use Prim.Native.Nat.{◌+◌, ◌*◌}
 use lib.ListN.{length, drop}
 use lib.Seq.{sets}
 use Rattle.protocol.specs.Bytes.{hex_bytes}
@@ -8,7 +8,4 @@ use Rattle.protocol.proofs.digits.put_pairs.Given as goal
 
 abbrev pub invariant-loop-i : goal.invariant-loop-i
 invariant-loop-i l =
-    (l.i ≤ length l.digits / 2) × (length l.out ≡ length l.initial.out) × (sets l.out (l.at + l.i) (hex_bytes (drop (l.i * 2) l.digits)) ≡ sets l.initial.out l.at (hex_bytes l.digits))
-
-abbrev pub decreases-loop-i : goal.decreases-loop-i
-decreases-loop-i l = length l.digits / 2 - l.i
+    (length l.out ≡ length l.initial.out) × (sets l.out (l.at + l.i) (hex_bytes (drop (l.i * 2) l.digits)) ≡ sets l.initial.out l.at (hex_bytes l.digits))

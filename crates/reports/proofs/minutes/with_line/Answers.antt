@@ -1,29 +1,24 @@
--- `reports::minutes::with_line` makes the tests of `withLine`. Assumes nothing.
+-- `reports::minutes::with_line` makes the tests of `with_line`. Assumes nothing.
 use mathlib.Core.Path.{sym, ap, ◌∙◌}
 use Prim.Native.Nat.{◌+◌}
-use borrow.Author.Tests.{not-true, not-false}
-use Rattle.text.specs.declared.Place.{Place}
-use Rattle.readers.specs.Figures.{point_of}
-use Rattle.reports.specs.Minutes.{with_sample, bad_at}
-use Rattle.reports.proofs.Counting.{line_settled, line_good, line_bad}
+use Rattle.std.proofs.lemmas.Result.{err_from_is_err_and}
+use Rattle.reports.specs.Minutes.{Count, with_line, bad_at}
+use Rattle.reports.proofs.Counting.{line_good, line_bad}
 use Rattle.reports.proofs.minutes.with_line.Goals as goal
 
-pub returns-then-not-is_counting : goal.returns-then-not-is_counting
-returns-then-not-is_counting c =
-    let a = c.args in
-    line_settled a.t a.k a.line.now (sym c.is_counting.ensures ∙ not-true _ c.if-not-is_counting.true-raw)
+pub returns-in_err-samples : goal.returns-in_err-samples
+unfolding with_line
+returns-in_err-samples c =
+    let p = err_from_is_err_and c.from_residual.result c.from_residual.ensures.1 in
+    rw (p.1, p.2) (ap (λ (k : Count). with_line c.args.t k c.args.line.now) (sym c.in_err-samples.was))
 
-pub returns-then-p : goal.returns-then-p
-returns-then-p c =
+pub returns-in-Some : goal.returns-in-Some
+returns-in-Some c =
     let a = c.args in
-    let e = c.read_place-p.ensures in
-    c.with_sample.ensures ∙ ap (with_sample a.t a.k) (c.point_of.ensures ∙ ap point_of e)
-    ∙ line_good a.t a.k a.line.now (sym c.is_counting.ensures ∙ not-false _ c.if-not-is_counting.false-raw)
-    (ap (λ (p : Place). p.ok) (sym e) ∙ c.if-p.true)
+    c.with_sample.ensures ∙ line_good a.t c.in_ok-samples.samples a.line.now c.in-Some.ensures ∙ ap (λ (k : Count). with_line a.t k a.line.now) (sym c.in_ok-samples.was)
 
 pub returns : goal.returns
 returns c =
     let a = c.args in
-    ap (bad_at (a.k.samples + 2)) c.bad_field.ensures.0
-    ∙ line_bad a.t a.k a.line.now (sym c.is_counting.ensures ∙ not-false _ c.if-not-is_counting.false-raw)
-    (ap (λ (p : Place). p.ok) (sym c.read_place-p.ensures) ∙ c.if-p.false)
+    let k = c.in_ok-samples.samples in
+    ap (bad_at (k.all + 2)) c.bad_field.ensures.0 ∙ line_bad a.t k a.line.now c.in_default.ensures ∙ ap (λ (k : Count). with_line a.t k a.line.now) (sym c.in_ok-samples.was)

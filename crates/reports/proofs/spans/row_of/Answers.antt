@@ -6,4 +6,4 @@ use Rattle.reports.proofs.spans.row_of.Goals as goal
 
 pub returns : goal.returns
 unfolding row_of
-returns c = c.row_span.ensures ∙ ap (row_of c.args.t) (to_z-of_z c.ranges.y)
+returns c = c.into.ensures ∙ c.row_span.ensures ∙ ap (row_of c.args.t) (to_z-of_z c.ranges.y)

@@ -1,34 +1,27 @@
--- `reports::spans::write_heading` makes the tests of `heading`. Assumes nothing.
+-- `reports::spans::write_heading` says each of the three by its line. Assumes nothing.
+use mathlib.Core.Path.{ap, ◌∙◌}
 use native.Mathlib.Omega.{arith}
-use borrow.Author.Tests.{not-true, not-false}
+use Rattle.std.specs.Prelude.{Some}
+use Rattle.text.specs.Words.{counted}
 use Rattle.text.proofs.Showing.{counted_short}
 use Rattle.text.proofs.Writing.{wrote_as}
 use Rattle.reports.specs.Words.{refused, rows}
-use Rattle.reports.proofs.Report.{heading_bad, heading_refused, heading_rows}
+use Rattle.reports.proofs.Report.{none_found, refusal_found, rows_found}
 use Rattle.reports.proofs.spans.write_heading.Goals as goal
 
-pub returns-then-not-ok : goal.returns-then-not-ok
-returns-then-not-ok c =
-    let g = c.args in
-    wrote_as g.out.now g.at (heading_bad g.ok g.rows (not-true _ c.if-not-ok.true-raw)) c.write_bad.ensures
+pub returns-in_default : goal.returns-in_default
+returns-in_default c = wrote_as c.args.out.now c.args.at (none_found c.in_default.is) c.write_bad.ensures
 
 pub write_counted-requires : goal.write_counted-requires
-write_counted-requires c =
-    omega (arith, c.requires, counted_short refused c.args.rows.number c.struct_known-1.given.0)
+write_counted-requires c = omega (arith, c.requires, counted_short rows c.in-Ok.found.count (record { fits = omega arith }))
 
-pub returns-then-rows-ne0 : goal.returns-then-rows-ne0
-returns-then-rows-ne0 c =
-    let g = c.args in
-    wrote_as g.out.now g.at (heading_refused g.ok g.rows (not-false _ c.if-not-ok.false-raw)
-    c.if-rows-ne0.true) c.write_counted.ensures
+pub returns-in-Ok : goal.returns-in-Ok
+returns-in-Ok c = wrote_as c.args.out.now c.args.at (rows_found (c.in-Some.is ∙ ap Some c.in-Ok.is)) c.write_counted.ensures
 
-pub write_counted-requires-2 : goal.write_counted-requires-2
-write_counted-requires-2 c =
-    omega (arith, c.requires, counted_short rows c.args.rows.count c.struct_known-1.given.1.1.0)
+pub write_counted-requires-in-Err : goal.write_counted-requires-in-Err
+write_counted-requires-in-Err c = omega (arith, c.requires, counted_short refused c.number.result (record { fits = omega arith }))
 
-pub returns : goal.returns
-returns c =
-    let g = c.args in
-    wrote_as g.out.now g.at
-    (heading_rows g.ok g.rows (not-false _ c.if-not-ok.false-raw) c.if-rows-ne0.false)
-    c.write_counted-2.ensures
+pub returns-in-Err : goal.returns-in-Err
+returns-in-Err c =
+    let number = ap (counted refused) c.number.ensures in
+    wrote_as c.args.out.now c.args.at (number ∙ refusal_found (c.in-Some.is ∙ ap Some c.in-Err.is)) c.write_counted-in-Err.ensures

@@ -1,73 +1,38 @@
 -- `reports::spans::write_rows` writes a row a turn; what is still to be written is at each turn what was at the start. Assumes nothing.
-use mathlib.Core.Path.{refl, sym, ap, subst, ◌∙◌}
-use Prim.Native.Nat.{◌-◌}
+use mathlib.Core.Path.{◌≡◌, sym, subst}
+use Prim.Native.Nat.{ℕ, ◌-◌}
 use native.Mathlib.Omega.{arith}
-use lib.IntN.{ℤ, pos, ◌+ℤ◌}
-use lib.Signed.{◌≤ℤ◌}
-use lib.ListN.{length}
-use lib.Seq.{sets}
+use lib.IntN.{ℤ}
 use mir.Syntax.{w32}
-use mir.Val.{to_z, SFits}
+use mir.Val.{to_z}
 use mir.Facts.{to_z-of_z}
-use borrow.Author.Rules.{rules}
-use Rattle.reports.specs.Spans.{row_lines}
-use Rattle.reports.proofs.Within.{further_fits, further_below, row_short}
-use Rattle.reports.proofs.Report.{row_goes, rows_none}
+use Rattle.reports.proofs.Rows.{Writing, none_yet, next_fits, one_more, all_written}
 use Rattle.reports.proofs.spans.write_rows.Goals as goal
-use Rattle.reports.proofs.spans.write_rows.Goals.{In-loop-left}
 
--- the row below
-next : (c : In-loop-left) → SFits w32 (to_z w32 c.loop-left.y-bits +ℤ pos 1)
-next c = let l = c.loop-left in further_fits (to_z w32 l.y-bits) l.left 1 c.loop-left-test.true l.invariant.3 l.invariant.2
-
-pub loop-left-init : goal.loop-left-init
-loop-left-init c =
-    let y = to_z-of_z c.ranges.first in (
-      refl,
-      c.requires.0,
-      subst (SFits w32) (sym y) c.ranges.first,
-      subst (λ (z : ℤ). (z +ℤ pos c.args.count) ≤ℤ pos 131072) (sym y) c.requires.1,
-      refl,
-      refl,
-    )
+pub loop-init : goal.loop-init
+loop-init c =
+    let a = c.args in
+    let all : a.count ≡ a.count - 0 = omega arith in
+    subst (λ (y : ℤ). Writing a.out.now a.at a.t y a.count a.out.now a.at y (a.count - 0)) (sym (to_z-of_z c.ranges.first))
+    (subst (λ (n : ℕ). Writing a.out.now a.at a.t a.first a.count a.out.now a.at a.first n) all
+    (none_yet a.out.now a.at a.t a.first a.count c.requires.0 c.ranges.first c.requires.1))
 
 pub write_row-filled-requires : goal.write_row-filled-requires
-write_row-filled-requires c = omega (arith, c.loop-left.invariant.0, c.loop-left.invariant.1, c.loop-left-test.true)
+write_row-filled-requires c = let i = c.loop.invariant in omega (arith, i.size, i.room, c.loop-test.true)
 
 pub overflow_add-y : goal.overflow_add-y
-overflow_add-y c = next (goal.at.overflow_add-y c).In-loop-left
+overflow_add-y c = next_fits _ _ _ _ _ c.loop.invariant (omega (arith, c.loop-test.true))
 
-pub overflow_sub-left : goal.overflow_sub-left
-overflow_sub-left c = search rules
-
-pub loop-left-smaller : goal.loop-left-smaller
-loop-left-smaller c = search rules
-
-pub loop-left-preserved : goal.loop-left-preserved
-loop-left-preserved c =
-    let l = c.loop-left in
-    let g = c.args in
-    let y = to_z-of_z (next (goal.at.loop-left-preserved c).In-loop-left) in
-    let some = c.loop-left-test.true in
+pub loop-preserved : goal.loop-preserved
+loop-preserved c =
     let w = c.write_row-filled in
-    let go = row_goes g.t (to_z w32 l.y-bits) l.left some l.out w.new.out l.filled w.result w.ensures _ y in (
-      w.auto.out ∙ l.invariant.0,
-      omega (arith, w.ensures.0, row_short g.t (to_z w32 l.y-bits) l.invariant.2, l.invariant.1, some),
-      subst (SFits w32) (sym y) (next (goal.at.loop-left-preserved c).In-loop-left),
-      subst (λ (z : ℤ). (z +ℤ pos (l.left - 1)) ≤ℤ pos 131072) (sym y) (further_below (to_z w32 l.y-bits) l.left 1 some l.invariant.3),
-      go.0 ∙ l.invariant.4,
-      go.1 ∙ l.invariant.5,
-    )
-
-pub shape_of-out : goal.shape_of-out
-shape_of-out c = search rules
+    let some = c.loop-test.true in
+    let i = c.loop.invariant in
+    one_more _ _ _ _ _ i (omega (arith, some)) w.ensures w.auto.out (to_z-of_z (next_fits _ _ _ _ _ i (omega (arith, some)))) (omega (arith, some))
 
 pub returns : goal.returns
 returns c =
-    let l = c.loop-left in
-    let g = c.args in
-    let none = rows_none g.t (to_z w32 l.y-bits) l.left c.loop-left-test.false in
-    let all = ap (λ (z : ℤ). row_lines g.t z g.count) (to_z-of_z c.ranges.first) in (
-      omega (arith, ap length none, ap length all, l.invariant.4),
-      sym (ap (sets l.out l.filled) none) ∙ l.invariant.5 ∙ ap (sets g.out.now g.at) all,
-    )
+    let a = c.args in
+    let l = c.loop in
+    all_written a.out.now a.at a.t a.first a.count
+    (subst (λ (y : ℤ). Writing a.out.now a.at a.t y a.count l.out l.filled (to_z w32 l.y-bits) (a.count - l.counter)) (to_z-of_z c.ranges.first) l.invariant) (omega (arith, c.loop-test.false))

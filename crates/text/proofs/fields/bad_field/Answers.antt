@@ -3,14 +3,16 @@ use mathlib.Core.Path.{sym, ◌∙◌}
 use native.Mathlib.Omega.{arith}
 use Rattle.text.proofs.Amiss.{amiss_long, amiss_count, amiss_field}
 use Rattle.text.proofs.fields.bad_field.Goals as goal
+use Rattle.text.proofs.fields.bad_field.Goals.{then-line-gt128-via-then-line-gt128, then-line-gt128-via-else-line-gt128+then-field_count-count}
 
 pub returns-then-line-gt128 : goal.returns-then-line-gt128
-returns-then-line-gt128 c = (amiss_long c.args.count c.args.line.now c.if-line-gt128.true, omega arith)
-
-pub returns-then-field_count-count : goal.returns-then-field_count-count
-returns-then-field_count-count c =
+returns-then-line-gt128 c =
     let a = c.args in
-    (amiss_count a.count a.line.now c.if-line-gt128.false (λ e. c.if-field_count-count.true (c.field_count.ensures ∙ e)), omega arith)
+    elim c.then-line-gt128.branch [
+      | then-line-gt128-via-then-line-gt128 w ↦ (amiss_long a.count a.line.now w.if-line-gt128.true, omega arith)
+      | then-line-gt128-via-else-line-gt128+then-field_count-count w ↦
+          (amiss_count a.count a.line.now w.if-line-gt128.false (λ e. w.if-field_count-count.true (w.field_count.ensures ∙ e)), omega arith)
+    ]
 
 pub returns : goal.returns
 returns c =

@@ -1,22 +1,17 @@
--- `text::fields::field_count` has counted the fields before its place; those from there on are still to be counted. Assumes nothing.
-use Prim.Native.Nat.{◌+◌, ◌≤◌}
-use native.Mathlib.Omega.{arith}
-use lib.ListN.{length}
-use Rattle.text.proofs.Amiss.{next_within, count_more}
+-- `text::fields::field_count` counts the tabs, and one field more. Assumes nothing.
+use mathlib.Core.Path.{ap, ◌∙◌}
+use Prim.Native.Nat.{ℕ, ◌+◌}
+use lib.Dec.{eqb}
+use borrow.Author.Tests.{tests}
+use Rattle.std.proofs.Common.{rules}
+use Rattle.std.proofs.lemmas.Iterator.{YieldsList-from_slice}
+use Rattle.std.proofs.lemmas.Iterator.Consumers.{YieldsList-from_filter, count_from_yields_List}
+use Rattle.text.proofs.Amiss.{tabs_and_one}
 use Rattle.text.proofs.fields.field_count.Goals as goal
-use Rattle.text.proofs.fields.field_count.Goals.{After-part_end-at}
 
--- a place further on
-past : (c : After-part_end-at) → c.part_end-at.result + 1 ≤ length c.args.line.now + 1
-past c = next_within c.args.line.now c.loop-at.at c.part_end-at.result c.loop-at-test.true c.part_end-at.ensures
-
-pub overflow_add-at : goal.overflow_add-at
-overflow_add-at c = omega (arith, past (goal.at.overflow_add-at c).After-part_end-at)
-
-pub loop-at-preserved : goal.loop-at-preserved
-loop-at-preserved c =
-    let l = c.loop-at in (
-      past (goal.at.loop-at-preserved c).After-part_end-at,
-      omega (arith, l.invariant.1, c.part_end-at.ensures),
-      omega (arith, l.invariant.2, count_more c.args.line.now l.at c.part_end-at.result c.loop-at-test.true c.part_end-at.ensures),
-    )
+pub returns : goal.returns
+returns c =
+    ap (λ (n : ℕ). n + 1)
+    (count_from_yields_List _ c.count.result c.count.ensures.ran
+    (YieldsList-from_filter _ (λ b. eqb b 9) (YieldsList-from_slice c.args.line.now cc) c.filter.ensures.closure (λ x r q k. search (rules, tests))))
+    ∙ tabs_and_one c.args.line.now

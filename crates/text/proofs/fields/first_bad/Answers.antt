@@ -1,41 +1,21 @@
--- `text::fields::first_bad` has passed numbers alone; the first other field is still to come. Assumes nothing.
-use Prim.Native.Nat.{◌+◌, ◌≤◌}
-use native.Mathlib.Omega.{arith}
-use lib.ListN.{length}
-use borrow.Author.Tests.{not-true, not-false}
-use Rattle.text.proofs.Amiss.{next_within, bad_here, bad_behind}
+-- `text::fields::first_bad` counts the fields in front that are numbers. Assumes nothing.
+use mathlib.Core.Path.{ap, ◌∙◌}
+use Prim.Native.Nat.{ℕ, ◌+◌}
+use lib.Dec.{eqb}
+use Rattle.std.proofs.Common.{rules}
+use Rattle.std.proofs.lemmas.Iterator.Search.{YieldsList-from_take_while}
+use Rattle.std.proofs.lemmas.Iterator.Splits.{YieldsList-from_slice_split}
+use Rattle.std.proofs.lemmas.Iterator.Consumers.{count_from_yields_List}
+use Rattle.text.specs.Fields.{first_bad}
+use Rattle.text.proofs.Amiss.{parts_are, is_number, behind_numbers}
 use Rattle.text.proofs.fields.first_bad.Goals as goal
-use Rattle.text.proofs.fields.first_bad.Goals.{After-part_end-end}
 
--- a place further on
-past : (c : After-part_end-end) → c.part_end-end.result + 1 ≤ length c.args.line.now + 1
-past c = next_within c.args.line.now c.loop-at.at c.part_end-end.result c.loop-at-test.true c.part_end-end.ensures
-
-pub slice_bounds-read_i32-end : goal.slice_bounds-read_i32-end
-slice_bounds-read_i32-end c = omega (arith, past (goal.at.slice_bounds-read_i32-end c).After-part_end-end)
-
-pub returns-then-not-field : goal.returns-then-not-field
-returns-then-not-field c =
-    let part_end = c.part_end-end in
-    let l = c.loop-at in
-    omega (
-      arith,
-      l.invariant.2,
-      bad_here c.args.line.now l.at part_end.result
-          c.loop-at-test.true part_end.ensures c.read_i32-field.result c.read_i32-field.ensures
-          (not-true _ c.if-not-field.true),
-    )
-
-pub loop-at-preserved : goal.loop-at-preserved
-loop-at-preserved c =
-    let l = c.loop-at in (
-      past (goal.at.loop-at-preserved c).After-part_end-end,
-      omega (arith, l.invariant.1, c.part_end-end.ensures),
-      omega (
-        arith,
-        l.invariant.2,
-        bad_behind c.args.line.now l.at c.part_end-end.result
-            c.loop-at-test.true c.part_end-end.ensures c.read_i32-field.result c.read_i32-field.ensures
-            (not-false _ c.if-not-field.false),
-      ),
-    )
+pub returns : goal.returns
+returns c =
+    let line = c.args.line.now in
+    ap (λ (n : ℕ). n + 1)
+    (count_from_yields_List _ c.count.result c.count.ensures.ran
+    (YieldsList-from_take_while _ is_number
+    (YieldsList-from_slice_split _ (λ b. eqb b 9) line (cc) (cc) (cc) (λ x b q k. search rules)) c.take_while.ensures.closure c.take_while.ensures.done (λ x b q k. search rules)))
+    ∙ behind_numbers _
+    ∙ ap first_bad (parts_are line)

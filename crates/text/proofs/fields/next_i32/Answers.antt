@@ -1,29 +1,24 @@
 -- `text::fields::next_i32` reads the field where there is one. Assumes nothing.
-use mathlib.Core.Path.{ap, ◌∙◌}
-use Prim.Native.Nat.{◌+◌}
+use mathlib.Core.Path.{sym, ap, ◌∙◌}
 use lib.IntN.{ℤ}
-use mir.Syntax.{w32}
-use Rattle.whole.proofs.Machine.{field_back}
-use Rattle.text.proofs.Parting.{field_ends}
-use Rattle.text.proofs.Numbers.{i32_found, i32_other, i32_past}
+use mir.Facts.{to_z-of_z}
+use Rattle.std.specs.Prelude.{Some}
+use Rattle.text.specs.Read.{read_i32}
+use Rattle.text.specs.Fields.{next_i32}
+use Rattle.text.proofs.Reading.{i32_fits}
+use Rattle.text.proofs.Numbers.{next_none, next_some, i32_past}
 use Rattle.text.proofs.fields.next_i32.Goals as goal
-use Rattle.text.proofs.fields.next_i32.Goals.{then-at-line+else-field, else-at-line}
 
-pub slice_bounds-read_i32-end : goal.slice_bounds-read_i32-end
-slice_bounds-read_i32-end c = field_ends c.args.line.now c.if-at-line.true c.part_end-end.ensures
+pub returns-in_err-field : goal.returns-in_err-field
+returns-in_err-field c = c.from_residual.ensures ∙ i32_past c.args.line.now c.args.at c.in_err-field.ensures
 
-pub returns-then-field : goal.returns-then-field
-returns-then-field c =
-    let a = c.args in
-    let f = c.part_end-end in
-    let r = c.read_i32-field in
-    ap (λ (z : ℤ). record { value = z; next = f.result + 1 }) (field_back w32 r.result.value c.struct_told-1.given.1.0.1)
-    ∙ i32_found a.line.now a.at f.result f.ensures r.result r.ensures c.if-field.true
+pub returns-in_err-read_i32 : goal.returns-in_err-read_i32
+unfolding next_i32
+returns-in_err-read_i32 c =
+    c.from_residual-in_err-read_i32.ensures ∙ next_none read_i32 c.args.line.now c.args.at c.in_ok-field.ensures.1 c.in_err-read_i32.ensures
 
 pub returns : goal.returns
+unfolding next_i32
 returns c =
-    let a = c.args in
-    elim c.if-at-line.branch [
-      | then-at-line+else-field w ↦ i32_other a.line.now a.at w.part_end-end.result w.part_end-end.ensures w.read_i32-field.result w.read_i32-field.ensures w.if-field.false
-      | else-at-line w ↦ i32_past a.line.now a.at w.if-at-line.false
-    ]
+    ap (λ (z : ℤ). Some (z, c.in_ok-field.next)) (to_z-of_z (i32_fits c.in_ok-field.field.now c.in_ok-read_i32.field-0 (sym c.in_ok-read_i32.ensures)))
+    ∙ next_some read_i32 c.args.line.now c.args.at c.in_ok-field.ensures.1 c.in_ok-field.ensures.2 c.in_ok-read_i32.ensures

@@ -1,51 +1,45 @@
 -- `text::read::read_digits` goes digit by digit; what it has still to find is at each turn what it had to find at the start. Assumes nothing.
 use mathlib.Core.Path.{◌≡◌, sym, ◌∙◌}
-use mathlib.Core.Bool.{true, false}
+use Prim.Native.Nat.{◌≤◌}
 use native.Mathlib.Omega.{arith}
 use lib.ListN.{length, get_or}
-use borrow.Author.Tests.{ltb-false, not-true, not-false}
+use borrow.Author.Tests.{eqb-true, eqb-false}
 use Rattle.text.specs.Digits.{with_digit}
-use Rattle.text.proofs.Reading.{fitting, read_is, read_empty, read_long, scan_goes, scan_stops, scan_ends, fitting_most, ok_is, value_is, none_is}
+use Rattle.text.proofs.Reading.{fitting, read_is, read_empty, read_long, scan_goes, scan_stops, scan_ends, fitting_most, only_yes, only_no}
 use Rattle.text.proofs.read.read_digits.Goals as goal
-use Rattle.text.proofs.read.read_digits.Goals.{then-s-eq0-via-then-s-eq0, then-s-eq0-via-else-s-eq0+then-s-limit}
+use Rattle.text.proofs.read.read_digits.Goals.{then-is_empty-via-then-is_empty, then-is_empty-via-else-is_empty+then-s-limit}
 
-pub returns-then-s-eq0 : goal.returns-then-s-eq0
-returns-then-s-eq0 c =
+pub returns-then-is_empty : goal.returns-then-is_empty
+returns-then-is_empty c =
     let s = c.args.s.now in
-    let limit = c.args.limit in
-    elim c.then-s-eq0.branch [
-      | then-s-eq0-via-then-s-eq0 w ↦ read_empty limit _ s (omega arith)
-      | then-s-eq0-via-else-s-eq0+then-s-limit w ↦ read_long limit _ s w.if-s-limit.true
+    elim c.then-is_empty.branch [
+      | then-is_empty-via-then-is_empty w ↦ read_empty c.args.limit _ s (eqb-true (length s) 0 (sym c.is_empty.ensures ∙ w.if-is_empty.true))
+      | then-is_empty-via-else-is_empty+then-s-limit w ↦ read_long c.args.limit _ s w.if-s-limit.true
     ]
 
-pub returns-then-not-longer : goal.returns-then-not-longer
+pub returns-in_err-v : goal.returns-in_err-v
 unfolding fitting
-returns-then-not-longer c =
+returns-in_err-v c =
     let a = c.args in
-    let l = c.loop-i in
-    let r = c.lengthen-longer in
-    let no : r.result.ok ≡ false = not-true r.result.ok c.if-not-longer.true in
-    none_is r.result _ _ r.ensures no
-    ∙ sym (scan_stops a.most l.v a.s.now l.i c.loop-i-test.true (sym (ok_is r.result _ _ r.ensures) ∙ no))
-    ∙ l.invariant.2 ∙ read_is a.limit a.most a.s.now (omega arith) (ltb-false a.limit (length a.s.now) c.if-s-limit.false-raw)
+    let l = c.loop-b in
+    let h : 1 ≤ length a.s.now = omega (arith, eqb-false (length a.s.now) 0 (sym c.is_empty.ensures ∙ c.if-is_empty.false)) in
+    c.from_residual.ensures ∙ sym (scan_stops a.most l.v a.s.now l.b-index c.loop-b-test.true (only_no _ _ (sym c.in_err-v.ensures)))
+    ∙ l.invariant.1 ∙ read_is a.limit a.most a.s.now h c.if-s-limit.false
 
-pub loop-i-preserved : goal.loop-i-preserved
+pub loop-b-preserved : goal.loop-b-preserved
 unfolding fitting
-loop-i-preserved c =
+loop-b-preserved c =
     let a = c.args in
-    let l = c.loop-i in
-    let r = c.lengthen-longer in
-    let yes : r.result.ok ≡ true = not-false r.result.ok c.if-not-longer.false in
-    let more : r.result.value ≡ with_digit l.v (get_or a.s.now l.i 0) = value_is r.result _ _ r.ensures yes in
-    let fit : fitting a.most l.v (get_or a.s.now l.i 0) ≡ true = sym (ok_is r.result _ _ r.ensures) ∙ yes in (
-      omega arith,
-      rw more (fitting_most a.most l.v (get_or a.s.now l.i 0) fit),
-      rw more (sym (scan_goes a.most l.v a.s.now l.i c.loop-i-test.true fit) ∙ l.invariant.2),
+    let l = c.loop-b in
+    let yes = only_yes (fitting a.most l.v (get_or a.s.now l.b-index 0)) _ c.in_ok-v.v (sym c.in_ok-v.ensures) in
+    let more : c.in_ok-v.v ≡ with_digit l.v (get_or a.s.now l.b-index 0) = sym yes.1 in (
+      rw more (fitting_most a.most l.v (get_or a.s.now l.b-index 0) yes.0),
+      rw more (sym (scan_goes a.most l.v a.s.now l.b-index c.loop-b-test.true yes.0) ∙ l.invariant.1),
     )
 
 pub returns : goal.returns
 returns c =
     let a = c.args in
-    let l = c.loop-i in
-    sym (scan_ends a.most l.v a.s.now l.i c.loop-i-test.false) ∙ l.invariant.2
-    ∙ read_is a.limit a.most a.s.now (omega arith) (ltb-false a.limit (length a.s.now) c.if-s-limit.false-raw)
+    let l = c.loop-b in
+    let h : 1 ≤ length a.s.now = omega (arith, eqb-false (length a.s.now) 0 (sym c.is_empty.ensures ∙ c.if-is_empty.false)) in
+    sym (scan_ends a.most l.v a.s.now l.b-index c.loop-b-test.false) ∙ l.invariant.1 ∙ read_is a.limit a.most a.s.now h c.if-s-limit.false

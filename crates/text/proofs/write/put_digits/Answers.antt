@@ -6,4 +6,4 @@ use Rattle.text.proofs.write.put_digits.Goals as goal
 pub returns : goal.returns
 returns c =
     let a = c.args in
-    sym (put_end _ _ _ _ c.loop-i-test.false) ∙ c.loop-i.invariant.2 ∙ put_digits_lem a.at a.count a.v a.buf.now
+    sym (put_end _ _ _ _ c.loop-i-test.false) ∙ c.loop-i.invariant.1 ∙ put_digits_lem a.at a.count a.v a.buf.now

@@ -14,24 +14,21 @@ use Rattle.whole.proofs.Machine.{lt_true, lt_false}
 use Rattle.text.specs.Show.{shown, shown_signed}
 use Rattle.text.proofs.Showing.{shown_minus, shown_plus}
 use Rattle.text.proofs.write.write_i32.Goals as goal
-use Rattle.text.proofs.write.write_i32.Goals.{After-magnitude-digits, Else-v-lt0, Then-v-lt0}
+use Rattle.text.proofs.write.write_i32.Goals.{After-unsigned_abs-digits, Else-v-lt0, Then-v-lt0}
 
--- what `magnitude` answers, and so what is to be written
-far : (c : After-magnitude-digits) → nat_abs c.args.v ≡ c.magnitude-digits.result
-far c = sym (c.magnitude-digits.ensures ∙ ap nat_abs (to_z-of_z c.ranges.v))
+-- how far the number is from 0, and so what is to be written
+far : (c : After-unsigned_abs-digits) → nat_abs c.args.v ≡ c.unsigned_abs-digits.result
+far c = sym (c.unsigned_abs-digits.ensures.value ∙ ap nat_abs (to_z-of_z c.ranges.v))
 
-with_minus : (c : Then-v-lt0) → shown_signed c.args.v ≡ 45 ∷ shown c.magnitude-digits.result
+with_minus : (c : Then-v-lt0) → shown_signed c.args.v ≡ 45 ∷ shown c.unsigned_abs-digits.result
 with_minus c =
     shown_minus _ (lt_true c.ranges.v (sfits_lit {w = w32} {z = pos 0} tt) c.if-v-lt0.true)
-    ∙ ap (λ (n : ℕ). 45 ∷ shown n) (far (goal.at.Then-v-lt0 c).After-magnitude-digits)
+    ∙ ap (λ (n : ℕ). 45 ∷ shown n) (far (goal.at.Then-v-lt0 c).After-unsigned_abs-digits)
 
-without : (c : Else-v-lt0) → shown_signed c.args.v ≡ shown c.magnitude-digits.result
+without : (c : Else-v-lt0) → shown_signed c.args.v ≡ shown c.unsigned_abs-digits.result
 without c =
     shown_plus _ (lt_false c.ranges.v (sfits_lit {w = w32} {z = pos 0} tt) c.if-v-lt0.false)
-    ∙ ap shown (far (goal.at.Else-v-lt0 c).After-magnitude-digits)
-
-pub magnitude-digits-requires : goal.magnitude-digits-requires
-magnitude-digits-requires c = search rules
+    ∙ ap shown (far (goal.at.Else-v-lt0 c).After-unsigned_abs-digits)
 
 pub bounds-buf-at : goal.bounds-buf-at
 bounds-buf-at c = omega (arith, c.requires, ap length (with_minus (goal.at.bounds-buf-at c).Then-v-lt0))
@@ -51,7 +48,7 @@ returns-then-v-lt0 c =
     let e = with_minus (goal.at.returns-then-v-lt0 c).Then-v-lt0 in
     let w = c.write_u32.ensures in (
       w.0 ∙ omega (arith, ap length e),
-      w.1 ∙ ap (λ (k : ℕ). sets (set a.buf.now a.at 45) k (shown c.magnitude-digits.result)) (add-one a.at)
+      w.1 ∙ ap (λ (k : ℕ). sets (set a.buf.now a.at 45) k (shown c.unsigned_abs-digits.result)) (add-one a.at)
           ∙ ap (sets a.buf.now a.at) (sym e),
     )
 

@@ -1,1 +1,0 @@
--- `painting::put_point` takes the brush apart. Assumes nothing.

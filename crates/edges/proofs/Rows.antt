@@ -13,6 +13,7 @@ use Rattle.geometry.specs.declared.Point.{Point}
 use Rattle.line.specs.declared.Walker.{Walker}
 use Rattle.line.specs.Line.{points, HasPoint}
 use Rattle.line.specs.Walk.{WalkerAt}
+use Rattle.line.proofs.Lengths.{points_most}
 use Rattle.line.proofs.Points.{starts, rows_down}
 use Rattle.triangle.specs.declared.Sorted.{Sorted}
 use Rattle.triangle.specs.Order.{Down}
@@ -122,3 +123,18 @@ walk_begins t solid w d a b c n =
       c = fresh d.lower c.0 c.1 (asked_few solid t.p2 t.p3) t.p1.1 d.upper;
       count = omega (arith, a.1, b.1, c.1, n);
     }
+
+-- a count of all points fits 32 bits with room to spare
+pub few_points : {t : Sorted} {solid : Bool} {y : ℤ} {w : Walk} → WalkAt t solid y w → w.count + (w.a.left + w.b.left + w.c.left) ≤ 786432
+few_points {t} {solid} at =
+    let a = at.a.here.at.stands in
+    let c = at.c.here.at.stands in
+    omega (
+      arith,
+      at.count,
+      asked_few solid t.p1 t.p2,
+      asked_few solid t.p2 t.p3,
+      points_most a.start a.end,
+      points_most a.start c.end,
+      points_most c.start c.end,
+    )

@@ -7,7 +7,7 @@ ghost use Rattle.std.specs.Cmp.{partial_order_from_own_ties};
 ghost use Rattle.std.specs.Cmp.Rules.{comparing};
 ghost use Rattle.std.specs.Ordering.{as_partial_cmp};
 ghost use Rattle.std.proofs.Common.{rules};
-ghost use Rattle.geometry.specs.Place.{by_row};
+ghost use Rattle.geometry.specs.Place.{before, by_row};
 ghost use Rattle.geometry.specs.Bound.{is_coord, in_bounds};
 ghost use Rattle.geometry.specs.Answer.{as_verdict, as_span};
 
@@ -113,4 +113,12 @@ pub fn in_bounds(p: Point) -> bool
     ensures { result ≡ in_bounds p }
 {
     is_coord(p.0) && is_coord(p.1)
+}
+
+// Inside the library: whether a stands before b by y, then x, or in the same place. The two come by value: where places are compared as they lie in memory they
+// are kept there, and a triangle's rows take more than twice as long (docs/BENCHMARKS.md).
+pub fn in_order(a: Point, b: Point) -> bool
+    ensures { result ≡ before a b }
+{
+    a <= b
 }

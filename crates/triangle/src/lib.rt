@@ -107,13 +107,13 @@ pub fn is_solid(v1: Point, v2: Point, v3: Point) -> bool
 fn place(a: Point, b: Point, c: Point) -> Sorted
     ensures { result ≡ placed a b c }
 {
-    if c <= a {
+    if geometry::in_order(c, a) {
         Sorted {
             p1: c,
             p2: a,
             p3: b,
         }
-    } else if c <= b {
+    } else if geometry::in_order(c, b) {
         Sorted {
             p1: a,
             p2: c,
@@ -129,10 +129,11 @@ fn place(a: Point, b: Point, c: Point) -> Sorted
 }
 
 // Inside the library: the vertices sorted by y, then x.
+#[tactic(auto, unfolding(crate::specs::Order::sorted))]
 pub fn sorted_yx(v1: Point, v2: Point, v3: Point) -> Sorted
     ensures { result ≡ sorted v1 v2 v3 }
 {
-    if v1 <= v2 {
+    if geometry::in_order(v1, v2) {
         place(v1, v2, v3)
     } else {
         place(v2, v1, v3)

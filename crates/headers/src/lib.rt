@@ -40,14 +40,12 @@ fn is_space(b: u8) -> bool
 }
 
 // The place behind the spaces, or behind the other bytes, that start at a place. A test that is handed over is no plainer than `spaces`: it is `is_space` or its opposite.
+// The part behind the place, and no `skip`, which goes there byte by byte (docs/BENCHMARKS.md).
 fn past_bytes(file: &[u8], at: usize, spaces: bool) -> usize
     ensures { result ≡ past spaces file.now at }
 {
-    at + file
-        .iter()
-        .skip(at)
-        .take_while(|b| is_space(**b) == spaces)
-        .count()
+    let rest = &file[at.min(file.len())..];
+    at + rest.iter().take_while(|b| is_space(**b) == spaces).count()
 }
 
 // The field that the spaces at a place lead to: its number, and the place behind it.

@@ -82,13 +82,37 @@ fn write_header(out: &mut [u8], frame: Frame) -> usize
 
 // ---- the pixels, from one frame into another of the same size and depth, row by row
 
+// The bytes of one part to another of the same length. By a loop: `copy_from_slice` is a call of the C library's `memmove`, which callers of the library would have to link,
+// and which takes longer than a short row (docs/BENCHMARKS.md).
+fn copy(from: &[u8], to: &mut [u8])
+    requires { length from.now ≡ length to.old }
+    ensures { to.new ≡ from.now }
+{
+    for i in 0..to.len() {
+        to[i] = from[i];
+    }
+}
+
+// The bytes of one part to another of the same length. Those before `lead` go by themselves, so that the loop over all others begins there.
+fn copy_run(from: &[u8], to: &mut [u8], lead: usize)
+    requires { length from.now ≡ length to.old }
+    ensures { to.new ≡ from.now }
+{
+    if to.len() <= lead {
+        copy(from, to);
+    } else {
+        copy(&from[..lead], &mut to[..lead]);
+        copy(&from[lead..], &mut to[lead..]);
+    }
+}
+
 // A row's bytes, and of the last one the bits that the mask has. Its other bits stay as far as `kept` has them.
 fn copy_row(from: &[u8], to: &mut [u8], mask: u8, kept: u8)
     requires { (length from.now ≡ length to.old) × (0 < length to.old) }
     ensures { to.new ≡ copied_row from.now 0 0 (length to.old - 1) mask kept to.old }
 {
     let last = to.len() - 1;
-    to[..last].copy_from_slice(&from[..last]);
+    copy(&from[..last], &mut to[..last]);
     to[last] = (to[last] & kept & !mask) | (from[last] & mask);
 }
 
@@ -143,14 +167,15 @@ fn is_run(source: Frame, target: Frame) -> bool
     source.distance * 8 == bits && target.distance * 8 == bits && !is_turned(source, target)
 }
 
-// All rows, at once where they are one run. The padding in a row's last byte stays as far as `kept` has its bits; the bytes between the rows and behind the frame stay.
-fn transfer_rows(from: &[u8], source: Frame, to: &mut [u8], target: Frame, kept: u8)
+// All rows. The padding in a row's last byte stays as far as `kept` has its bits; the bytes between the rows and behind the frame stay. Rows that are one run are
+// copied from byte `lead` on by one loop.
+fn transfer_rows(from: &[u8], source: Frame, to: &mut [u8], target: Frame, kept: u8, lead: usize)
     requires { Alike source (length from.now) target (length to.old) }
     ensures { to.new ≡ transferred source from.now target (masked_rows target kept to.old) }
 {
     if is_run(source, target) {
         let bytes = (target.distance * target.height) as usize;
-        to[..bytes].copy_from_slice(&from[..bytes]);
+        copy_run(&from[..bytes], &mut to[..bytes], lead);
     } else {
         for y in 0..target.height {
             transfer_row(from, source, to, target, kept, y);
@@ -182,7 +207,7 @@ pub fn write_image(buf: &[u8], frame: Frame, out: &mut [u8]) -> Result<u32, Refu
     let bytes = accept_writing(frame, buf.len(), out.len())?;
     let start = write_header(out, frame);
     let end = bytes as usize;
-    transfer_rows(buf, frame, &mut out[start..end], in_file(frame), 0);
+    transfer_rows(buf, frame, &mut out[start..end], in_file(frame), 0, 0);
     Ok(bytes)
 }
 
@@ -213,6 +238,8 @@ pub fn read_image(buf: &mut [u8], frame: Frame, file: &[u8]) -> Result<(), Refus
     ensures { (as_number result, buf.new) ≡ loaded frame file.now buf.old }
 {
     let start = accept_reading(frame, buf.len(), file)?;
-    transfer_rows(&file[start..], in_file(frame), buf, frame, 255);
+    // Most files begin at a multiple of 16 bytes in memory, and loads across such a multiple take longer than stores (docs/BENCHMARKS.md): the loads are to begin at one.
+    let lead = (16 - start % 16) % 16;
+    transfer_rows(&file[start..], in_file(frame), buf, frame, 255, lead);
     Ok(())
 }

@@ -17,6 +17,6 @@ returns c =
     let b = a.to.now in
     let last = length b - 1 in
     let z : last ≡ 0 + last = omega arith in
-    let run = ap (λ (s : List ℕ). s ++ drop last b) c.copy_from_slice.ensures.after ∙ copied_front last a.from.now b (omega arith) (omega arith) in
+    let run = ap (λ (s : List ℕ). s ++ drop last b) c.copy.ensures ∙ copied_front last a.from.now b (omega arith) (omega arith) in
     let old = ap (λ (l : List ℕ). get_or l last 0) run ∙ run_out 0 last _ b last (inr (omega arith)) ∙ ap (λ (k : ℕ). get_or b k 0) z in
     λ i. set (run i) (z i) (merged (bit_and (old i) a.kept) (get_or a.from.now (z i) 0) a.mask)

@@ -20,7 +20,7 @@ pub returns-in_err-start : goal.returns-in_err-start
 returns-in_err-start c =
     let a = c.args in
     ap (λ (r : Result (Unit {0}) Refusal). (as_number r, a.buf.now)) (handed_back _ c.from_residual.ensures)
-    ∙ refused_loaded a.frame a.file.now a.buf.now c.in_err-start.ensures.number (some_number _)
+    ∙ refused_loaded a.frame a.file.now a.buf.now c.in_err-start.ensures.number (some_number c.in_err-start.field-0.0)
 
 pub transfer_rows-requires : goal.transfer_rows-requires
 transfer_rows-requires c =

@@ -32,24 +32,24 @@ module _ (c : Then-is_run) where
   target_long : bytes ≡ length (take bytes c.args.to.now)
   target_long = sym (length-take-le bytes c.args.to.now room.1)
 
-pub slice_bounds-copy_from_slice-end : goal.slice_bounds-copy_from_slice-end
-slice_bounds-copy_from_slice-end c = (room (goal.at.slice_bounds-copy_from_slice-end c).Then-is_run).1
+pub slice_bounds-copy_run-end : goal.slice_bounds-copy_run-end
+slice_bounds-copy_run-end c = source_long (goal.at.slice_bounds-copy_run-end c).Then-is_run
 
-pub slice_bounds-copy_from_slice-end-then-is_run : goal.slice_bounds-copy_from_slice-end-then-is_run
-slice_bounds-copy_from_slice-end-then-is_run c = target_long (goal.at.slice_bounds-copy_from_slice-end-then-is_run c).Then-is_run
+pub slice_bounds-copy_run-end-then-is_run : goal.slice_bounds-copy_run-end-then-is_run
+slice_bounds-copy_run-end-then-is_run c = (room (goal.at.slice_bounds-copy_run-end-then-is_run c).Then-is_run).1
 
-pub slice_bounds-copy_from_slice-end-then-is_run-2 : goal.slice_bounds-copy_from_slice-end-then-is_run-2
-slice_bounds-copy_from_slice-end-then-is_run-2 c = source_long (goal.at.slice_bounds-copy_from_slice-end-then-is_run-2 c).Then-is_run
+pub slice_bounds-copy_run-end-then-is_run-2 : goal.slice_bounds-copy_run-end-then-is_run-2
+slice_bounds-copy_run-end-then-is_run-2 c = target_long (goal.at.slice_bounds-copy_run-end-then-is_run-2 c).Then-is_run
 
-pub copy_from_slice-requires : goal.copy_from_slice-requires
-copy_from_slice-requires c = let s = (goal.at.copy_from_slice-requires c).Then-is_run in sym (target_long s) ∙ source_long s
+pub copy_run-requires : goal.copy_run-requires
+copy_run-requires c = let s = (goal.at.copy_run-requires c).Then-is_run in sym (source_long s) ∙ target_long s
 
 pub returns-then-is_run : goal.returns-then-is_run
 unfolding size
 returns-then-is_run c =
     let a = c.args in
     let s = (goal.at.returns-then-is_run c).Then-is_run in
-    ap (λ (l : List ℕ). l ++ drop (bytes s) a.to.now) c.copy_from_slice.ensures.after
+    ap (λ (l : List ℕ). l ++ drop (bytes s) a.to.now) c.copy_run.ensures
     ∙ copied_front (bytes s) a.from.now a.to.now (room s).0 (room s).1
     ∙ run_copied (transfer (goal.at.returns-then-is_run c).After-is_run) a.kept (sym c.is_run.ensures ∙ c.if-is_run.true)
 

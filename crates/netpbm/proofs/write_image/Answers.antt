@@ -45,7 +45,7 @@ module _ (c : After-write_header-start) where
 pub returns-in_err-bytes : goal.returns-in_err-bytes
 returns-in_err-bytes c =
     let a = c.args in
-    refused_written a.frame a.buf.now a.out.now c.in_err-bytes.ensures.number (refused_size _ _ c.from_residual.ensures refl (image_length a.frame)) (some_number _)
+    refused_written a.frame a.buf.now a.out.now c.in_err-bytes.ensures.number (refused_size _ _ c.from_residual.ensures refl (image_length a.frame)) (some_number c.in_err-bytes.field-0.0)
 
 pub write_header-start-requires : goal.write_header-start-requires
 write_header-start-requires c = omega (arith, end _ c.in_ok-bytes.ensures.accepted.0, c.in_ok-bytes.ensures.accepted.1)

@@ -32,6 +32,7 @@ pub enum Figure {
 }
 
 // Whether a line may be drawn, connected or not.
+#[tactic(auto, using(frames::proofs::Calls::first_on, frames::proofs::Calls::own_on))]
 fn accept_line(canvas: Canvas, start: Point, end: Point, colour: u32) -> Result<(), Refusal>
     requires { JudgedSome canvas }
     ensures number { as_number result ≡ number_on canvas colour (end_tests start end) }
@@ -98,6 +99,7 @@ pub fn draw_connected_line(
 }
 
 // Whether a triangle or its outline may be drawn.
+#[tactic(auto, using(frames::proofs::Calls::first_on, frames::proofs::Calls::own_on))]
 fn accept_triangle(
     canvas: Canvas,
     v1: Point,

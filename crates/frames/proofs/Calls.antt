@@ -19,7 +19,7 @@ use Rattle.refusals.specs.First.{Tests, first, numbered}
 use Rattle.refusals.specs.Answer.{if_done}
 use Rattle.refusals.specs.Refusal.{number, as_number}
 use Rattle.refusals.specs.declared.Refusal.{Refusal}
-use Rattle.refusals.proofs.Numbers.{some_number, handed_back}
+use Rattle.refusals.proofs.Numbers.{some_number, handed_back, told, each_number}
 use Rattle.refusals.proofs.Answer.{not_done, is_done}
 use Rattle.refusals.proofs.First.{first_append, passed, both_pass, goes_on, fails_alone}
 use Rattle.geometry.specs.declared.Point.{Point}
@@ -214,6 +214,14 @@ unfolding on_canvas
 judged_by ts all c e d b =
     let further : Tests = (4, no_colour c.frame d.colour) ∷ d.own in
     ap (λ (n : ℕ). made_of n (keeps c) (held_by c.window d.figure) d.colour b) (ap (λ (n : ℕ). behind n further) e ∙ sym (first_append ts further all))
+
+-- and there is such a canvas for every list, whatever its numbers
+abbrev pub by_tests : Tests → Frame → Window → Canvas
+by_tests ts f w = record { frame = f; window = w; judged = told (first ts) }
+
+pub each_list : (ts : Tests) → numbered ts ≡ true → (f : Frame) (w : Window) (d : Drawing) (b : List ℕ)
+    → on_canvas (by_tests ts f w) d b ≡ (let c = by_tests ts f w in made_of (first (behind_those ts f d)) (keeps c) (held_by w d.figure) d.colour b)
+each_list ts all f w d b = judged_by ts all (by_tests ts f w) (each_number (first ts)) d b
 
 -- ---- on the canvas of the whole frame
 abbrev whole : Frame → Result ⊤ Refusal → Canvas

@@ -5,7 +5,7 @@ use Prim.Native.Nat.{ℕ}
 use lib.IntN.{pos}
 use Rattle.std.specs.Prelude.{Result, Ok, Err}
 use Rattle.refusals.specs.declared.Refusal.{Refusal}
-use Rattle.refusals.specs.declared.Refusal.TheVariants.{BadDepth, TooLarge, ShortBuffer, BadColour, OutOfBounds, CircleTooFar, PastLastStep, OutsideFrame, ShortOutput, UnfitFrame, BadHeader, ShortFile, OtherSize, BadDistance}
+use Rattle.refusals.specs.declared.Refusal.TheVariants.{BadDepth, TooLarge, ShortBuffer, BadColour, OutOfBounds, CircleTooFar, PastLastStep, OutsideFrame, ShortOutput, UnfitFrame, BadHeader, ShortFile, OtherSize, BadDistance, Other}
 use Rattle.refusals.specs.Refusal as refusals
 use Rattle.geometry.specs.declared.Point.{Point}
 use Rattle.geometry.specs.declared.Columns.{Columns}
@@ -33,6 +33,7 @@ same_number BadHeader = refl
 same_number ShortFile = refl
 same_number OtherSize = refl
 same_number BadDistance = refl
+same_number (Other o) = refl
 
 pub done_is : {A : Type 0} (r : Result A Refusal) → as_number r ≡ refusals.as_number r
 done_is (Ok v) = refl

@@ -1,7 +1,7 @@
 -- What a function of the library answers, read as 01 has it: done is 0, a refusal its number in the table, and "with a refusal every returned number is 0, every yes or no is no".
 use Rattle.std.specs.Prelude.{Bool, false, ℕ, pos, Result, Ok, Err}
 use Rattle.refusals.specs.declared.Refusal.{Refusal}
-use Rattle.refusals.specs.declared.Refusal.TheVariants.{BadDepth, TooLarge, ShortBuffer, BadColour, OutOfBounds, CircleTooFar, PastLastStep, OutsideFrame, ShortOutput, UnfitFrame, BadHeader, ShortFile, OtherSize, BadDistance}
+use Rattle.refusals.specs.declared.Refusal.TheVariants.{BadDepth, TooLarge, ShortBuffer, BadColour, OutOfBounds, CircleTooFar, PastLastStep, OutsideFrame, ShortOutput, UnfitFrame, BadHeader, ShortFile, OtherSize, BadDistance, Other}
 use Rattle.geometry.specs.declared.Point.{Point}
 use Rattle.geometry.specs.declared.Columns.{Columns}
 use Rattle.geometry.specs.declared.Span.{Span}
@@ -31,6 +31,8 @@ number BadHeader = 11
 number ShortFile = 12
 number OtherSize = 13
 number BadDistance = 14
+-- of a canvas that is judged by other tests than 01's
+number (Other o) = o.number
 
 abbrev pub as_number : {A : Type 0} → Result A Refusal → ℕ
 as_number (Ok v) = 0

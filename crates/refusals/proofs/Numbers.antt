@@ -1,20 +1,24 @@
--- No two refusals have one number and none has 0, so that an answer is known by its number and its value. Assumes nothing.
+-- No two refusals have one number, none has 0 and each other number has one, so that an answer is known by its number and its value. Assumes nothing.
 use mathlib.Core.Path.{◌≡◌, refl, sym, ap, ◌∙◌}
-use mathlib.Core.Bool.{cond}
+use mathlib.Core.Bool.{Bool, true, false, cond}
 use mathlib.Core.List.{◌++◌}
-use Prim.Native.Nat.{ℕ}
-use lib.Dec.{eqb}
+use Prim.Native.Nat.{ℕ, zero, suc, ◌≤◌, ◌<◌}
+use Rattle.std.specs.Coded.{le_prop}
+use lib.Dec.{eqb, ltb}
 use native.Mathlib.Omega.{arith}
-use Rattle.std.specs.Prelude.{Result, Ok, Err, IsErr, IsErrAnd}
+use borrow.Author.Tests.{ltb-true, ltb-false, eqb-true, eqb-false}
+use Rattle.std.specs.Prelude.{Result, Ok, Err, IsErr, IsErrAnd, ⊤}
 use Rattle.refusals.specs.First.{Tests, first}
 use Rattle.refusals.proofs.First.{refused}
+use Rattle.refusals.specs.declared.Beyond.{Beyond}
 use Rattle.refusals.specs.declared.Refusal.{Refusal}
-use Rattle.refusals.specs.declared.Refusal.TheVariants.{BadDepth, TooLarge, ShortBuffer, BadColour, OutOfBounds, CircleTooFar, PastLastStep, OutsideFrame, ShortOutput, UnfitFrame, BadHeader, ShortFile, OtherSize, BadDistance}
+use Rattle.refusals.specs.declared.Refusal.TheVariants.{BadDepth, TooLarge, ShortBuffer, BadColour, OutOfBounds, CircleTooFar, PastLastStep, OutsideFrame, ShortOutput, UnfitFrame, BadHeader, ShortFile, OtherSize, BadDistance, Other}
 use Rattle.refusals.specs.Refusal.{number, as_number}
 
--- the refusal that has the number; the last where none has
-abbrev named : ℕ → Refusal
-named n =
+-- the refusal that has the number; of 0, which none has, the last of the table
+abbrev by_number : (n : ℕ) (past : Bool) → ltb 14 n ≡ past → Refusal
+by_number n true e = Other (record { number = n; past = ltb-true 14 n e })
+by_number n false e =
     cond (eqb n 1) BadDepth (
     cond (eqb n 2) TooLarge (
     cond (eqb n 3) ShortBuffer (
@@ -29,6 +33,13 @@ named n =
     cond (eqb n 12) ShortFile (
     cond (eqb n 13) OtherSize (
     BadDistance)))))))))))))
+
+abbrev pub named : ℕ → Refusal
+named n = by_number n (ltb 14 n) refl
+
+beyond_is : (o : Beyond) (past : Bool) (e : ltb 14 o.number ≡ past) → by_number o.number past e ≡ Other o
+beyond_is o true e = λ i. Other (record { number = o.number; past = le_prop (ltb-true 14 o.number e) o.past i })
+beyond_is o false e = absurd (omega (arith, ltb-false 14 o.number e, o.past))
 
 named_is : (r : Refusal) → named (number r) ≡ r
 named_is BadDepth = refl
@@ -45,6 +56,7 @@ named_is BadHeader = refl
 named_is ShortFile = refl
 named_is OtherSize = refl
 named_is BadDistance = refl
+named_is (Other o) = beyond_is o (ltb 14 o.number) refl
 
 pub same_refusal : {r q : Refusal} → number r ≡ number q → r ≡ q
 same_refusal {r} {q} h = sym (named_is r) ∙ ap named h ∙ named_is q
@@ -64,6 +76,42 @@ some_number BadHeader e = omega (arith, e)
 some_number ShortFile e = omega (arith, e)
 some_number OtherSize e = omega (arith, e)
 some_number BadDistance e = omega (arith, e)
+some_number (Other o) e = omega (arith, e, o.past)
+
+-- each number but 0 has a refusal: it is k, the refusal r's, or above k
+one_or_above : {n k : ℕ} → k ≤ n → (r q : Refusal) → number r ≡ k → (k < n → number q ≡ n) → number (cond (eqb n k) r q) ≡ n
+one_or_above {n} {k} l r q is above = go (eqb n k) refl
+  where
+    go : (b : Bool) → eqb n k ≡ b → number (cond b r q) ≡ n
+    go true e = is ∙ sym (eqb-true n k e)
+    go false e = above (omega (arith, l, eqb-false n k e))
+
+number_named : (n : ℕ) → 0 < n → (past : Bool) (e : ltb 14 n ≡ past) → number (by_number n past e) ≡ n
+number_named n l true e = refl
+number_named n l false e =
+    one_or_above l BadDepth _ refl (λ l.
+    one_or_above l TooLarge _ refl (λ l.
+    one_or_above l ShortBuffer _ refl (λ l.
+    one_or_above l BadColour _ refl (λ l.
+    one_or_above l OutOfBounds _ refl (λ l.
+    one_or_above l CircleTooFar _ refl (λ l.
+    one_or_above l PastLastStep _ refl (λ l.
+    one_or_above l OutsideFrame _ refl (λ l.
+    one_or_above l ShortOutput _ refl (λ l.
+    one_or_above l UnfitFrame _ refl (λ l.
+    one_or_above l BadHeader _ refl (λ l.
+    one_or_above l ShortFile _ refl (λ l.
+    one_or_above l OtherSize _ refl (λ l.
+    omega (arith, l, ltb-false 14 n e))))))))))))))
+
+-- so that whoever judges can answer by any number, 0 for nothing
+abbrev pub told : ℕ → Result ⊤ Refusal
+told zero = Ok tt
+told (suc n) = Err (named (suc n))
+
+pub each_number : (n : ℕ) → as_number (told n) ≡ n
+each_number zero = refl
+each_number (suc n) = number_named (suc n) (omega arith) (ltb 14 (suc n)) refl
 
 -- two answers that C is handed as one are one: `of` hands over, and the number and the value are read off
 module _ {A C : Type 0} (of : Result A Refusal → C) (n : C → ℕ) (v : C → A) where

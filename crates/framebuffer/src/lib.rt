@@ -111,7 +111,7 @@ pub fn fill_on(buf: &mut [u8], canvas: Canvas, colour: u32) -> Result<u32, Refus
     requires { Judged canvas (length buf.old) }
     ensures { (as_drawn result, buf.new) ≡ on_canvas canvas (fill_drawing colour) buf.old }
 {
-    frames::accept_colour(canvas, colour)?;
+    frames::accept_colour(canvas, colour)?; // Before a byte is touched.
     if !is_whole(canvas) {
         return Ok(painting::fill_rows(buf, Brush::on(canvas, colour)));
     }

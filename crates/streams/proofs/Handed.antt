@@ -1,6 +1,6 @@
 -- What a program hands to `write` is what its input, handled line by line, asks for. Assumes nothing.
 use mathlib.Core.Path.{◌≡◌, refl, sym, ap, ap₂, subst, ◌∙◌}
-use mathlib.Core.Bool.{Bool, true, false, cond}
+use mathlib.Core.Bool.{Bool, true, false, cond, true≢false}
 use mathlib.Core.List.{List, [], ◌∷◌, ◌++◌, append_assoc, append-nil}
 use Prim.Native.Nat.{ℕ, zero, suc, ◌+◌, ◌-◌, ◌≤◌, ◌<◌}
 use native.Mathlib.Omega.{arith}
@@ -16,7 +16,7 @@ use Rattle.text.proofs.Writing.{drop_take}
 use Rattle.std.specs.Prelude.{Option, Some, None, unwrap_or}
 use Rattle.streams.specs.declared.Input.TheVariants.{More, End}
 use Rattle.streams.specs.declared.State.{State}
-use Rattle.streams.specs.State.{has_ended, stands_at, emptied, written, last_is}
+use Rattle.streams.specs.State.{may_come, has_ended, stands_at, emptied, written, last_is}
 use Rattle.streams.specs.Refill.{whole, rest, hope, ReadOn, Refilled}
 use Rattle.streams.specs.Run.{Ran, begun, turn, Ended}
 use Rattle.streams.specs.Handed.{flushed, brought, handed, came, handed_all, came_all}
@@ -93,7 +93,7 @@ module _ {O S : Type 0} (bytes : O → List ℕ) (lines last : List ℕ → Stat
     pub goes : (before input more : List ℕ) (st : State) (o : O) → (lines input st o).0.at ≤ length (bytes (lines input st o).1)
         → over f (view before st.at o) (ahead input st ++ more)
         ≡ over f (view before (lines input st o).0.at (lines input st o).1) (ahead input (lines input st o).0 ++ more)
-    pub keeps : (input : List ℕ) (st : State) (o : O) → (lines input st o).0.input ≡ st.input
+    pub keeps : (input : List ℕ) (st : State) (o : O) → may_come (lines input st o).0.input ≡ may_come st.input
     -- the last line, or none
     pub ends : (before input : List ℕ) (st : State) (o : O) → (last input st o).0.at ≤ length (bytes (last input st o).1) → last_is st ≡ true
         → view before (last input st o).0.at (last input st o).1 ≡ f (view before st.at o) (last_line input st)
@@ -125,13 +125,13 @@ module _ {O S : Type 0} (bytes : O → List ℕ) (lines last : List ℕ → Stat
               over_cut f 128 h.enough s (ahead input st) (b ++ more) (no_line input st e)
               ∙ ap (over f s) (sym (append_assoc (rest input st) b more) ∙ ap (λ (l : List ℕ). l ++ more) (joined input st r after (g.reads e)))
 
-      read_open : st.input ≡ More → r.input ≡ End → Open (ahead after r) × (r.end ≤ length after)
+      read_open : may_come st.input ≡ true → r.input ≡ End → Open (ahead after r) × (r.end ≤ length after)
       read_open m e = by (whole input st) refl
         where
           by : (t : Bool) → whole input st ≡ t → Open (ahead after r) × (r.end ≤ length after)
           by true w =
               let still : r.input ≡ st.input = ap (λ (q : State). q.input) (g.stays w).0 in
-              absurd (cc)
+              absurd (true≢false (sym m ∙ sym (ap may_come still) ∙ ap may_come e))
           by false w =
               let o = g.reads w in (
                 subst Open (ended input st r after o e) (until_take 10 (ahead input st) 129 (no_line input st w)),
@@ -157,7 +157,7 @@ module _ {O S : Type 0} (bytes : O → List ℕ) (lines last : List ℕ → Stat
     run_open : (st : State) (input : List ℕ) (o : O) → Ran bytes lines first st input o → st.input ≡ End → Open (ahead input st) × (st.end ≤ length input)
     run_open _ _ _ (begun input) e = absurd (cc)
     run_open _ _ _ (turn st input o failed r after ran on fits g) e =
-        read_open input (written (lines input st o).0 failed) r after g (written_input (lines input st o).0 failed ∙ h.keeps input st o ∙ (still_goes st on).0) e
+        read_open input (written (lines input st o).0 failed) r after g (ap may_come (written_input (lines input st o).0 failed) ∙ h.keeps input st o ∙ ap may_come (still_goes st on).0) e
 
     -- ---- one line alone
     one_alone : (s : S) (l : List ℕ) → Open l → 0 < length l → over f s l ≡ f s l

@@ -18,6 +18,7 @@ number BadHeader = 11
 number ShortFile = 12
 number OtherSize = 13
 number BadDistance = 14
+-- none of 01's, but one beyond its table, of whoever judges a canvas by other tests
 number (Other o) = o.number
 
 abbrev pub as_number : {A : Type 0} → Result A Refusal → ℕ
